@@ -57,7 +57,7 @@ impl Model for Bridge {
 
 impl Bridge {
     /// Takes all memory that it will need; none if an allocation failed. Each frame is held back
-    /// for so many milliseconds.
+    /// for `delay_ms` milliseconds.
     pub fn new(alloc: Global, faults: Faults, delay_ms: u32) -> Option<Bridge>
         ensures joins { IfSome result (λ made.
             Joins (start_of faults.seed 0) (start_of faults.seed 1) made no_traffic) }

@@ -59,7 +59,7 @@ impl Model for DelayLine {
 }
 
 impl DelayLine {
-    /// Makes a queue for so many frames; none if an allocation failed.
+    /// Makes a queue for `limit` frames; none if an allocation failed.
     pub(crate) fn new(alloc: Global, limit: usize) -> Option<DelayLine>
         ensures held { IfSome result (λ made. made.held ≡ []) }
         ensures limit { IfSome result (λ made. made.limit ≡ limit) }

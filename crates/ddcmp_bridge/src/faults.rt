@@ -32,8 +32,8 @@ pub(crate) fn start_draws(seed: u32, direction: u64) -> Pcg32
     Pcg32::new(u64::from(seed), direction)
 }
 
-/// Draws what becomes of a frame of so many bytes. It takes two words for each, so that the fate of
-/// a frame doesn't depend on those before it.
+/// Draws what becomes of a frame of `length` bytes. It takes two words for each, so that the fate
+/// of a frame doesn't depend on those before it.
 pub(crate) fn draw_fate(faults: &Faults, draws: &mut Pcg32, length: usize) -> Fate
     requires { 1 < length }
     ensures fate { result ≡ fate_drawn faults.now draws.old length }

@@ -58,8 +58,8 @@ pub trait Lines {
     /// Returns whether the bridge is to end, whatever is held.
     fn is_stopped(&self) -> bool;
 
-    /// Bytes that came in this direction were taken at this moment, and completed a frame with this
-    /// fate, if they did.
+    /// Logs bytes that came in this direction and were taken at this moment, and the fate of the
+    /// frame that they completed, if they did.
     fn log(&mut self, way: Way, now: u64, bytes: &[u8], fate: Option<Fate>)
         ensures { traffic self.new ≡ traffic self.old };
 

@@ -1,4 +1,4 @@
-//! Makes, starts, halts and frees a station.
+//! The life of a station: makes, starts, halts, clears and frees it; its sizes and its state.
 ghost use Rattle.std.specs.Prelude.{◌≡◌, ◌≢◌, [], true, false, Some, None};
 ghost use Rattle.ddcmp_frame.specs.Reader.{StandsFor};
 ghost use Rattle.ddcmp_core.specs.Table.{after_start, after_enter_maintenance, after_halt};
@@ -56,7 +56,7 @@ pub extern "C" fn ddcmp_free(alloc: Global, station: &mut Handle)
     let _open = take_out(alloc, station);
 }
 
-/// Returns the station's sizes.
+/// Puts the station's sizes into `config`.
 #[unsafe(no_mangle)]
 pub extern "C" fn ddcmp_config(alloc: Global, station: &mut Handle, config: &mut CConfig) -> u32
     ensures { FillsIn (λ s. given_config (config_of s.core.limits s.syn)) station.old.station

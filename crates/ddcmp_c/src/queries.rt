@@ -68,7 +68,7 @@ pub extern "C" fn ddcmp_timer_on(alloc: Global, station: &mut Handle) -> bool
     value
 }
 
-/// Returns the station's numbers.
+/// Puts the station's numbers into `numbers`.
 #[unsafe(no_mangle)]
 pub extern "C" fn ddcmp_numbers(alloc: Global, station: &mut Handle, numbers: &mut CNumbers) -> u32
     ensures { FillsIn (λ s. given_numbers s.core.station) station.old.station numbers.old result
@@ -83,7 +83,7 @@ pub extern "C" fn ddcmp_numbers(alloc: Global, station: &mut Handle, numbers: &m
     OK
 }
 
-/// Returns the station's counters.
+/// Puts the station's counters into `counters`.
 #[unsafe(no_mangle)]
 pub extern "C" fn ddcmp_counters(
     alloc: Global,

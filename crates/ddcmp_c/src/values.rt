@@ -82,7 +82,7 @@ pub(crate) const OK: u32 = 0;
 /// The most data isn't 1 to 16383 bytes.
 pub(crate) const MAX: u32 = 3;
 
-/// Memory was refused.
+/// An allocation failed.
 pub(crate) const MEMORY: u32 = 5;
 
 /// There is nothing in the handle.
@@ -119,7 +119,7 @@ pub(crate) fn config_code(refusal: ConfigRefusal) -> u32
     }
 }
 
-/// Returns the number of the result of a start, and how many messages were dropped.
+/// Returns the code of the result of a start; if it started, sets `dropped`.
 pub(crate) fn start_code(answer: Result<u8, StartRefusal>, dropped: &mut u8) -> u32
     ensures code { result ≡ code_of_start_answer answer }
     ensures dropped { (n : ℕ) → answer ≡ Ok n → dropped.new ≡ n }
@@ -135,7 +135,7 @@ pub(crate) fn start_code(answer: Result<u8, StartRefusal>, dropped: &mut u8) -> 
     }
 }
 
-/// Returns the number of the result of a send, and the number that the message got.
+/// Returns the code of the result of a send; if it was accepted, sets `number`.
 pub(crate) fn send_code(answer: Result<Seq, SendRefusal>, number: &mut u8) -> u32
     ensures code { result ≡ code_of_send_answer answer }
     ensures number { (n : SeqValue) → answer ≡ Ok n → number.new ≡ n.0 }

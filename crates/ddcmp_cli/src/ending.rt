@@ -59,14 +59,14 @@ impl Ending {
 }
 
 /// Writes a line of the program for this.
-fn write_fault<W: fmt::Write, T: Display>(f: &mut fmt::Formatter<W>, told: &T) -> fmt::Result {
+fn write_fault<W: fmt::Write, T: Display>(f: &mut fmt::Formatter<W>, fault: &T) -> fmt::Result {
     f.write_str("ddcmp: ")?;
-    told.fmt(f)?;
+    fault.fmt(f)?;
     f.write_str("\n")
 }
 
 /// Writes the line for a file that can't be opened.
-fn tell_unopened<W: fmt::Write>(
+fn write_unopened<W: fmt::Write>(
     f: &mut fmt::Formatter<W>,
     name: &String,
     why: ErrorKind,
@@ -79,7 +79,7 @@ fn tell_unopened<W: fmt::Write>(
 }
 
 /// Writes the line for a file that met a fault.
-fn tell_unread<W: fmt::Write>(
+fn write_unread<W: fmt::Write>(
     f: &mut fmt::Formatter<W>,
     name: &String,
     fault: &Fault,
@@ -101,8 +101,8 @@ impl Display for Ending {
             Ending::NoLine(why) => write_fault(f, why),
             Ending::Usage(text) => f.write_str(text.as_str()),
             Ending::NotText => f.write_str("ddcmp: a word is not text\n"),
-            Ending::Unopened(name, why) => tell_unopened(f, name, *why),
-            Ending::Unread(name, fault) => tell_unread(f, name, fault),
+            Ending::Unopened(name, why) => write_unopened(f, name, *why),
+            Ending::Unread(name, fault) => write_unread(f, name, fault),
             Ending::Fault(fault) => write_fault(f, fault),
         }
     }

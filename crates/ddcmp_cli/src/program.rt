@@ -4,15 +4,15 @@ ghost use Rattle.std.specs.Prelude.{List, ℕ, None, Some, codes, map, string_by
 ghost use Rattle.std.specs.IoError.{error_kind};
 ghost use Rattle.ddcmp_io.specs.Input.{GaveMost};
 ghost use Rattle.ddcmp_words.specs.Words.{name_of};
-ghost use Rattle.ddcmp_words.specs.declared.station_args.StationArgs.{StationArgs as ServedValue};
+ghost use Rattle.ddcmp_words.specs.declared.station_args.StationArgs.{StationArgs as StationArgsValue};
 ghost use Rattle.ddcmp_cli.specs.Endings.{CanRun, Performs, Shows};
 ghost use Rattle.ddcmp_cli.specs.Endings.{streams};
-ghost use Rattle.ddcmp_words.specs.declared.tap_args.TapArgs.{TapArgs as TappedValue};
+ghost use Rattle.ddcmp_words.specs.declared.tap_args.TapArgs.{TapArgs as TapArgsValue};
 ghost use Rattle.ddcmp_cli.specs.Endings.{file_named, Stations};
 ghost use Rattle.ddcmp_cli.specs.Endings.{TapsAsked};
-ghost use Rattle.ddcmp_words.specs.declared.link_args.LinkArgs.{LinkArgs as LinkedValue};
+ghost use Rattle.ddcmp_words.specs.declared.link_args.LinkArgs.{LinkArgs as LinkArgsValue};
 ghost use Rattle.ddcmp_cli.specs.LinkEndings.{Links};
-ghost use Rattle.ddcmp_words.specs.declared.bridge_args.BridgeArgs.{BridgeArgs as BridgedValue};
+ghost use Rattle.ddcmp_words.specs.declared.bridge_args.BridgeArgs.{BridgeArgs as BridgeArgsValue};
 ghost use Rattle.ddcmp_cli.specs.BridgeEndings.{Bridges};
 ghost use Rattle.ddcmp_cli.specs.Endings.{RunsAs};
 ghost use Rattle.ddcmp_io.specs.Change.{sink_change, source_change};
@@ -63,17 +63,17 @@ fn perform<
         → (result ≡ Ending.Fault Fault.Write) ↔ IsTrue (W.broken writer.new) }
     ensures whole { result ≡ Ending.Done → W.broken writer.new ≡ false }
     ensures untouched { file_named command.entry ≢ None → reader.new ≡ reader.old }
-    ensures stations { (served : ServedValue) → command.entry ≡ Command.Station served
+    ensures stations { (served : StationArgsValue) → command.entry ≡ Command.Station served
         → (reader.new ≡ reader.old)
         × Stations (S.peers system.now) served (W.contents writer.old) (W.contents writer.new)
         result }
-    ensures taps { (tapped : TappedValue) → command.entry ≡ Command.Tap tapped
+    ensures taps { (tapped : TapArgsValue) → command.entry ≡ Command.Tap tapped
         → (reader.new ≡ reader.old)
         × TapsAsked tapped (W.contents writer.old) (W.contents writer.new) result
         × (IsTrue (W.broken writer.new) → result ≡ Ending.Fault Fault.Write) }
-    ensures links { (linked : LinkedValue) → command.entry ≡ Command.Link linked
+    ensures links { (linked : LinkArgsValue) → command.entry ≡ Command.Link linked
         → Links (S.lines system.now) linked result }
-    ensures bridges { (bridged : BridgedValue) → command.entry ≡ Command.Bridge bridged
+    ensures bridges { (bridged : BridgeArgsValue) → command.entry ≡ Command.Bridge bridged
         → (reader.new ≡ reader.old)
         × Bridges (W.contents writer.old) (W.contents writer.new) result }
 {

@@ -45,7 +45,7 @@ fn stand_in<F: Files<File = File>>(files: &F) -> Option<File> {
     }
 }
 
-/// Prints how the program ended. If it is to be `brief`, it prints nothing on a standard error that
+/// Prints how the program ended. If `is_brief`, it prints nothing on a standard error that
 /// takes nothing for a second.
 pub fn report<S: Net + Eprint>(system: &S, alloc: Global, ending: &Ending, is_brief: bool) {
     let is_silent = matches!(ending, Ending::Done | Ending::SomeRefused);

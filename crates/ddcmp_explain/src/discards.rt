@@ -93,7 +93,7 @@ fn put_open_front(
     }
 }
 
-/// Returns how many bytes are there, of how many.
+/// Puts how many bytes are there, of how many; returns where it ends.
 fn put_open_end(line: &mut [u8; LINE], notation: Notation, have: u64, whole: u64) -> usize
     ensures puts { Puts line.old 0 line.new result (open_end notation have whole) }
     ensures within { result ≤ 80 }

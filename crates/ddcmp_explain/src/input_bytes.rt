@@ -1,4 +1,4 @@
-//! The bytes that an input spells, piece by piece, for who reads two inputs side by side.
+//! The bytes that an input spells, piece by piece, for a caller that reads two inputs side by side.
 ghost use Rattle.std.specs.Prelude.{◌≡◌, ◌≤◌, IfOk, length};
 
 use crate::decoder::Decoder;

@@ -34,7 +34,7 @@ fn flag_members(flags: Flags) -> &'static [u8; 12]
     }
 }
 
-/// Returns the fields that all headers have.
+/// Puts the fields that all headers have; returns where they end.
 fn put_fields(line: &mut [u8; LINE], at: usize, flags: Flags, resp: u8, num: u8, addr: u8) -> usize
     requires { at + 44 ≤ LINE }
     ensures puts { Puts line.old at line.new result (json_fields flags resp num addr) }
@@ -117,7 +117,7 @@ fn put_counted<const N: usize>(
     put_fields(line, behind_count, h.flags, h.resp, h.num, h.addr)
 }
 
-/// Returns the name of a header as a value, and its fields.
+/// Puts the name of a header as a value, and its fields; returns where they end.
 pub(crate) fn put_header(line: &mut [u8; LINE], at: usize, header: &Header) -> usize
     requires { at + 103 ≤ LINE }
     ensures puts { Puts line.old at line.new result (json_header header.now) }
@@ -154,7 +154,7 @@ pub(crate) fn put_start(line: &mut [u8; LINE], offset: u64, text: &[u8]) -> usiz
     put_slice(line, behind_offset, text)
 }
 
-/// Returns the header of a frame that was damaged or too long.
+/// Puts the header of a frame that was damaged or too long; returns where it ends.
 fn put_damaged(line: &mut [u8; LINE], at: usize, header: &Header) -> usize
     requires { at + 109 ≤ LINE }
     ensures puts { Puts line.old at line.new result
@@ -201,7 +201,7 @@ fn item_end(item: &Item) -> &'static [u8]
     if lends(item) { b",\"data\":\"" } else { b"}\n" }
 }
 
-/// Returns the line of an item, up to the data that it lends.
+/// Puts the line of an item, up to the data that it lends; returns where it ends.
 #[inline(never)]
 pub(crate) fn put_json_front(line: &mut [u8; LINE], item: &Item) -> usize
     ensures puts { Puts line.old 0 line.new result (json_front item.now) }
@@ -211,8 +211,8 @@ pub(crate) fn put_json_front(line: &mut [u8; LINE], item: &Item) -> usize
     put_slice(line, behind_item, item_end(item))
 }
 
-/// Returns the last line: how many items, how many bytes, and how many of these of an unfinished
-/// frame.
+/// Puts the last line: how many items, how many bytes, and how many of these of an unfinished
+/// frame; returns where it ends.
 #[inline(never)]
 pub(crate) fn put_json_totals(
     line: &mut [u8; LINE],

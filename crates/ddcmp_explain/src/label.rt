@@ -57,7 +57,7 @@ fn put_control_label(
     }
 }
 
-/// Returns what comes after a number of bytes.
+/// Puts what comes after a number of bytes; returns where it ends.
 fn put_unit(line: &mut [u8; LINE], at: usize, count: u16) -> usize
     requires { at + 7 ≤ LINE }
     ensures puts { Puts line.old at line.new result
@@ -71,7 +71,7 @@ fn put_unit(line: &mut [u8; LINE], at: usize, count: u16) -> usize
     }
 }
 
-/// Returns how many bytes of data a frame has.
+/// Puts how many bytes of data a frame has; returns where it ends.
 fn put_count_label(line: &mut [u8; LINE], at: usize, count: u16) -> usize
     requires { at + 29 ≤ LINE }
     ensures puts { Puts line.old at line.new result (count_label count) }
@@ -95,7 +95,7 @@ fn put_data_label(line: &mut [u8; LINE], at: usize, num: u8, resp: u8, count: u1
     put_count_label(line, behind_resp, count)
 }
 
-/// Returns the label of a frame, by its header.
+/// Puts the label of a frame, by its header; returns where it ends.
 fn put_frame_label(line: &mut [u8; LINE], at: usize, header: &Header) -> usize
     requires { at + 49 ≤ LINE }
     ensures puts { Puts line.old at line.new result (frame_label header.now) }

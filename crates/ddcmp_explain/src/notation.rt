@@ -21,7 +21,7 @@ pub enum Notation {
 }
 
 impl Notation {
-    /// Returns the line of an item, up to the data that it lends.
+    /// Puts the line of an item, up to the data that it lends; returns where it ends.
     #[inline(always)]
     fn put_front(self, line: &mut [u8; LINE], item: &Item) -> usize
         ensures puts { Puts line.old 0 line.new result (front_in self item.now) }
@@ -33,7 +33,7 @@ impl Notation {
         }
     }
 
-    /// Returns what comes after data.
+    /// Writes what comes after data.
     #[inline(always)]
     fn write_behind<W: Sink>(self, page: &mut Page, writer: &mut W)
         ensures { HandsOver (output_of W.broken W.contents writer.old page.old)
@@ -45,7 +45,7 @@ impl Notation {
         }
     }
 
-    /// Returns the text of the last line.
+    /// Puts the last line; returns where it ends.
     fn put_totals(self, line: &mut [u8; LINE], items: u64, bytes: u64, left_open: u64) -> usize
         ensures puts { Puts line.old 0 line.new result (totals_in self items bytes left_open) }
         ensures within { result ≤ 90 }

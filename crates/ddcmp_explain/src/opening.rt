@@ -12,7 +12,7 @@ pub(crate) const OPENING: usize = 64;
 pub(crate) enum Opening {
     /// All bytes that are looked at.
     Whole,
-    /// The input has only so many.
+    /// The input ended after this many.
     Ended(usize),
     /// A read failed first.
     Failed,

@@ -52,7 +52,7 @@ fn flags_name(flags: Flags) -> &'static [u8; 14]
     }
 }
 
-/// Returns the fields that all headers have.
+/// Puts the fields that all headers have; returns where they end.
 #[inline(always)]
 fn put_fields(line: &mut [u8; LINE], at: usize, flags: Flags, resp: u8, num: u8, addr: u8) -> usize
     requires { at + 34 ≤ LINE }
@@ -189,7 +189,7 @@ fn item_end(item: &Item) -> &'static [u8; 1]
     if lends(item) { b" " } else { b"\n" }
 }
 
-/// Returns the line of an item, up to the data that it lends.
+/// Puts the line of an item, up to the data that it lends; returns where it ends.
 #[inline(always)]
 pub(crate) fn put_front(line: &mut [u8; LINE], item: &Item) -> usize
     ensures puts { Puts line.old 0 line.new result (front_text item.now) }
@@ -199,8 +199,8 @@ pub(crate) fn put_front(line: &mut [u8; LINE], item: &Item) -> usize
     put(line, behind_item, item_end(item))
 }
 
-/// Returns the last line: how many items, how many bytes, and how many of these of an unfinished
-/// frame.
+/// Puts the last line: how many items, how many bytes, and how many of these of an unfinished
+/// frame; returns where it ends.
 pub(crate) fn put_totals(line: &mut [u8; LINE], items: u64, bytes: u64, left_open: u64) -> usize
     ensures puts { Puts line.old 0 line.new result (totals items bytes left_open) }
     ensures within { result ≤ 80 }

@@ -20,7 +20,7 @@ pub enum ReaderRefusal {
     MaxZero,
     /// COUNT is at most 16383.
     MaxAbove16383,
-    /// The memory for the bytes of one frame was refused.
+    /// The allocation for the bytes of one frame failed.
     Memory,
 }
 

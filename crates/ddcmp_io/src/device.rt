@@ -106,7 +106,7 @@ pub enum LineFault {
     Write,
     /// A read returned no bytes: the line ended.
     Ended,
-    /// Memory was refused, before anything was done.
+    /// An allocation failed, before anything was done.
     Memory,
 }
 

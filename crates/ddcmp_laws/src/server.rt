@@ -1,4 +1,4 @@
-//! Served stations.
+//! A served station is a driven one.
 ghost use Rattle.std.specs.Prelude.{◌≢◌, ℕ, Bool, List, Result, Err};
 ghost use Rattle.ddcmp_io.specs.Written.{Known};
 ghost use Rattle.ddcmp_io.specs.declared.device.LineFault.TheVariants.{Memory};

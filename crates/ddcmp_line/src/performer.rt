@@ -1,4 +1,4 @@
-//! Doing what the lines of a script ask for.
+//! Does what the lines of a script ask for.
 ghost use Rattle.std.specs.Prelude.{◌≡◌, ◌<◌, [], false, length, Some, None, Ok, Err, IsOk, OnErr};
 ghost use Rattle.std.specs.Prelude.{IsTrue};
 ghost use Rattle.std.specs.VecDeque.{deque_capacity, deque_len};
@@ -176,8 +176,8 @@ impl Stage {
         Ok(())
     }
 
-    /// An event happens that puts no frame on a line and takes none off.
-    fn report<W: Sink, V: View>(
+    /// Does an event that puts no frame on a line and takes none off, and writes its reply.
+    fn step<W: Sink, V: View>(
         &mut self,
         pair: &mut Pair,
         view: &mut V,
@@ -218,7 +218,7 @@ impl Stage {
         match event {
             Event::Poll(end) => self.poll(pair, view, writer, end),
             Event::Clear => self.clear(pair, view, writer),
-            event => self.report(pair, view, writer, event),
+            event => self.step(pair, view, writer, event),
         }
     }
 

@@ -1,4 +1,4 @@
-//! A script: lines that ask for what happens between two ends.
+//! Plays a script: reads its lines, and does what each asks for between two ends.
 ghost use Rattle.std.specs.Prelude.{◌≡◌, ◌≢◌, ◌⊎◌, ◌↔◌, ◌+◌, ◌-◌, ◌<◌, ◌≤◌, ◌^◌, ◌∷◌, [], false};
 ghost use Rattle.std.specs.Prelude.{Bool, List, ℕ, Option, Some, None, Err, OnErr, IsTrue, length};
 ghost use Rattle.std.specs.Io.KnownBytes.{Appends, Consumes};

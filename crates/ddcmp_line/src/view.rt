@@ -16,7 +16,7 @@ pub trait View: Watch {
     /// Both ends settled.
     fn settled(&mut self, settled: &Settled);
 
-    /// The line recovered; returns whether nothing was left to be done.
+    /// The line recovered; `done` is whether nothing was left to be done.
     fn recovered(&mut self, recovered: &Recovered, done: bool);
 
     /// Writes what it has to show; returns whether it goes on.

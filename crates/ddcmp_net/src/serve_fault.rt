@@ -5,7 +5,7 @@ use std::fmt;
 /// Why a station that was to be driven isn't done.
 #[derive(Clone, Copy, Debug, PartialEq, Eq)]
 pub enum ServeFault {
-    /// There was no memory to make the station.
+    /// An allocation for the station failed.
     Config,
     /// The line failed or ended. This is reported even if the report failed too.
     Line(LineFault),

@@ -1,4 +1,4 @@
-//! A station of the usual sizes, driven over a line.
+//! A station of the default sizes, driven over a line.
 ghost use Rattle.std.specs.Prelude.{◌≡◌, ◌≢◌, ◌⊎◌, ◌≤◌, ◌↔◌, true, false, length};
 ghost use Rattle.std.specs.Io.KnownBytes.{IsAtEnd};
 ghost use Rattle.ddcmp_net.specs.Serving.{Serves};

@@ -1,4 +1,4 @@
-//! A line that may have lost frames is repaired: it settles, and then twice both timers expire and
+//! Recovery of a line that may have lost frames: it settles, and then twice both timers expire and
 //! it settles again.
 ghost use Rattle.std.specs.Prelude.{◌≡◌, ◌↔◌, IsTrue};
 

@@ -1,4 +1,4 @@
-//! A run from its beginning.
+//! Runs a list of events from two new stations.
 ghost use Rattle.std.specs.Prelude.{◌≡◌, ◌⊎◌, ◌<◌, ℕ, length, take, true, Some, None, Err};
 ghost use Rattle.std.specs.Prelude.{slice_index_or, IsOk, IfOk};
 ghost use Rattle.ddcmp_proto.specs.Config.{first_refusal};
@@ -18,7 +18,7 @@ pub enum RunRefusal {
     First(ConfigRefusal),
     /// Why the station at B isn't made.
     Second(ConfigRefusal),
-    /// Memory was refused: the pair is as after the first `done` events.
+    /// An allocation failed: the pair is as after the first `done` events.
     Memory { done: usize, pair: Pair },
 }
 
@@ -50,7 +50,7 @@ pub fn run(
     ensures memory { (done : ℕ) (pair : PairState)
         → result ≡ Err (RunRefusal.Memory done pair) → (done < length events.now)
         × (pair ≡ run_of (take done events.now) (new_pair first second)) × IsInOrder pair }
-    // Memory is refused only to an event that asks for it.
+    // An allocation fails only for an event that allocates.
     ensures asks { (done : ℕ) (pair : PairState)
         → result ≡ Err (RunRefusal.Memory done pair)
         → asks_memory (slice_index_or events.now done event_value.Clear) pair ≡ true }

@@ -1,4 +1,4 @@
-//! Frames arrive whole, one after another, until neither end sends any more.
+//! A settle: frames arrive whole, one after another, until neither end sends any more.
 use crate::pair::Pair;
 use crate::watch::{Unwatched, Watch};
 use crate::{End, Event, Reply};

@@ -24,8 +24,8 @@ use Rattle.ddcmp_line.specs.declared.command.ScriptCommand.TheVariants.{Damage, 
 use Rattle.ddcmp_line.specs.declared.command.ScriptCommand.TheVariants.{Recover}
 use Rattle.ddcmp_line.specs.declared.command.ScriptCommand.TheVariants.{State as StateOf}
 use Rattle.ddcmp_station.specs.StationText.{state_text}
-use Rattle.ddcmp_picture.specs.declared.request.Asked.{Asked}
-use Rattle.ddcmp_picture.specs.declared.request.Asked.TheVariants as asked
+use Rattle.ddcmp_picture.specs.declared.request.Request.{Request}
+use Rattle.ddcmp_picture.specs.declared.request.Request.TheVariants as asked
 use Rattle.ddcmp_picture.specs.declared.mark.Fate.{Fate}
 use Rattle.ddcmp_picture.specs.declared.mark.Fate.TheVariants.{Arrived, Cut, Lost}
 use Rattle.ddcmp_picture.specs.declared.mark.Mark.{Mark}
@@ -158,7 +158,7 @@ all_end fate trips = map (ends_by fate) trips.a ++ map (ends_by fate) trips.b
 
 -- ---- a step
 
-abbrev pub is_settle : Asked → Bool
+abbrev pub is_settle : Request → Bool
 is_settle asked.Event = false
 is_settle (asked.Carry part of) = false
 is_settle asked.Settle = true
@@ -190,14 +190,14 @@ cleared_trips reply.Cleared trips = no_trips
 cleared_trips r trips = trips
 
 -- bytes arrived at an end, as a line asked
-abbrev pub arrived_marks : Asked → End → List ℕ → Trips → List Mark
+abbrev pub arrived_marks : Request → End → List ℕ → Trips → List Mark
 arrived_marks asked.Event to bytes trips = Appears to (label_of bytes) ∷ []
 arrived_marks (asked.Carry part of) to bytes trips =
     landed_marks part of (trips_of (other to) trips)
 arrived_marks asked.Settle to bytes trips =
     landed_marks (length bytes) (length bytes) (trips_of (other to) trips)
 
-abbrev pub arrived_trips : Asked → End → ℕ → List ℕ → Trips → Trips
+abbrev pub arrived_trips : Request → End → ℕ → List ℕ → Trips → Trips
 arrived_trips asked.Event to row bytes trips = trips
 arrived_trips (asked.Carry part of) to row bytes trips =
     with_trips (other to) (landed_trips row part of (trips_of (other to) trips)) trips
@@ -212,7 +212,7 @@ notices_in r = []
 -- what a picture has before a step: what the line asks for, the row of the next mark, what was seen
 -- of both ends, and the frames in flight
 pub record Sight : Type 0 where
-  pub asked : Asked
+  pub asked : Request
   pub row : ℕ
   pub states : States
   pub trips : Trips
@@ -279,7 +279,7 @@ abbrev pub carry_marks : End → Option ℕ → List Mark
 carry_marks from None = Note from (words (codes "nothing to pass")) false ∷ []
 carry_marks from (Some of) = []
 
-abbrev pub carry_asked : Option ℕ → Option ℕ → Asked
+abbrev pub carry_asked : Option ℕ → Option ℕ → Request
 carry_asked most None = asked.Event
 carry_asked most (Some of) = asked.Carry (part_of most of) of
 
@@ -302,7 +302,7 @@ line_trips Settle front trips = no_trips
 line_trips Recover front trips = no_trips
 line_trips _ front trips = trips
 
-abbrev pub line_asked : ScriptCommand → Option ℕ → Asked
+abbrev pub line_asked : ScriptCommand → Option ℕ → Request
 line_asked (Carry from most) front = carry_asked most front
 line_asked Settle front = asked.Settle
 line_asked Recover front = asked.Settle

@@ -19,7 +19,7 @@ use crate::mark::{Fate, Mark, Trip};
 use crate::notes::{across, answer, look, note, report, sent};
 use crate::paper::Paper;
 use crate::replies::{answer_text, words};
-use crate::request::Asked;
+use crate::request::Request;
 use crate::states::{Seen, States};
 use ddcmp_line::command::ScriptCommand;
 use ddcmp_pair::{End, Event, Pair, Recovered, Reply, Settled};
@@ -32,7 +32,7 @@ pub struct Drawing<P> {
     pub paper: P,
     /// What was seen of both ends before the next step.
     pub(crate) states: States,
-    pub(crate) asked: Asked,
+    pub(crate) asked: Request,
     /// Whether there was memory for all frames in flight.
     pub(crate) is_whole: bool,
 }
@@ -67,13 +67,13 @@ impl<P: Paper + Drop> Drawing<P> {
         ensures trips { result.flights ≡ no_trips }
         ensures whole { result.is_whole ≡ true }
         ensures states { result.states ≡ states_in pair.now }
-        ensures asked { result.asked ≡ Asked.Event }
+        ensures asked { result.asked ≡ Request.Event }
     {
         Drawing {
             flights: Flights::new(alloc),
             paper,
             states: States::of(pair),
-            asked: Asked::Event,
+            asked: Request::Event,
             is_whole: true,
         }
     }
@@ -155,14 +155,14 @@ impl<P: Paper + Drop> Drawing<P> {
     {
         let length = bytes.len();
         match self.asked {
-            Asked::Event => {
+            Request::Event => {
                 let label = label_of(bytes);
                 self.paper.put(&Mark::Appears { at: to, label });
             }
-            Asked::Carry { part, of } => {
+            Request::Carry { part, of } => {
                 land(&mut self.paper, &mut self.flights, to.other(), part, of);
             }
-            Asked::Settle => {
+            Request::Settle => {
                 land(
                     &mut self.paper,
                     &mut self.flights,
@@ -240,9 +240,9 @@ impl<P: Paper + Drop> Drawing<P> {
         ensures trips { self.new.flights ≡ no_trips }
         ensures whole { self.new.is_whole ≡ self.old.is_whole }
         ensures states { self.new.states ≡ self.old.states }
-        ensures asked { self.new.asked ≡ Asked.Settle }
+        ensures asked { self.new.asked ≡ Request.Settle }
     {
-        self.asked = Asked::Settle;
+        self.asked = Request::Settle;
         end_all(&mut self.paper, &mut self.flights, Fate::Lost);
         across(&mut self.paper, words(name));
     }
@@ -259,11 +259,11 @@ impl<P: Paper + Drop> Drawing<P> {
     {
         match front {
             None => {
-                self.asked = Asked::Event;
+                self.asked = Request::Event;
                 note(&mut self.paper, from, words(b"nothing to pass"), false);
             }
             Some(of) => {
-                self.asked = Asked::Carry {
+                self.asked = Request::Carry {
                     part: part_of(most, of),
                     of,
                 };
@@ -281,7 +281,7 @@ impl<P: Paper + Drop> Drawing<P> {
         ensures states { self.new.states ≡ self.old.states }
         ensures asked { self.new.asked ≡ line_asked command.now front }
     {
-        self.asked = Asked::Event;
+        self.asked = Request::Event;
         let (paper, flights) = (&mut self.paper, &mut self.flights);
         match command {
             ScriptCommand::Happens(_) | ScriptCommand::Raw(_, _) => {}

@@ -1,4 +1,4 @@
-//! A script, drawn.
+//! Plays a script, and draws it.
 ghost use Rattle.std.specs.Prelude.{◌≡◌, ◌≢◌, ◌⊎◌, ◌↔◌, List, ℕ, false, Some, Err, IsTrue};
 ghost use Rattle.ddcmp_io.specs.Input.{GaveMost};
 ghost use Rattle.ddcmp_line.specs.ScriptEnds.{Around, around};

@@ -4,7 +4,7 @@ ghost use Rattle.ddcmp_picture.specs.Marks.{is_settle};
 
 /// What a line of a script asks for, as far as it says how a step is drawn.
 #[derive(Clone, Copy, Drop)]
-pub(crate) enum Asked {
+pub(crate) enum Request {
     /// An event, or bytes that no end sent.
     Event,
     /// So many bytes of the first frame of an end arrive, of those that haven't.
@@ -13,13 +13,13 @@ pub(crate) enum Asked {
     Settle,
 }
 
-impl Asked {
+impl Request {
     pub(crate) fn is_settle(self) -> bool
         ensures { result ≡ is_settle self }
     {
         match self {
-            Asked::Settle => true,
-            Asked::Event | Asked::Carry { .. } => false,
+            Request::Settle => true,
+            Request::Event | Request::Carry { .. } => false,
         }
     }
 }

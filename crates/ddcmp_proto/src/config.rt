@@ -37,14 +37,14 @@ pub enum ConfigRefusal {
     Max,
     /// The SYN fill is above `MAX_SYN`.
     Syn,
-    /// Memory was refused.
+    /// An allocation failed.
     Memory,
 }
 
 impl Config {
     ghost use Rattle.std.specs.Prelude.{◌+◌};
 
-    /// The usual sizes.
+    /// The default sizes.
     pub const USUAL: Config = Config {
         window: 7,
         inbox: 8,

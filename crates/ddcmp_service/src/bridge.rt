@@ -287,10 +287,10 @@ impl Ways {
         let ended = bridge.run(&mut lines, ends_at(options));
         let first = lines.sides.first.down;
         let second = lines.sides.second.down;
-        tell_down(system, "first", first);
-        tell_down(system, "second", second);
-        tell_unsaved(system, options.save_first, lines.there.unsaved());
-        tell_unsaved(system, options.save_second, lines.back.unsaved());
+        report_down(system, "first", first);
+        report_down(system, "second", second);
+        report_unsaved(system, options.save_first, lines.there.unsaved());
+        report_unsaved(system, options.save_second, lines.back.unsaved());
         let was_stopped = ended == Ended::Stopped || lines.is_stopped();
         let has_failed = has_failed(first) || has_failed(second) || was_stopped;
         lines.sides.close(&mut lines.clock);
@@ -318,7 +318,7 @@ fn has_failed(down: Option<Down>) -> bool {
 }
 
 /// Prints that a file can't be written, if it can't.
-fn tell_unsaved<E: Eprint>(system: &E, name: Option<&str>, failed: Option<Cause>) {
+fn report_unsaved<E: Eprint>(system: &E, name: Option<&str>, failed: Option<Cause>) {
     let (Some(name), Some(cause)) = (name, failed) else {
         return;
     };
@@ -331,7 +331,7 @@ fn tell_unsaved<E: Eprint>(system: &E, name: Option<&str>, failed: Option<Cause>
 }
 
 /// Prints that a line is down, if it is.
-fn tell_down<E: Eprint>(system: &E, which: &str, down: Option<Down>) {
+fn report_down<E: Eprint>(system: &E, which: &str, down: Option<Down>) {
     if let Some(why) = down {
         let _ = eprintln!(system; "{which} line down: {why}");
     }

@@ -204,13 +204,13 @@ impl Sides {
             return false;
         }
         for event in self.events.iter() {
-            let told = Ready {
+            let reported = Ready {
                 to_read: event.is_readable() || event.is_read_closed() || event.is_error(),
                 to_write: event.is_writable() || event.is_write_closed() || event.is_error(),
             };
             match event.token() {
-                FIRST => self.first.ready.ready.add(told),
-                SECOND => self.second.ready.ready.add(told),
+                FIRST => self.first.ready.ready.add(reported),
+                SECOND => self.second.ready.ready.add(reported),
                 _ => {}
             }
         }

@@ -61,14 +61,14 @@ impl Trace {
             Side::Called => "<",
         };
         match self.notation {
-            Notation::Json => tell_object(system, now, mark, fate),
-            Notation::Plain | Notation::Ladder => tell_line(system, now, mark, fate),
+            Notation::Json => log_object(system, now, mark, fate),
+            Notation::Plain | Notation::Ladder => log_line(system, now, mark, fate),
         }
     }
 }
 
 /// Prints what the bridge did to a frame, if anything, as a line.
-fn tell_line<E: Eprint>(system: &E, now: u64, mark: &str, fate: Fate) {
+fn log_line<E: Eprint>(system: &E, now: u64, mark: &str, fate: Fate) {
     let _ = match fate {
         Fate::Lost => eprintln!(system; "{now} {mark} lost"),
         Fate::Altered { at, .. } => eprintln!(system; "{now} {mark} altered byte {at}"),
@@ -77,7 +77,7 @@ fn tell_line<E: Eprint>(system: &E, now: u64, mark: &str, fate: Fate) {
 }
 
 /// Prints that as an object of JSON.
-fn tell_object<E: Eprint>(system: &E, now: u64, mark: &str, fate: Fate) {
+fn log_object<E: Eprint>(system: &E, now: u64, mark: &str, fate: Fate) {
     let _ = match fate {
         Fate::Lost => eprintln!(system; "{{\"from\":\"{mark}\",\"ms\":{now},\"item\":\"lost\"}}"),
         Fate::Altered { at, .. } => eprintln!(system;

@@ -99,7 +99,7 @@ pub enum ServiceFault<'a> {
     Open(NotOpened<'a>),
     /// The line ended, or its time was over, before the station ran or all of the input was read.
     Ended,
-    /// So many messages were read and never acknowledged.
+    /// The number of messages that were read and never acknowledged.
     Lost(u64),
     /// Standard input, or waiting for it, failed.
     Read,

@@ -1,5 +1,5 @@
-//! A link over devices: a loop that opens a line and moves bytes between it, standard input and
-//! output and a `Session` of `ddcmp_session`, which decides all else.
+//! The devices of `ddcmp link` and `ddcmp bridge`: lines, standard streams, a clock and a wait.
+//! `run_link` of `ddcmp_session` and `Bridge` of `ddcmp_bridge` decide what moves between them.
 #![tactic(auto)]
 
 mod bridge;

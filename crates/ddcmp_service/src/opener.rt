@@ -1,4 +1,4 @@
-//! Opening the line that a name names.
+//! Opens the line that a name names.
 ghost use Rattle.std.specs.Prelude.{◌≡◌, ◌+◌, ◌-◌, ◌^◌, IfErr, IfOk, None, Some, false, min};
 ghost use Rattle.ddcmp_service.specs.LineNames.{line_kind, not_opened_of};
 ghost use Rattle.ddcmp_service.specs.Opening.{Begins, SameIfNotYet, Opens, event_of, line_of};
@@ -300,7 +300,7 @@ fn accepted(listener: &TcpListener, poller: &mut Poller) -> io::Result<Opened>
                 return Ok(Opened::Connected(Line::Stream(stream), peer));
             }
             Err(error) => match error.kind() {
-                // Others may wait behind it, and the next wait doesn't report them again.
+                // Others may wait after it, and the next wait doesn't report them again.
                 ErrorKind::Interrupted | ErrorKind::ConnectionAborted => {}
                 ErrorKind::WouldBlock => return Ok(Opened::NotYet),
                 _ => return Err(error),

@@ -1,4 +1,4 @@
-//! Waiting for whichever comes first: standard input, standard output, the line, or a moment.
+//! Waits for whichever comes first: standard input, standard output, the line, or a moment.
 ghost use Rattle.std.specs.Prelude.{◌≡◌, ◌||◌, MatchOption, false, not};
 ghost use Rattle.mio.specs.Interest.{is_readable, is_writable};
 ghost use Rattle.ddcmp_service.specs.Readiness.{is_any_ready, line_ready};
@@ -45,12 +45,12 @@ impl Ready {
     };
 
     /// It is ready for this, too.
-    pub(crate) fn add(&mut self, told: Ready)
-        ensures reads { self.new.to_read ≡ (self.old.to_read || told.to_read) }
-        ensures writes { self.new.to_write ≡ (self.old.to_write || told.to_write) }
+    pub(crate) fn add(&mut self, reported: Ready)
+        ensures reads { self.new.to_read ≡ (self.old.to_read || reported.to_read) }
+        ensures writes { self.new.to_write ≡ (self.old.to_write || reported.to_write) }
     {
-        self.to_read = self.to_read || told.to_read;
-        self.to_write = self.to_write || told.to_write;
+        self.to_read = self.to_read || reported.to_read;
+        self.to_write = self.to_write || reported.to_write;
     }
 }
 
@@ -60,41 +60,41 @@ pub(crate) struct Descriptor {
     number: RawFd,
     token: Token,
     /// Whether the system reports it; not of a file, which is always ready.
-    is_told: bool,
+    is_reported: bool,
     pub(crate) ready: Ready,
 }
 
 impl Descriptor {
     /// Has it reported from now on, if the system reports such a descriptor.
     pub(crate) fn new(poll: &Poll, number: RawFd, token: Token, interest: Interest) -> Descriptor {
-        let is_told = poll
+        let is_reported = poll
             .registry()
             .register(&mut SourceFd(&number), token, interest)
             .is_ok();
         Descriptor {
             number,
             token,
-            is_told,
-            ready: if is_told { Ready::NOT } else { Ready::BOTH },
+            is_reported,
+            ready: if is_reported { Ready::NOT } else { Ready::BOTH },
         }
     }
 
     /// A read returned what there was.
     pub(crate) fn has_read(&mut self)
         ensures { self.new ≡ record self.old {
-          ready = record self.old.ready { to_read = not self.old.is_told };
+          ready = record self.old.ready { to_read = not self.old.is_reported };
         } }
     {
-        self.ready.to_read = !self.is_told;
+        self.ready.to_read = !self.is_reported;
     }
 
     /// A write took what there was room for.
     pub(crate) fn has_written(&mut self)
         ensures { self.new ≡ record self.old {
-          ready = record self.old.ready { to_write = not self.old.is_told };
+          ready = record self.old.ready { to_write = not self.old.is_reported };
         } }
     {
-        self.ready.to_write = !self.is_told;
+        self.ready.to_write = !self.is_reported;
     }
 
     /// Has the next wait report it, if it is needed and not known to be ready.
@@ -104,7 +104,7 @@ impl Descriptor {
         let Some(interest) = interest_in(reads, writes) else {
             return;
         };
-        if self.is_told {
+        if self.is_reported {
             let asked = poll
                 .registry()
                 .reregister(&mut SourceFd(&self.number), self.token, interest);
@@ -142,7 +142,7 @@ pub(crate) struct Poller {
     pub(crate) socket: Ready,
 }
 
-// By hand, so that what waits is dropped by a call: a derived one is written out at
+// By hand, so that it is dropped by a call: a derived one is written out at
 // each such place.
 impl Drop for Poller {
     fn drop(self) {
@@ -274,15 +274,15 @@ impl Poller {
     /// Takes over what the wait reported.
     fn note(&mut self) {
         for event in self.events.iter() {
-            let told = Ready {
+            let reported = Ready {
                 to_read: event.is_readable() || event.is_read_closed() || event.is_error(),
                 to_write: event.is_writable() || event.is_write_closed() || event.is_error(),
             };
             match event.token() {
-                INPUT => self.input.ready.add(told),
-                OUTPUT => self.output.ready.add(told),
-                ERRORS => self.errors.ready.add(told),
-                LINE => add_to_line(&mut self.device, &mut self.socket, told),
+                INPUT => self.input.ready.add(reported),
+                OUTPUT => self.output.ready.add(reported),
+                ERRORS => self.errors.ready.add(reported),
+                LINE => add_to_line(&mut self.device, &mut self.socket, reported),
                 _ => {}
             }
         }
@@ -304,9 +304,9 @@ pub fn errors_take<N: Net>(net: &N, alloc: Global) -> bool {
 }
 
 /// Takes over what the wait reported of the line.
-fn add_to_line(device: &mut Option<Descriptor>, socket: &mut Ready, told: Ready) {
+fn add_to_line(device: &mut Option<Descriptor>, socket: &mut Ready, reported: Ready) {
     match device {
-        Some(device) => device.ready.add(told),
-        None => socket.add(told),
+        Some(device) => device.ready.add(reported),
+        None => socket.add(reported),
     }
 }

@@ -1,4 +1,4 @@
-//! Options of a link's sockets.
+//! Options of the sockets of links and bridges.
 use ddcmp_tap::{keep_alive, set_option};
 use libc::net as c;
 use mio::net::{TcpStream, UdpSocket};

@@ -8,7 +8,7 @@ use std::time::{self, Instant};
 pub struct Elapsed<'a, C> {
     clock: &'a C,
     start: io::Result<Instant>,
-    told: u64,
+    last: u64,
 }
 
 impl<'a, C: time::Clock> Elapsed<'a, C> {
@@ -16,7 +16,7 @@ impl<'a, C: time::Clock> Elapsed<'a, C> {
         Elapsed {
             clock,
             start: Instant::now(clock),
-            told: 0,
+            last: 0,
         }
     }
 }
@@ -25,9 +25,9 @@ impl<C: time::Clock> Clock for Elapsed<'_, C> {
     fn now(&mut self) -> u64 {
         if let Ok(start) = &self.start {
             if let Ok(passed) = start.elapsed(self.clock) {
-                self.told = u64::try_from(passed.as_millis()).unwrap_or(u64::MAX);
+                self.last = u64::try_from(passed.as_millis()).unwrap_or(u64::MAX);
             }
         }
-        self.told
+        self.last
     }
 }

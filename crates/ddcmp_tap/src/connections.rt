@@ -1,4 +1,5 @@
-//! A tap between two addresses.
+//! The connections of a tap: it accepts callers at one address, connects to another for each, and
+//! forwards between the two.
 ghost use Rattle.std.specs.Prelude.{◌≡◌, ◌≢◌, ◌<◌, ◌≤◌, ◌↔◌, ◌⊎◌, Err, IfSome, IsTrue, None, false};
 ghost use Rattle.std.specs.Prelude.{is_err};
 ghost use Rattle.ddcmp_io.specs.Written.{Writes};
@@ -7,9 +8,9 @@ ghost use Rattle.ddcmp_tap.specs.Pumping.{Says, head_of};
 ghost use Rattle.ddcmp_tap.specs.InTurn.{Lasts, PassesOver, SaysInTurn};
 
 use crate::direction::{Direction, ROOM};
-use crate::exchange::pump;
 use crate::flow::Flow;
 use crate::notation::Notation;
+use crate::proxy::pump;
 use crate::side::Side;
 use crate::socket_options::keep_alive;
 use crate::sockets::{Socket, Sockets, ToSocket};
@@ -85,7 +86,7 @@ fn connect_to<N: Net<Stream = net::TcpStream>>(net: &N, name: &str) -> io::Resul
     prompt(net::TcpStream::connect(net, name)?)
 }
 
-/// Says why there is no connection at an address, by this error: no host may have its name.
+/// Returns why there is no connection at an address: this error, or that no host has its name.
 fn not_made<N: Net>(net: &N, stage: Stage, name: &str, error: &io::Error) -> NotMade
     ensures stage { result.stage ≡ stage }
 {

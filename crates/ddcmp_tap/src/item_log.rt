@@ -1,4 +1,4 @@
-//! The lines of one direction, as its bytes come.
+//! The log of one direction: a line for each item, as its bytes come.
 ghost use Rattle.std.specs.Prelude.{◌≡◌, ◌+◌, ◌<◌, ◌≤◌, ◌^◌, ◌++◌, List, ℕ, IfOk, IsOk, [], false};
 ghost use Rattle.std.specs.Prelude.{is_err, length, take};
 ghost use Rattle.ddcmp_explain.specs.Output.{totals_in};

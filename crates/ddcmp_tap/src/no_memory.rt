@@ -1,5 +1,5 @@
 //! Why a text is not complete.
 
-/// Memory for a text was refused.
+/// The allocation for a text failed.
 #[derive(Clone, Copy, Debug, PartialEq, Eq)]
 pub struct NoMemory;

@@ -275,7 +275,7 @@ impl Drawn {
         }
     }
 
-    /// Numbers begin anew.
+    /// Restarts the numbers.
     fn begin(&mut self)
         ensures { self.new ≡ record self.old {
           num = 0;

@@ -1,8 +1,8 @@
 //! The sides of a tap as sockets that don't wait.
 ghost use Rattle.std.specs.Prelude.{◌≡◌, false};
 
-use crate::exchange::Readiness;
 use crate::outlet::Outlet;
+use crate::proxy::Readiness;
 use ddcmp_io::cause::words_of;
 use mio::net::TcpStream;
 use mio::{Events, Interest, Poll, Token};
@@ -81,7 +81,7 @@ impl<'a> ToSocket<'a> {
 impl Outlet for ToSocket<'_> {
     ghost use Rattle.std.specs.Prelude.{None};
 
-    // What a socket took, no contract can say.
+    // No contract can state what a socket took.
     ghost contents = { λ _. None };
 
     ghost closed = { λ outlet. outlet.closed };

@@ -6,7 +6,7 @@ ghost use Rattle.ddcmp_window.specs.Store.{first_message, with_front};
 
 use std::alloc::AllocError;
 
-/// Memory was refused.
+/// An allocation failed.
 #[derive(Clone, Copy, Debug, PartialEq, Eq)]
 pub struct Memory;
 

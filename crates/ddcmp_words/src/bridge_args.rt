@@ -1,4 +1,4 @@
-//! The words of a bridge.
+//! The arguments of `bridge`.
 ghost use Rattle.clap.specs.Words.{first_value, found_of, one_text};
 ghost use Rattle.ddcmp_words.specs.Inside.Making.{Makes};
 ghost use Rattle.ddcmp_words.specs.Words.{HasBridge, bridge_app};
@@ -11,7 +11,7 @@ use ddcmp_bridge::Faults;
 use ddcmp_explain::Notation;
 use std::alloc::Global;
 
-/// A bridge between two lines, as the words ask for it.
+/// A bridge between two lines, as the arguments give it.
 #[derive(Clone, Copy, Debug, PartialEq, Eq)]
 pub struct BridgeArgs<'a> {
     /// The name of a line, such as `connect:127.0.0.1:7000`.

@@ -1,4 +1,4 @@
-//! The words of the command line.
+//! The arguments of the command line, and the command that they name.
 ghost use Rattle.std.specs.Prelude.{◌≡◌, ◌≢◌, ◌⊎◌, ◌↔◌, ◌≤◌, IsTrue, IfSome, IsOk, None, Some};
 ghost use Rattle.std.specs.Prelude.{codes, map, unwrap_or, [], false, List, ℕ};
 ghost use Rattle.std.specs.Option.{option_and_then, option_map};
@@ -29,7 +29,7 @@ use ddcmp_explain::{Form, Notation, Style};
 use ddcmp_proto::{Config, MAX_INBOX, MAX_SYN};
 use std::alloc::Global;
 
-/// What the words ask for.
+/// A command with its options.
 #[derive(Clone, Copy, Debug, PartialEq, Eq)]
 pub enum Command<'a> {
     /// Explain an input.
@@ -577,7 +577,7 @@ pub fn read_words<'a>(alloc: Global, words: &'a [&'a str]) -> Result<Command<'a>
     ensures asked { (name : List ℕ) → IsName name
         → IsAsked (map (λ word. word.now) words.entry.now) name
         → IsOk result ⊎ (result ≡ Err NoCommand.Memory) }
-    // What the words ask for, whatever they are.
+    // What the arguments ask for, whatever they are.
     ensures reads { Reads (map (λ word. word.now) words.entry.now) result }
 {
     let command = match program_parser(alloc).made() {

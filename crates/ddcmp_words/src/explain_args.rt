@@ -1,7 +1,7 @@
-//! What the words ask to explain.
+//! The arguments of `explain`.
 use ddcmp_explain::{Form, Style};
 
-/// An input that is to be explained, as the words ask for it.
+/// An input that is to be explained, as the arguments give it.
 #[derive(Clone, Copy, Debug, PartialEq, Eq)]
 pub struct ExplainArgs<'a> {
     pub form: Form,

@@ -1,4 +1,4 @@
-//! Words that ask for each command.
+//! Laws of the command line: which arguments ask for each command.
 ghost use Rattle.std.specs.Prelude.{◌≡◌, ◌∷◌, [], false, Some, None, codes};
 ghost use Rattle.clap.specs.Words.{fault_of, takes};
 ghost use Rattle.ddcmp_words.specs.Words.{IsAsked, IsSwitch, option_in, text_in, program};

@@ -1,4 +1,5 @@
-//! The words of the command line: what they ask for, and how they are declined. It runs nothing.
+//! The arguments of the command line: which command they name, with which options, or why none is
+//! run. It runs nothing.
 #![tactic(auto)]
 
 pub mod bridge_args;

@@ -1,4 +1,4 @@
-//! The words of a link.
+//! The arguments of `link`.
 ghost use Rattle.std.specs.Prelude.{◌≡◌, ◌≤◌, codes};
 ghost use Rattle.clap.specs.Words.{first_value, found_of, one_text};
 ghost use Rattle.ddcmp_words.specs.Inside.Making.{Makes};
@@ -18,7 +18,7 @@ pub const USUAL_TIMER_MS: u32 = 3000;
 /// The `attempts` of a link if no option sets them.
 pub const USUAL_ATTEMPTS: u32 = u32::MAX;
 
-/// A link, as the options ask for it.
+/// A link, as the arguments give it.
 #[derive(Clone, Copy, Debug, PartialEq, Eq)]
 pub struct LinkArgs<'a> {
     /// The name of the line, such as `connect:127.0.0.1:7000`.

@@ -1,4 +1,4 @@
-//! Why words ask for no command.
+//! Why the arguments name no command to run.
 
 /// Why no command is run.
 #[derive(Debug, Drop)]
@@ -7,8 +7,8 @@ pub enum NoCommand {
     Help(String),
     /// The version was asked for; this is its text.
     Version(String),
-    /// The words are out of order; this says how.
+    /// A usage error, with its text.
     Usage(String),
-    /// There was no memory to read them.
+    /// An allocation failed while they were read.
     Memory,
 }

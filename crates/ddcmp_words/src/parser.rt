@@ -1,4 +1,4 @@
-//! A parser of words in the making.
+//! A parser of arguments that is being built.
 ghost use Rattle.std.specs.Prelude.{◌≡◌, Ok, false, map};
 ghost use Rattle.clap.specs.Words.{App, Rule, app_of, new_app, rule_of, with_rule, with_subcommand};
 ghost use Rattle.clap.specs.declared.builder.command.Command.TheViews.{out-Command as fields_of};

@@ -1,4 +1,4 @@
-//! What script the words ask to run.
+//! The arguments of `simulate` and `pair`.
 use crate::view::View;
 use ddcmp_proto::Config;
 
@@ -11,7 +11,7 @@ pub struct Beginning {
     pub begun: bool,
 }
 
-/// A script between two ends, as the words ask for it.
+/// A script between two ends, as the arguments give it.
 #[derive(Clone, Copy, Debug, PartialEq, Eq)]
 pub struct ScriptArgs<'a> {
     pub from: Beginning,

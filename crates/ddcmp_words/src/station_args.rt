@@ -1,4 +1,4 @@
-//! What the station of the command line is asked to be.
+//! The arguments of `station`.
 
 /// Who opens the connection of a station.
 #[derive(Clone, Copy, Debug, PartialEq, Eq)]
@@ -9,7 +9,7 @@ pub enum Role {
     Listen,
 }
 
-/// A station over a connection, as the words ask for it.
+/// A station over a connection, as the arguments give it.
 #[derive(Clone, Copy, Debug, PartialEq, Eq)]
 pub struct StationArgs<'a> {
     /// None if the word names no role; a station has one.

@@ -1,4 +1,4 @@
-//! The words of a tap.
+//! The arguments of `tap`.
 ghost use Rattle.clap.specs.Words.{first_value, found_of, one_text};
 ghost use Rattle.ddcmp_words.specs.Inside.Making.{Makes};
 ghost use Rattle.ddcmp_words.specs.Words.{HasTap, tap_app};
@@ -11,7 +11,7 @@ use ddcmp_core::MAX_COUNT;
 use ddcmp_explain::Notation;
 use std::alloc::Global;
 
-/// A tap, as the words ask for it.
+/// A tap, as the arguments give it.
 #[derive(Clone, Copy, Debug, PartialEq, Eq)]
 pub struct TapArgs<'a> {
     /// The address that is listened at, such as `127.0.0.1:7000`.

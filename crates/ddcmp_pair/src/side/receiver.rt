@@ -1,4 +1,5 @@
-//! What arrives at an end.
+//! The receiver of an end: it feeds arrived bytes to the station, and follows the place of their
+//! frames.
 ghost use Rattle.std.specs.Prelude.{◌≡◌, ◌+◌, ◌-◌, ◌<◌, ◌≤◌, ◌^◌, ℕ, ◌&&◌, true, false, [], ◌∷◌};
 ghost use Rattle.std.specs.Prelude.{◌++◌, length, take, drop, Some, is_some, IfSome, vec_len};
 ghost use Rattle.std.specs.Prelude.{vec_capacity};

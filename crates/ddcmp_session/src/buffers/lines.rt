@@ -21,7 +21,7 @@ pub enum Stop<R> {
     Device(Fault),
     /// The line was left, and isn't opened again; over none the station has run.
     Left,
-    /// So many messages were read and never acknowledged.
+    /// The number of messages that were read and never acknowledged.
     Lost(u64),
 }
 

@@ -179,7 +179,7 @@ impl Session {
         most > 0 && most <= self.course.tries
     }
 
-    /// Reports why the line is left, if it is since the peer doesn't answer, or refuses.
+    /// Reports why the line is left, if it is since the peer doesn't reply, or refuses.
     fn report_given_up(&mut self)
         ensures state { self.new.state ≡ self.old.state }
         ensures errors { ReportsGivenUp self.old.state self.old.log.errors self.new.log.errors }
@@ -278,7 +278,7 @@ fn most_tries(attempts: u32, runs: bool) -> u32
 }
 
 /// Returns in two parts why a line is left on which nothing gets on: the peer refuses messages for
-/// this reason, or doesn't answer.
+/// this reason, or doesn't reply.
 fn given_up_words(refusal: Option<Nak>) -> (&'static [u8], &'static [u8])
     ensures { given_up_text refusal ≡ result.0.now ++ result.1.now ++ codes "\n" }
 {

@@ -9,9 +9,9 @@ returns-in_default g c = record {
       let ev = c.args.event in
       let p = c.args.pair.now in
       let lines = c.args.self.now.lines in
-      comes-event ev p c.report.new.pair lines c.report.new.self.lines _ _ (c.report.ensures.pair ok)
-      (c.report.ensures.lines
+      comes-event ev p c.step.new.pair lines c.step.new.self.lines _ _ (c.step.ensures.pair ok)
+      (c.step.ensures.lines
       ∙ sym (lines-stay ev c.in_default.not-Poll c.in_default.not-Clear (reply_to ev p) lines))
-      (c.report.ensures.text ok);
-  memory = c.report.ensures.memory;
+      (c.step.ensures.text ok);
+  memory = c.step.ensures.memory;
 }

@@ -1,18 +1,18 @@
 use Rattle.std.proofs.Common.{◌∙◌, ap, inl, inr, refl, sym, Ok}
-use Rattle.ddcmp_session.proofs.LinesGo.{none-over, over-next, over-then, ready-by, reports-later}
+use Rattle.ddcmp_session.proofs.LinesGo.{none-over, over-next, over-then, reports-later}
 use Rattle.ddcmp_session.proofs.LinesGo.{same-err, same-fault}
 use Rattle.ddcmp_session.proofs.StopLaws.{line-later, of-leave, time-later}
 use Rattle.ddcmp_session.proofs.buffers.Buffers.run_each.Goals as goal
 
 pub loop-line-init : goal.loop-line-init
-loop-line-init g c = (none-over refl refl, ready-by refl)
+loop-line-init g c = (none-over refl refl, λ ready. ready)
 
 pub loop-line-preserved : goal.loop-line-preserved
 loop-line-preserved g c = (
   over-then
       (over-then (over-next c.loop-line.invariant.0 c.loop-line.invariant.1 c.run_one.ensures.over)
       (none-over refl c.close_line.ensures)) (c.leave.ensures.over _),
-  λ r. c.leave.ensures.ready c.in-Ok-leave.is,
+  λ r. c.leave.ensures.ready c.in-Ok.is,
 )
 
 pub returns-in-Err-leave-clause-over : goal.returns-in-Err-leave-clause-over
@@ -39,19 +39,19 @@ pub returns-in-Ok-false-2-clause-over : goal.returns-in-Ok-false-2-clause-over
 returns-in-Ok-false-2-clause-over g c =
     over-next c.loop-line.invariant.0 c.loop-line.invariant.1 c.run_one.ensures.over
 
-pub returns-in-Err-run_one-clause-over : goal.returns-in-Err-run_one-clause-over
-returns-in-Err-run_one-clause-over g c =
+pub returns-in-Err-clause-over : goal.returns-in-Err-clause-over
+returns-in-Err-clause-over g c =
     over-next c.loop-line.invariant.0 c.loop-line.invariant.1 c.run_one.ensures.over
 
-pub returns-in-Err-run_one-clause-reports : goal.returns-in-Err-run_one-clause-reports
-returns-in-Err-run_one-clause-reports g c = λ fault untimed e.
+pub returns-in-Err-clause-reports : goal.returns-in-Err-clause-reports
+returns-in-Err-clause-reports g c = λ fault untimed e.
     reports-later c.loop-line.invariant.0
-    (c.in-Err-run_one.ensures.reports fault untimed (same-err e))
+    (c.in-Err.ensures.reports fault untimed (same-err e))
 
-pub returns-in-Err-run_one-clause-time : goal.returns-in-Err-run_one-clause-time
-returns-in-Err-run_one-clause-time g c = λ e.
+pub returns-in-Err-clause-time : goal.returns-in-Err-clause-time
+returns-in-Err-clause-time g c = λ e.
     time-later c.run_one.new.session.state c.loop-line.invariant.0
-    (c.in-Err-run_one.ensures.time (same-err e))
+    (c.in-Err.ensures.time (same-err e))
 
 pub returns-in-Err-leave-clause-time : goal.returns-in-Err-leave-clause-time
 returns-in-Err-leave-clause-time g c = λ e.
@@ -65,9 +65,9 @@ returns-in-Ok-false-2-clause-left g c = λ e.
           (c.in-Ok-false.ensures.gone (ap (λ b. Ok b) c.in-Ok-false.field-0-test)),
     )
 
-pub returns-in-Err-run_one-clause-left : goal.returns-in-Err-run_one-clause-left
-returns-in-Err-run_one-clause-left g c = λ e. inl (c.in-Err-run_one.ensures.left (same-err e))
+pub returns-in-Err-clause-left : goal.returns-in-Err-clause-left
+returns-in-Err-clause-left g c = λ e. inl (c.in-Err.ensures.left (same-err e))
 
-pub returns-in-Err-run_one-clause-shut : goal.returns-in-Err-run_one-clause-shut
-returns-in-Err-run_one-clause-shut g c = λ refusal e.
-    c.in-Err-run_one.ensures.shut refusal (same-err e)
+pub returns-in-Err-clause-shut : goal.returns-in-Err-clause-shut
+returns-in-Err-clause-shut g c = λ refusal e.
+    c.in-Err.ensures.shut refusal (same-err e)

@@ -1,4 +1,4 @@
-//! Both directions of a tap, until both have ended.
+//! Both directions of a tap, until both have ended or one has failed.
 
 ghost use Rattle.std.specs.Prelude.{◌≡◌, ◌≢◌, ◌<◌, ◌↔◌, Bool, Err, IsOk, IsTrue, Ok, ℕ};
 ghost use Rattle.std.specs.Prelude.{false, is_some, length, true};

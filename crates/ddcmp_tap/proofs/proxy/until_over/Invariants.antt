@@ -3,7 +3,7 @@ use Rattle.ddcmp_io.specs.Written.{Known}
 use Rattle.ddcmp_io.specs.declared.device.Worst.TheVariants.{Failed}
 use Rattle.ddcmp_tap.specs.declared.notation.Notation.{Notation}
 use Rattle.ddcmp_tap.specs.Pumping.{Ends, FlowView, Runs, flow_of}
-use Rattle.ddcmp_tap.proofs.exchange.until_over.Given as goal
+use Rattle.ddcmp_tap.proofs.proxy.until_over.Given as goal
 
 abbrev pub invariant-loop-round : goal.invariant-loop-round
 invariant-loop-round g l = record {

@@ -1,6 +1,6 @@
 use Rattle.std.proofs.Common.{ap, refl}
 use Rattle.ddcmp_tap.proofs.PieceLaws.{first-failed-by, pumps-whole-by, second-failed-by}
-use Rattle.ddcmp_tap.proofs.exchange.conclude.Goals as goal
+use Rattle.ddcmp_tap.proofs.proxy.conclude.Goals as goal
 
 pub returns-in-Err-clause-pumps : goal.returns-in-Err-clause-pumps
 returns-in-Err-clause-pumps g c = λ notation max up0 down0 start r.

@@ -1,7 +1,7 @@
 use Rattle.std.proofs.Common.{◌≡◌, ap, inl, refl, Result, Ok, Err}
 use Rattle.ddcmp_tap.specs.declared.tap_fault.TapFault.{TapFault}
 use Rattle.ddcmp_tap.proofs.PieceLaws.{up-told, up-failed, down-told, down-failed, turned, stopped}
-use Rattle.ddcmp_tap.proofs.exchange.turn.Goals as goal
+use Rattle.ddcmp_tap.proofs.proxy.turn.Goals as goal
 
 pub returns-in-Err-clause-runs : goal.returns-in-Err-clause-runs
 returns-in-Err-clause-runs g c = λ notation timed max up0 down0 start stamped runs.

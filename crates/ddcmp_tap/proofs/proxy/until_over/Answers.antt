@@ -1,5 +1,5 @@
 use Rattle.ddcmp_tap.proofs.PieceLaws.{stops-err}
-use Rattle.ddcmp_tap.proofs.exchange.until_over.Goals as goal
+use Rattle.ddcmp_tap.proofs.proxy.until_over.Goals as goal
 
 pub returns-in-Err-clause-runs : goal.returns-in-Err-clause-runs
 returns-in-Err-clause-runs g c = λ notation max up0 down0 start runs.

@@ -1,7 +1,7 @@
 use Rattle.ddcmp_tap.specs.Pumping.{flow_of}
 use Rattle.ddcmp_tap.proofs.PieceLaws.{begins-runs}
 use Rattle.ddcmp_tap.proofs.SaidLaws.{pumps-unsaid, runs-said}
-use Rattle.ddcmp_tap.proofs.exchange.pump.Goals as goal
+use Rattle.ddcmp_tap.proofs.proxy.pump.Goals as goal
 
 pub returns-then-has_said-clause-pumps : goal.returns-then-has_said-clause-pumps
 returns-then-has_said-clause-pumps g c = λ notation max u d.
