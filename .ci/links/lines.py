@@ -134,6 +134,44 @@ def server_away():
         wrong(f"status {link.run.returncode}: {link.errors()}")
 
 
+def gone_for_good():
+    """With --again a link ends once all is acknowledged, if its peer went and doesn't come back while it would be heard
+    out; and if it comes back, what it sends is taken."""
+    it = server()
+    link = Link(f"connect:127.0.0.1:{it.getsockname()[1]}", "--again", "--linger-ms", "1500")
+    link.give(b"61\n")
+    peer = Peer(it.accept()[0], good)
+    peer.waits(lambda it: it.mail, 5)
+    time.sleep(0.2)
+    it.close()
+    peer.close()
+    if link.ended(10) != 0 or link.took > 6:
+        wrong(f"status {link.run.returncode} in {link.took} s: {link.errors()}")
+    it = server()
+    link = Link(f"connect:127.0.0.1:{it.getsockname()[1]}", "--again", "--linger-ms", "1500")
+    link.give(b"61\n")
+    peer = Peer(it.accept()[0], good)
+    peer.waits(lambda it: it.mail, 5)
+    time.sleep(0.2)
+    peer.close()
+    peer = Peer(it.accept()[0], good)
+    peer.runs()
+    peer.send(data(b"b", 1))
+    wants("back", link, 0, None, 10)
+    if b"mail 62\n" not in link.said:
+        wrong(f"{link.said}")
+    it.close()
+    listener = Link("listen:127.0.0.1:0", "--again", "--linger-ms", "1000")
+    listener.give(b"61\n")
+    port = listening(listener)
+    with socket.create_connection(("127.0.0.1", port)) as sock:
+        peer = Peer(sock, good)
+        peer.waits(lambda it: it.mail, 5)
+        time.sleep(0.2)
+        peer.close()
+    wants("listener", listener, 0, None, 10)
+
+
 def seconds_in_pause():
     """--seconds ends a link in a pause before its next try."""
     link = Link(f"connect:127.0.0.1:{free_port()}", "--again", "--seconds", "4")
@@ -325,6 +363,6 @@ def pace_of_lines():
     it.close()
 
 
-TRIALS = [again, closed_at_once, late_server, taken_address, server_away, udp_pair, datagrams, cut_datagrams, datagram_names,
-          no_device, pace, first_nak, pace_of_lines, seconds_in_pause]
+TRIALS = [again, closed_at_once, late_server, taken_address, server_away, gone_for_good, udp_pair, datagrams, cut_datagrams,
+          datagram_names, no_device, pace, first_nak, pace_of_lines, seconds_in_pause]
 LONG_TRIALS = [restarts, longest_pause]

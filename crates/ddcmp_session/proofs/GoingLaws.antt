@@ -333,6 +333,12 @@ line-reported m space why becomes (inr ended) = λ h t now is was a known.
     (sym (becomes t was ∙ ap (λ x. Some (after_came x space t)) ended) ∙ known))
     (newest (Line why) t)
 
+-- what was reported by a write to the line before
+pub line-was-down : {held : BuffersView} {s : SessionView} {k k' : Option Traffic} (why : Down)
+    → held.down ≡ Some why → Becomes k k' (after_wait true) → Reports held s k k' (Line why)
+line-was-down why down becomes = λ h t now is was a known.
+    subst (HasReported (Line why)) (same-now (sym (becomes t was) ∙ known)) (a.down why down)
+
 -- what is reported after a session went on
 pub reports-then : {h0 h1 : BuffersView} {s0 s1 : SessionView} {k0 k1 k2 : Option Traffic}
     {fault : Fault} → GoesOn h0 s0 k0 h1 s1 k1 → Reports h1 s1 k1 k2 fault

@@ -4,7 +4,7 @@ use Rattle.std.proofs.Common.{Result, Ok}
 use Rattle.std.specs.Prelude.{◌||◌}
 use Rattle.ddcmp_session.specs.declared.devices.Fault.{Fault}
 use Rattle.ddcmp_session.specs.Session.{SessionView, IsFilled, wants_input, wants_line}
-use Rattle.ddcmp_session.specs.Devices.{BuffersView, Rests, HoldsMail}
+use Rattle.ddcmp_session.specs.Devices.{BuffersView, IsIdle, HoldsMail}
 use Rattle.ddcmp_session.proofs.GoingLaws.{neither}
 
 pub ok-false : (b : Bool) → ◌≡◌ {A = Result Bool Fault} (Ok b) (Ok false) → b ≡ false
@@ -49,7 +49,7 @@ pub comes-to-rest : (filled passed fed last : SessionView) (typed came : Buffers
     → (typed.is_over ≡ false) ⊎ (wants_input passed ≡ false)
     → fed ≡ record passed { output = fed.output } → came ≡ typed
     → (came.received ≡ []) ⊎ (wants_line fed ≡ false)
-    → HoldsMail fed → last ≡ fed → Rests came last
+    → HoldsMail fed → last ≡ fed → IsIdle came last
 comes-to-rest filled passed fed last typed came is-filled same input told stays held line mail
     rest =
     let to = rest ∙ stays in record {

@@ -194,9 +194,13 @@ HoldsMail s =
 -- Nothing is left to be done without a device: what could be sent waits for the line, what was read
 -- of the input waits for the station, which was told of its end, and what came of the line waits
 -- for room, as do received messages.
-pub record Rests (held : BuffersView) (s : SessionView) : Type 0 where
+pub record IsIdle (held : BuffersView) (s : SessionView) : Type 0 where
   pub filled : IsFilled s
   pub typed : (held.input ≡ []) ⊎ (wants_input s ≡ false)
   pub told : (held.is_over ≡ false) ⊎ (wants_input s ≡ false)
   pub fed : (held.received ≡ []) ⊎ (wants_line s ≡ false)
   pub delivered : HoldsMail s
+
+-- so it is, and the line isn't down if more of it is wanted
+abbrev pub Rests : BuffersView → SessionView → Type 0
+Rests held s = IsIdle held s × ((held.down ≡ None) ⊎ (wants_line s ≡ false))

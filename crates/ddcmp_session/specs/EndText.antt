@@ -41,8 +41,13 @@ queued q = paged q []
 abbrev pub down_text : Down → List ℕ
 down_text Closed = codes "closed by the other end"
 down_text (Failed kind.BrokenPipe) = codes "broken pipe"
-down_text (Failed kind.Other) = codes "input or output error"
-down_text (Failed other) = cause_words other
+down_text (Failed kind.ConnectionRefused) = cause_words kind.ConnectionRefused
+down_text (Failed kind.ConnectionReset) = cause_words kind.ConnectionReset
+down_text (Failed kind.HostUnreachable) = cause_words kind.HostUnreachable
+down_text (Failed kind.NetworkUnreachable) = cause_words kind.NetworkUnreachable
+down_text (Failed kind.TimedOut) = cause_words kind.TimedOut
+down_text (Failed kind.OutOfMemory) = cause_words kind.OutOfMemory
+down_text (Failed _) = codes "input or output error"
 
 abbrev pub line_down_text : Down → List ℕ
 line_down_text why = codes "line down: " ++ down_text why ++ codes "\n"

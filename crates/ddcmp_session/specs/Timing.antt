@@ -72,8 +72,12 @@ next_timeout s =
     min (min (min (run_ends_at s) (or_never (timer_at s.link))) (or_never s.course.pause))
     s.course.report_at
 
+-- this moment, or that when a peer was heard out if all else is done
+abbrev pub unless_done : ℕ → SessionView → ℕ
+unless_done moment s = if is_done s then min moment (lingers_until s) else moment
+
 abbrev pub wakes_at : SessionView → ℕ
-wakes_at s = if is_done s then min (next_timeout s) (lingers_until s) else next_timeout s
+wakes_at s = unless_done (next_timeout s) s
 
 -- how many milliseconds that is after the last moment that was passed
 abbrev pub wait_ms : SessionView → ℕ
@@ -84,7 +88,7 @@ wait_ms s = wakes_at s - s.course.moment
 -- a wait ends when the run does, a report is due, or the line is to be opened
 abbrev pub wakes_without_line_at : ℕ → SessionView → ℕ
 wakes_without_line_at now s =
-    let first = min (run_ends_at s) s.course.report_at in
+    let first = unless_done (min (run_ends_at s) s.course.report_at) s in
     if nat_lt now s.course.opens_at then min first s.course.opens_at else first
 
 -- a line that has ended is opened again

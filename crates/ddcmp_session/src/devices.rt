@@ -137,8 +137,16 @@ impl Down {
         match self {
             Down::Closed => "closed by the other end",
             Down::Failed(ErrorKind::BrokenPipe) => "broken pipe",
-            Down::Failed(ErrorKind::Other) => "input or output error",
-            Down::Failed(kind) => words_of(kind),
+            Down::Failed(kind) => match kind {
+                ErrorKind::ConnectionRefused
+                | ErrorKind::ConnectionReset
+                | ErrorKind::HostUnreachable
+                | ErrorKind::NetworkUnreachable
+                | ErrorKind::TimedOut
+                | ErrorKind::OutOfMemory => words_of(kind),
+                // A device that is gone fails by a code of its own.
+                _ => "input or output error",
+            },
         }
     }
 }

@@ -39,10 +39,10 @@ pub(super) fn deliver_all(session: &mut Session) -> bool
 }
 
 impl Buffers {
-    ghost use Rattle.std.specs.Prelude.{◌≡◌, ◌≢◌, ◌⊎◌, [], Err, Ok, Option, Some, false};
+    ghost use Rattle.std.specs.Prelude.{◌≡◌, ◌≢◌, ◌⊎◌, [], Err, None, Ok, Option, Some, false};
     ghost use Rattle.ddcmp_session.specs.Session.{SessionView, wants_input, wants_line};
     ghost use Rattle.ddcmp_session.specs.Devices.{GoesOn, HoldsMail, KeepsFaults, Reports, Rests};
-    ghost use Rattle.ddcmp_session.specs.Devices.{Traffic};
+    ghost use Rattle.ddcmp_session.specs.Devices.{IsIdle, Traffic};
     ghost use Rattle.ddcmp_session.specs.declared.devices.Down.{Down as DownValue};
     ghost use Rattle.ddcmp_session.specs.declared.devices.Fault.{Fault as FaultValue};
 
@@ -59,6 +59,31 @@ impl Buffers {
             → Reports self.old session.old.state (D.traffic devices.old)
             (D.traffic devices.new) fault }
         ensures rests { result ≡ Ok false → Rests self.new session.new.state }
+        ensures untimed { result ≢ Err Fault.Time }
+    {
+        match self.move_all(session, devices) {
+            Ok(false) => {}
+            moved => return moved,
+        }
+        if session.wants_line() {
+            self.end_if_down(session, devices)
+        } else {
+            Ok(false)
+        }
+    }
+
+    /// Moves what can be moved, without waiting, and returns whether there was anything.
+    fn move_all<D: Devices>(
+        &mut self,
+        session: &mut Session,
+        devices: &mut D,
+    ) -> Result<bool, Fault>
+        ensures on { GoesOn self.old session.old.state (D.traffic devices.old)
+            self.new session.new.state (D.traffic devices.new) }
+        ensures reports { (fault : FaultValue) → result ≡ Err fault
+            → Reports self.old session.old.state (D.traffic devices.old)
+            (D.traffic devices.new) fault }
+        ensures rests { result ≡ Ok false → IsIdle self.new session.new.state }
         ensures untimed { result ≢ Err Fault.Time }
     {
         // An acknowledgement goes out before the line is read to its end.
@@ -231,6 +256,25 @@ impl Buffers {
         let got = self.received.read_line(devices);
         session.log_received(self.received.rest());
         self.after_read(got)
+    }
+
+    /// Reports that a write to the line has failed, once it has nothing to read either: a device may
+    /// never report that otherwise. Returns whether it has by now.
+    fn end_if_down<D: Devices>(&self, session: &Session, devices: &mut D) -> Result<bool, Fault>
+        ensures on { GoesOn self.now session.now.state (D.traffic devices.old)
+            self.now session.now.state (D.traffic devices.new) }
+        ensures reports { (fault : FaultValue) → result ≡ Err fault
+            → Reports self.now session.now.state (D.traffic devices.old)
+            (D.traffic devices.new) fault }
+        ensures up { result ≡ Ok false → self.now.down ≡ None }
+        ensures untimed { result ≢ Err Fault.Time }
+    {
+        match self.down {
+            None => Ok(false),
+            Some(_) if !devices.wait(self.wanted(session), 0) => Err(Fault::Input),
+            Some(_) if devices.may_read_line() => Ok(true),
+            Some(why) => Err(Fault::Line(why)),
+        }
     }
 
     /// Whether a read of the line gave anything. What the line has is read to its end before the

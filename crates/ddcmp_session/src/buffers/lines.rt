@@ -124,7 +124,8 @@ impl Buffers {
         ensures unjudged { (count : ℕ) → result ≢ Err (Stop.Lost count) }
     {
         match self.begin(session, devices) {
-            Ok(()) => {}
+            Ok(true) => {}
+            Ok(false) => return Ok(true),
             Err(stop) => return Err(stop),
         }
         match self.run(session, devices) {
@@ -140,14 +141,16 @@ impl Buffers {
     }
 
     /// Opens a line and connects the session to it, unless the time of the run is over first. One
-    /// that can't be opened is tried again if that is asked for.
+    /// that can't be opened is tried again if that is asked for. Returns false if there is no line,
+    /// all is delivered, and a peer that may have more to send didn't come back in time.
     fn begin<D: Devices>(
         &mut self,
         session: &mut Session,
         devices: &mut D,
-    ) -> Result<(), Stop<D::Refusal>>
+    ) -> Result<bool, Stop<D::Refusal>>
         ensures over { GoesOver self.old session.old.state (D.traffic devices.old)
             self.new session.new.state (D.traffic devices.new) }
+        ensures ended { result ≡ Ok false → end session.new.state ≡ Some End.Delivered }
         ensures device { (fault : FaultValue) → result ≡ Err (Stop.Device fault)
             → fault ≡ Fault.Time }
         ensures left { result ≡ Err Stop.Left → HasNotStarted session.new.state }
@@ -159,11 +162,13 @@ impl Buffers {
         for _try in 0..u64::MAX {
             let now = devices.now();
             session.pass_time(now);
-            if session.run_ends_at() <= now {
-                return Err(Stop::Device(Fault::Time));
+            match session.end() {
+                Some(End::Time) => return Err(Stop::Device(Fault::Time)),
+                Some(End::Delivered) => return Ok(false),
+                _ => {}
             }
             match self.try_line(session, devices, now) {
-                Ok(true) => return Ok(()),
+                Ok(true) => return Ok(true),
                 Ok(false) => {}
                 Err(stop) => return Err(stop),
             }

@@ -17,7 +17,7 @@ impl Session {
     ghost use Rattle.ddcmp_session.specs.Session.{after_unheard, awaits_peer, is_delivered};
     ghost use Rattle.ddcmp_session.specs.Timing.{after_line, end, is_given_up, lingers_until};
     ghost use Rattle.ddcmp_session.specs.Timing.{next_timeout, reopens, run_ends_at};
-    ghost use Rattle.ddcmp_session.specs.Timing.{seconds_after_line, stays, wait_ms, wakes_at};
+    ghost use Rattle.ddcmp_session.specs.Timing.{seconds_after_line, stays, unless_done, wait_ms, wakes_at};
     ghost use Rattle.ddcmp_session.specs.Timing.{wakes_without_line_at};
 
     /// Returns the moment in milliseconds when the run ends.
@@ -60,7 +60,7 @@ impl Session {
     pub fn wakes_without_line_at(&self, now: u64) -> u64
         ensures { result ≡ wakes_without_line_at now self.now.state }
     {
-        let first = self.run_ends_at().min(self.course.report_at);
+        let first = self.unless_done(self.run_ends_at().min(self.course.report_at));
         let opens_at = self.course.opens_at;
         if now < opens_at {
             first.min(opens_at)
@@ -110,11 +110,19 @@ impl Session {
     pub fn wakes_at(&self) -> u64
         ensures { result ≡ wakes_at self.now.state }
     {
-        let first = self.next_timeout();
+        self.unless_done(self.next_timeout())
+    }
+
+    /// Returns this moment, or that when a peer was heard out if all else is done and that is
+    /// earlier.
+    fn unless_done(&self, moment: u64) -> u64
+        ensures { result ≡ unless_done moment self.now.state }
+    {
         if self.is_delivered() && !self.stays() {
-            return first.min(self.lingers_until());
+            moment.min(self.lingers_until())
+        } else {
+            moment
         }
-        first
     }
 
     /// Returns how many milliseconds that is after the last moment that was passed: the most that

@@ -6,8 +6,15 @@ use Rattle.ddcmp_session.proofs.buffers.Buffers.begin.Goals as goal
 pub loop-try-init : goal.loop-try-init
 loop-try-init g c = (none-over refl refl, λ r. r)
 
-pub returns-then-run_ends_at-now-clause-over : goal.returns-then-run_ends_at-now-clause-over
-returns-then-run_ends_at-now-clause-over g c =
+pub returns-in-Some-Time-clause-over : goal.returns-in-Some-Time-clause-over
+returns-in-Some-Time-clause-over g c =
+    over-then c.loop-try.invariant.0
+    (over-then (none-over refl c.now-now.ensures)
+    (passed-now c.now-now.result c.loop-try.session.state c.pass_time.new.self.state
+    c.pass_time.ensures.state))
+
+pub returns-in-Some-Delivered-clause-over : goal.returns-in-Some-Delivered-clause-over
+returns-in-Some-Delivered-clause-over g c =
     over-then c.loop-try.invariant.0
     (over-then (none-over refl c.now-now.ensures)
     (passed-now c.now-now.result c.loop-try.session.state c.pass_time.new.self.state
