@@ -17,9 +17,9 @@ ghost use Rattle.ddcmp_laws.specs.Pipe.{IsKeptByPipes, IsKeptOverConnections, Ma
 ghost use Rattle.ddcmp_laws.specs.Sessions.{texts_of};
 
 /// A new session that is connected and then goes on over devices that report what they give and
-/// take, as `ddcmp_session::Buffers` has it, has a history as in the other laws, from its beginning:
-/// so these hold of it. Its bytes are those that the devices gave and took. What its output took, and
-/// then what waits for it, is the text of what it delivered and reported.
+/// take, as `ddcmp_session::Buffers` has it, has a history as in the other laws, from its
+/// beginning: so these hold of it. Its bytes are those that the devices gave and took. What its
+/// output took, and then what waits for it, is the text of what it delivered and reported.
 pub fn runs_are_histories()
     ensures history { (made : Made) (connected now : SessionView) (held : BuffersView)
         (known : Option Traffic) → StandsFor made.line []

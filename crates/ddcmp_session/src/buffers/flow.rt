@@ -258,8 +258,8 @@ impl Buffers {
         self.after_read(got)
     }
 
-    /// Reports that a write to the line has failed, once it has nothing to read either: a device may
-    /// never report that otherwise. Returns whether it has by now.
+    /// Reports that a write to the line has failed, once it has nothing to read either: a device
+    /// may never report that otherwise. Returns whether it has something by now.
     fn end_if_down<D: Devices>(&self, session: &Session, devices: &mut D) -> Result<bool, Fault>
         ensures on { GoesOn self.now session.now.state (D.traffic devices.old)
             self.now session.now.state (D.traffic devices.new) }
