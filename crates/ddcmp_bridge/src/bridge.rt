@@ -20,7 +20,7 @@ use std::marker::Model;
 const TURNS: u64 = 16;
 
 /// Why a bridge has ended.
-#[derive(Clone, Copy, Debug, PartialEq, Eq)]
+#[derive(Clone, Copy, PartialEq, Eq)]
 pub enum Ended {
     /// A line is down.
     Line,

@@ -1,7 +1,7 @@
 //! What a bridge counts.
 
 /// What was counted of the bytes of one direction.
-#[derive(Clone, Copy, Debug, PartialEq, Eq)]
+#[derive(Clone, Copy, PartialEq, Eq)]
 pub struct Counts {
     /// The good frames, which are passed on but for the faults that the bridge makes.
     pub frames: u64,

@@ -7,7 +7,7 @@ use rand_core::utils::NextWord;
 use rand_pcg::Pcg32;
 
 /// The faults that a bridge makes: in percent of its good frames, drawn by a seed.
-#[derive(Clone, Copy, Debug, PartialEq, Eq)]
+#[derive(Clone, Copy, Debug)]
 pub struct Faults {
     /// How many of 100 frames are lost.
     pub lose: u32,
@@ -17,7 +17,7 @@ pub struct Faults {
 }
 
 /// What becomes of a good frame.
-#[derive(Clone, Copy, Debug, PartialEq, Eq)]
+#[derive(Clone, Copy)]
 pub enum Fate {
     Passed,
     Lost,

@@ -4,7 +4,7 @@ ghost use Rattle.std.specs.Prelude.{◌≡◌, ◌<◌, ◌≤◌, ℕ, Bool, Op
 use crate::faults::Fate;
 
 /// A direction of a bridge.
-#[derive(Clone, Copy, Debug, PartialEq, Eq)]
+#[derive(Clone, Copy)]
 pub enum Way {
     /// From the first line to the second.
     There,
@@ -12,7 +12,7 @@ pub enum Way {
 }
 
 /// What is needed for a direction.
-#[derive(Clone, Copy, Debug, PartialEq, Eq)]
+#[derive(Clone, Copy)]
 pub struct Needs {
     /// That the line at its beginning has bytes.
     pub to_read: bool,

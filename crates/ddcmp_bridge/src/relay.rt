@@ -55,7 +55,7 @@ fn is_altered(fate: &Fate) -> u64
 }
 
 /// What a relay took of received bytes.
-#[derive(Clone, Copy, Debug, PartialEq, Eq)]
+#[derive(Clone, Copy)]
 pub struct Taken {
     /// How many.
     pub used: usize,

@@ -52,10 +52,10 @@ fn report<W: Sink>(end: &BridgeEnd, writer: &mut W) -> Ending
 }
 
 /// How the frames that come are printed: drawn if they are to be drawn and printed.
-fn traced_as(bridged: &BridgeArgs<'_>) -> Option<Notation>
-    ensures { result ≡ trace_of bridged.now }
+fn traced_as(args: &BridgeArgs<'_>) -> Option<Notation>
+    ensures { result ≡ trace_of args.now }
 {
-    match (bridged.ladder, bridged.notation, bridged.trace) {
+    match (args.ladder, args.notation, args.trace) {
         (true, _, _) => Some(Notation::Ladder),
         (false, Wording::Json, _) => Some(Notation::Json),
         (false, Wording::Plain, true) => Some(Notation::Plain),
@@ -67,29 +67,29 @@ fn traced_as(bridged: &BridgeArgs<'_>) -> Option<Notation>
 pub(crate) fn bridge<S: Lines, W: Sink>(
     system: &S,
     alloc: Global,
-    bridged: &BridgeArgs<'_>,
+    args: &BridgeArgs<'_>,
     writer: &mut W,
 ) -> Ending
     requires whole { W.broken writer.old ≡ false }
     ensures bridges { Bridges (W.contents writer.old) (W.contents writer.new) result }
     ensures write { (result ≡ Ending.Fault Fault.Write) ↔ IsTrue (W.broken writer.new) }
 {
-    if bridged.ladder && is_json(bridged.notation) {
+    if args.ladder && is_json(args.notation) {
         return usage(alloc, TWO_NOTATIONS);
     }
-    let Some(first) = LineName::read(bridged.first) else {
+    let Some(first) = LineName::read(args.first) else {
         return usage(alloc, NO_LINE);
     };
-    let Some(second) = LineName::read(bridged.second) else {
+    let Some(second) = LineName::read(args.second) else {
         return usage(alloc, NO_LINE);
     };
     let options = BridgeOptions {
-        seconds: bridged.seconds,
-        faults: bridged.faults,
-        delay_ms: bridged.delay,
-        trace: traced_as(bridged),
-        save_first: bridged.save_first,
-        save_second: bridged.save_second,
+        seconds: args.seconds,
+        faults: args.faults,
+        delay_ms: args.delay,
+        trace: traced_as(args),
+        save_first: args.save_first,
+        save_second: args.save_second,
     };
     let ended = system.bridge(alloc, first, second, options);
     ending_of(alloc, ended, writer)

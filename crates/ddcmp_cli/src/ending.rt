@@ -9,7 +9,7 @@ use std::fmt::Display;
 use std::io::ErrorKind;
 
 /// How the program ended.
-#[derive(Debug, Drop)]
+#[derive(Drop)]
 pub enum Ending {
     /// Completed, help and the version included.
     Done,

@@ -35,8 +35,8 @@ const NO_PAIR: &str = "'--ladder' draws two files, FILE and SECOND";
 const NO_LADDER: &str = "SECOND is for '--ladder'";
 
 /// What is typed at a terminal.
-fn typed(explained: &ExplainArgs<'_>) -> &'static str {
-    match written(explained) {
+fn typed(args: &ExplainArgs<'_>) -> &'static str {
+    match written(args) {
         Written::Dump => "a dump",
         Written::Detected => "hexadecimal digits, a dump or bytes",
         Written::As(Form::Hex | Form::Text) => "hexadecimal digits",
@@ -47,21 +47,21 @@ fn typed(explained: &ExplainArgs<'_>) -> &'static str {
 /// Explains a source, as it is written.
 fn explain_source<R: Source, W: Sink>(
     alloc: Global,
-    explained: &ExplainArgs<'_>,
+    args: &ExplainArgs<'_>,
     reader: &mut R,
     writer: &mut W,
 ) -> Ending
     requires fine { R.state reader.old ≡ Worst.Fine }
     requires whole { W.broken writer.old ≡ false }
-    requires max { (1 ≤ explained.now.max) × (explained.now.max ≤ MAX_COUNT) }
+    requires max { (1 ≤ args.now.max) × (args.now.max ≤ MAX_COUNT) }
     ensures explains { (input : List ℕ) → R.left reader.old ≡ Some input
-        → ExplainsInput explained.now (streams input (R.left reader.new) (W.contents writer.old)
+        → ExplainsInput args.now (streams input (R.left reader.new) (W.contents writer.old)
         (W.contents writer.new)) result }
     ensures devices { TellsDevices (source_change (R.left reader.old) (R.left reader.new)
         (R.state reader.new)) (W.broken writer.new) result }
 {
-    let ExplainArgs { style, max, .. } = *explained;
-    match written(explained) {
+    let ExplainArgs { style, max, .. } = *args;
+    match written(args) {
         Written::As(form) => match explain_with(alloc, reader, writer, form, style, max) {
             Ok(()) => Ending::Done,
             Err(fault) => Ending::Fault(Fault::from(DetectedFault::from(fault))),
@@ -82,17 +82,17 @@ fn explain_file<I: Inputs, W: Sink>(
     inputs: &I,
     alloc: Global,
     name: &str,
-    explained: &ExplainArgs<'_>,
+    args: &ExplainArgs<'_>,
     writer: &mut W,
 ) -> Ending
     requires whole { W.broken writer.old ≡ false }
-    requires max { (1 ≤ explained.now.max) × (explained.now.max ≤ MAX_COUNT) }
+    requires max { (1 ≤ args.now.max) × (args.now.max ≤ MAX_COUNT) }
     ensures explains { ReadsFile name.now (I.held inputs.now name.now)
-        (ExplainsInput explained.now) (W.contents writer.old) (W.contents writer.new) result }
+        (ExplainsInput args.now) (W.contents writer.old) (W.contents writer.new) result }
     ensures write { (result ≡ Ending.Fault Fault.Write) ↔ IsTrue (W.broken writer.new) }
 {
     match inputs.open(name) {
-        Ok(mut opened) => explain_source(alloc, explained, &mut opened, writer),
+        Ok(mut opened) => explain_source(alloc, args, &mut opened, writer),
         Err(why) => unopened(alloc, name, why),
     }
 }
@@ -102,30 +102,30 @@ fn explain_file<I: Inputs, W: Sink>(
 fn explain_one<I: Inputs, R: Source, W: Sink>(
     inputs: &I,
     alloc: Global,
-    explained: &ExplainArgs<'_>,
+    args: &ExplainArgs<'_>,
     reader: &mut R,
     writer: &mut W,
 ) -> Ending
     requires fine { R.state reader.old ≡ Worst.Fine }
     requires whole { W.broken writer.old ≡ false }
-    requires max { (1 ≤ explained.now.max) × (explained.now.max ≤ MAX_COUNT) }
+    requires max { (1 ≤ args.now.max) × (args.now.max ≤ MAX_COUNT) }
     ensures explains { (input : List ℕ) → R.left reader.old ≡ Some input
-        → ExplainsFrom (I.held inputs.now) explained.now.file explained.now (streams input
+        → ExplainsFrom (I.held inputs.now) args.now.file args.now (streams input
         (R.left reader.new) (W.contents writer.old) (W.contents writer.new)) result }
     ensures read { R.state reader.new ≢ Worst.Fine → result ≡ Ending.Fault Fault.Read }
-    ensures read_only { option_map (λ name. name.now) explained.now.file ≡ None
+    ensures read_only { option_map (λ name. name.now) args.now.file ≡ None
         → result ≡ Ending.Fault Fault.Read → (R.state reader.new ≢ Worst.Fine)
         ⊎ GaveMost (R.left reader.old) (R.left reader.new) }
     ensures write { (result ≡ Ending.Fault Fault.Write) ↔ IsTrue (W.broken writer.new) }
-    ensures untouched { option_map (λ name. name.now) explained.now.file ≢ None
+    ensures untouched { option_map (λ name. name.now) args.now.file ≢ None
         → reader.new ≡ reader.old }
 {
-    match explained.file {
+    match args.file {
         None => {
-            inputs.await_typing(typed(explained));
-            explain_source(alloc, explained, reader, writer)
+            inputs.await_typing(typed(args));
+            explain_source(alloc, args, reader, writer)
         }
-        Some(name) => explain_file(inputs, alloc, name, explained, writer),
+        Some(name) => explain_file(inputs, alloc, name, args, writer),
     }
 }
 
@@ -153,11 +153,11 @@ fn misuse(form: Form) -> &'static str {
 
 /// The usage error of a ladder that isn't of two files, or is to be JSON, and of a second file
 /// without a ladder.
-fn ladder_misuse(explained: &ExplainArgs<'_>) -> Option<&'static str>
-    ensures { is_some result ≡ is_ladder_misused explained.now }
+fn ladder_misuse(args: &ExplainArgs<'_>) -> Option<&'static str>
+    ensures { is_some result ≡ is_ladder_misused args.now }
 {
-    match (explained.ladder, explained.file, explained.second) {
-        (true, Some(_), Some(_)) => match is_json(explained.style.notation) {
+    match (args.ladder, args.file, args.second) {
+        (true, Some(_), Some(_)) => match is_json(args.style.notation) {
             true => Some(TWO_NOTATIONS),
             false => None,
         },
@@ -172,34 +172,34 @@ fn ladder_misuse(explained: &ExplainArgs<'_>) -> Option<&'static str>
 pub(crate) fn explain_asked<I: Inputs, R: Source, W: Sink>(
     inputs: &I,
     alloc: Global,
-    explained: &ExplainArgs<'_>,
+    args: &ExplainArgs<'_>,
     reader: &mut R,
     writer: &mut W,
 ) -> Ending
     requires fine { R.state reader.old ≡ Worst.Fine }
     requires whole { W.broken writer.old ≡ false }
-    requires max { (1 ≤ explained.now.max) × (explained.now.max ≤ MAX_COUNT) }
+    requires max { (1 ≤ args.now.max) × (args.now.max ≤ MAX_COUNT) }
     ensures explains { (input : List ℕ) → R.left reader.old ≡ Some input
-        → ExplainsAsked (I.held inputs.now) explained.now (streams input (R.left reader.new)
+        → ExplainsAsked (I.held inputs.now) args.now (streams input (R.left reader.new)
         (W.contents writer.old) (W.contents writer.new)) result }
     ensures read { R.state reader.new ≢ Worst.Fine → result ≡ Ending.Fault Fault.Read }
-    ensures read_only { option_map (λ name. name.now) explained.now.file ≡ None
+    ensures read_only { option_map (λ name. name.now) args.now.file ≡ None
         → result ≡ Ending.Fault Fault.Read → (R.state reader.new ≢ Worst.Fine)
         ⊎ GaveMost (R.left reader.old) (R.left reader.new) }
     ensures write { (result ≡ Ending.Fault Fault.Write) ↔ IsTrue (W.broken writer.new) }
-    ensures untouched { option_map (λ name. name.now) explained.now.file ≢ None
+    ensures untouched { option_map (λ name. name.now) args.now.file ≢ None
         → reader.new ≡ reader.old }
 {
-    if is_misused(explained.form, explained.from) {
-        return usage(alloc, misuse(explained.form));
+    if is_misused(args.form, args.from) {
+        return usage(alloc, misuse(args.form));
     }
-    match ladder_misuse(explained) {
+    match ladder_misuse(args) {
         Some(what) => usage(alloc, what),
-        None => match explained.second {
-            None => explain_one(inputs, alloc, explained, reader, writer),
-            Some(second) => match explained.file {
-                None => explain_one(inputs, alloc, explained, reader, writer),
-                Some(first) => draw_files(inputs, alloc, first, second, explained, writer),
+        None => match args.second {
+            None => explain_one(inputs, alloc, args, reader, writer),
+            Some(second) => match args.file {
+                None => explain_one(inputs, alloc, args, reader, writer),
+                Some(first) => draw_files(inputs, alloc, first, second, args, writer),
             },
         },
     }

@@ -9,7 +9,7 @@ use ddcmp_station::LineFault;
 use std::fmt;
 
 /// Why a command didn't complete.
-#[derive(Clone, Copy, Debug, PartialEq, Eq)]
+#[derive(Clone, Copy)]
 pub enum Fault {
     /// The number of digits to explain is odd.
     Odd,

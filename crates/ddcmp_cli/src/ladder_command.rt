@@ -18,17 +18,17 @@ fn capture<R: Source + Drop>(
     alloc: Global,
     reader: R,
     side: Side,
-    explained: &ExplainArgs<'_>,
+    args: &ExplainArgs<'_>,
 ) -> Result<Capture<R>, NoMemory>
-    requires max { (1 ≤ explained.now.max) × (explained.now.max ≤ MAX_COUNT) }
+    requires max { (1 ≤ args.now.max) × (args.now.max ≤ MAX_COUNT) }
 {
     Capture::new(
         alloc,
         reader,
-        written(explained),
+        written(args),
         side,
-        explained.style.discarded,
-        explained.max,
+        args.style.discarded,
+        args.max,
     )
 }
 
@@ -48,11 +48,11 @@ pub(crate) fn draw_files<I: Inputs, W: Sink>(
     alloc: Global,
     first: &str,
     second: &str,
-    explained: &ExplainArgs<'_>,
+    args: &ExplainArgs<'_>,
     writer: &mut W,
 ) -> Ending
     requires whole { W.broken writer.old ≡ false }
-    requires max { (1 ≤ explained.now.max) × (explained.now.max ≤ MAX_COUNT) }
+    requires max { (1 ≤ args.now.max) × (args.now.max ≤ MAX_COUNT) }
     ensures draws { DrawsFiles first.now second.now (W.contents writer.old) (W.contents writer.new)
         result }
     ensures write { (result ≡ Ending.Fault Fault.Write) ↔ IsTrue (W.broken writer.new) }
@@ -65,10 +65,10 @@ pub(crate) fn draw_files<I: Inputs, W: Sink>(
         Ok(opened) => opened,
         Err(why) => return unopened(alloc, second, why),
     };
-    let Ok(mut one) = capture(alloc, one, Side::Caller, explained) else {
+    let Ok(mut one) = capture(alloc, one, Side::Caller, args) else {
         return Ending::Fault(Fault::Memory);
     };
-    let Ok(mut two) = capture(alloc, two, Side::Called, explained) else {
+    let Ok(mut two) = capture(alloc, two, Side::Called, args) else {
         return Ending::Fault(Fault::Memory);
     };
     match draw_captures(&mut one, &mut two, writer) {

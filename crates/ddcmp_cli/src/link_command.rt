@@ -113,21 +113,21 @@ impl Lines for HostRuntime {
 pub(crate) fn link<S: Lines, R: Source, W: Sink>(
     system: &S,
     alloc: Global,
-    linked: &LinkArgs<'_>,
+    args: &LinkArgs<'_>,
     reader: &mut R,
     writer: &mut W,
 ) -> Ending
     requires whole { W.broken writer.old ≡ false }
-    ensures links { Links (S.lines system.now) linked.now result }
+    ensures links { Links (S.lines system.now) args.now result }
     ensures write { (result ≡ Ending.Fault Fault.Write) ↔ IsTrue (W.broken writer.new) }
 {
-    let Some(line) = LineName::read(linked.line) else {
+    let Some(line) = LineName::read(args.line) else {
         return usage(alloc, NO_LINE);
     };
-    if means_nothing(&linked.options) {
+    if means_nothing(&args.options) {
         return usage(alloc, NOT_IN_MAINTENANCE);
     }
-    let ended = system.serve_line(alloc, line, linked.options, reader, writer);
+    let ended = system.serve_line(alloc, line, args.options, reader, writer);
     ending_of(alloc, ended)
 }
 

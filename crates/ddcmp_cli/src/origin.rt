@@ -22,12 +22,12 @@ pub(crate) fn origin_of(word: &str) -> Option<Written>
 }
 
 /// How the input is written: as `--from` names it, else in its form.
-pub(crate) fn written(explained: &ExplainArgs<'_>) -> Written
-    ensures { result ≡ written_of explained.now }
+pub(crate) fn written(args: &ExplainArgs<'_>) -> Written
+    ensures { result ≡ written_of args.now }
 {
-    let named = match explained.from {
+    let named = match args.from {
         Some(word) => origin_of(word),
         None => None,
     };
-    named.unwrap_or(Written::As(explained.form))
+    named.unwrap_or(Written::As(args.form))
 }

@@ -63,28 +63,28 @@ fn perform<
         → (result ≡ Ending.Fault Fault.Write) ↔ IsTrue (W.broken writer.new) }
     ensures whole { result ≡ Ending.Done → W.broken writer.new ≡ false }
     ensures untouched { file_named command.entry ≢ None → reader.new ≡ reader.old }
-    ensures stations { (served : StationArgsValue) → command.entry ≡ Command.Station served
+    ensures stations { (args : StationArgsValue) → command.entry ≡ Command.Station args
         → (reader.new ≡ reader.old)
-        × Stations (S.peers system.now) served (W.contents writer.old) (W.contents writer.new)
+        × Stations (S.peers system.now) args (W.contents writer.old) (W.contents writer.new)
         result }
-    ensures taps { (tapped : TapArgsValue) → command.entry ≡ Command.Tap tapped
+    ensures taps { (args : TapArgsValue) → command.entry ≡ Command.Tap args
         → (reader.new ≡ reader.old)
-        × TapsAsked tapped (W.contents writer.old) (W.contents writer.new) result
+        × TapsAsked args (W.contents writer.old) (W.contents writer.new) result
         × (IsTrue (W.broken writer.new) → result ≡ Ending.Fault Fault.Write) }
-    ensures links { (linked : LinkArgsValue) → command.entry ≡ Command.Link linked
-        → Links (S.lines system.now) linked result }
-    ensures bridges { (bridged : BridgeArgsValue) → command.entry ≡ Command.Bridge bridged
+    ensures links { (args : LinkArgsValue) → command.entry ≡ Command.Link args
+        → Links (S.lines system.now) args result }
+    ensures bridges { (args : BridgeArgsValue) → command.entry ≡ Command.Bridge args
         → (reader.new ≡ reader.old)
         × Bridges (W.contents writer.old) (W.contents writer.new) result }
 {
     match command {
-        Command::Explain(explained) => { explain_asked(system, alloc, &explained, reader, writer) }
-        Command::Simulate(scripted) => simulate_asked(system, alloc, &scripted, reader, writer),
-        Command::Pair(scripted) => pair_asked(system, alloc, &scripted, reader, writer),
-        Command::Station(served) => station(system, alloc, &served, writer),
-        Command::Tap(tapped) => tap(system, alloc, &tapped, writer),
-        Command::Link(linked) => link(system, alloc, &linked, reader, writer),
-        Command::Bridge(bridged) => bridge(system, alloc, &bridged, writer),
+        Command::Explain(args) => { explain_asked(system, alloc, &args, reader, writer) }
+        Command::Simulate(args) => simulate_asked(system, alloc, &args, reader, writer),
+        Command::Pair(args) => pair_asked(system, alloc, &args, reader, writer),
+        Command::Station(args) => station(system, alloc, &args, writer),
+        Command::Tap(args) => tap(system, alloc, &args, writer),
+        Command::Link(args) => link(system, alloc, &args, reader, writer),
+        Command::Bridge(args) => bridge(system, alloc, &args, writer),
     }
 }
 

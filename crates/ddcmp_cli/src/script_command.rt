@@ -203,25 +203,25 @@ fn simulate_file<I: Inputs, W: Sink>(
 pub(crate) fn simulate_asked<I: Inputs, R: Source, W: Sink>(
     inputs: &I,
     alloc: Global,
-    scripted: &ScriptArgs<'_>,
+    args: &ScriptArgs<'_>,
     reader: &mut R,
     writer: &mut W,
 ) -> Ending
     requires fine { R.state reader.old ≡ Worst.Fine }
     requires whole { W.broken writer.old ≡ false }
-    requires sizes { first_refusal scripted.now.from.config ≡ None }
+    requires sizes { first_refusal args.now.from.config ≡ None }
     ensures shows { (input : List ℕ) → R.left reader.old ≡ Some input
-        → SimulatesAsked (I.held inputs.now) scripted.now (streams input (R.left reader.new)
+        → SimulatesAsked (I.held inputs.now) args.now (streams input (R.left reader.new)
         (W.contents writer.old) (W.contents writer.new)) result }
     ensures read { R.state reader.new ≢ Worst.Fine → result ≡ Ending.Fault Fault.Read }
-    ensures read_only { option_map (λ name. name.now) scripted.now.file ≡ None
+    ensures read_only { option_map (λ name. name.now) args.now.file ≡ None
         → result ≡ Ending.Fault Fault.Read → (R.state reader.new ≢ Worst.Fine)
         ⊎ GaveMost (R.left reader.old) (R.left reader.new) }
     ensures write { (result ≡ Ending.Fault Fault.Write) ↔ IsTrue (W.broken writer.new) }
-    ensures untouched { option_map (λ name. name.now) scripted.now.file ≢ None
+    ensures untouched { option_map (λ name. name.now) args.now.file ≢ None
         → reader.new ≡ reader.old }
 {
-    let ScriptArgs { from, view, file } = *scripted;
+    let ScriptArgs { from, view, file } = *args;
     match file {
         None => show_simulation(alloc, from, view, reader, writer),
         Some(name) => simulate_file(inputs, alloc, name, from, view, writer),
@@ -260,25 +260,25 @@ fn pair_file<S: Net<Stream = TcpStream> + Inputs, W: Sink>(
 pub(crate) fn pair_asked<S: Net<Stream = TcpStream> + Inputs, R: Source, W: Sink>(
     system: &S,
     alloc: Global,
-    scripted: &ScriptArgs<'_>,
+    args: &ScriptArgs<'_>,
     reader: &mut R,
     writer: &mut W,
 ) -> Ending
     requires fine { R.state reader.old ≡ Worst.Fine }
     requires whole { W.broken writer.old ≡ false }
-    requires sizes { first_refusal scripted.now.from.config ≡ None }
+    requires sizes { first_refusal args.now.from.config ≡ None }
     ensures shows { (input : List ℕ) → R.left reader.old ≡ Some input
-        → PairsAsked (S.held system.now) scripted.now (streams input (R.left reader.new)
+        → PairsAsked (S.held system.now) args.now (streams input (R.left reader.new)
         (W.contents writer.old) (W.contents writer.new)) result }
     ensures read { R.state reader.new ≢ Worst.Fine → result ≡ Ending.Fault Fault.Read }
-    ensures read_only { option_map (λ name. name.now) scripted.now.file ≡ None
+    ensures read_only { option_map (λ name. name.now) args.now.file ≡ None
         → result ≡ Ending.Fault Fault.Read → (R.state reader.new ≢ Worst.Fine)
         ⊎ GaveMost (R.left reader.old) (R.left reader.new) }
     ensures write { (result ≡ Ending.Fault Fault.Write) ↔ IsTrue (W.broken writer.new) }
-    ensures untouched { option_map (λ name. name.now) scripted.now.file ≢ None
+    ensures untouched { option_map (λ name. name.now) args.now.file ≢ None
         → reader.new ≡ reader.old }
 {
-    let ScriptArgs { from, view, file } = *scripted;
+    let ScriptArgs { from, view, file } = *args;
     match file {
         None => show_pair(system, alloc, from, view, reader, writer),
         Some(name) => pair_file(system, alloc, name, from, view, writer),

@@ -38,25 +38,25 @@ fn message_in<'a>(digits: &str, buffer: &'a mut [u8]) -> Option<&'a [u8]>
 pub(crate) fn station<S: Connections + time::Clock, W: Sink>(
     system: &S,
     alloc: Global,
-    served: &StationArgs<'_>,
+    args: &StationArgs<'_>,
     report: &mut W,
 ) -> Ending
     requires { W.broken report.old ≡ false }
-    ensures stations { Stations (S.peers system.now) served.now (W.contents report.old)
+    ensures stations { Stations (S.peers system.now) args.now (W.contents report.old)
         (W.contents report.new) result }
     ensures whole { result ≡ Ending.Done → W.broken report.new ≡ false }
 {
-    let Some(role) = served.role else {
+    let Some(role) = args.role else {
         return usage(alloc, NO_ROLE);
     };
-    if served.send.len() > 2 * SERVED_MAX as usize {
+    if args.send.len() > 2 * SERVED_MAX as usize {
         return usage(alloc, TOO_LONG);
     }
     let mut buffer = [0; SERVED_MAX as usize];
-    let Some(message) = message_in(served.send, &mut buffer) else {
+    let Some(message) = message_in(args.send, &mut buffer) else {
         return Ending::Fault(Fault::Message);
     };
-    let Some(mut line) = system.connection(role, served.addr) else {
+    let Some(mut line) = system.connection(role, args.addr) else {
         return Ending::Fault(Fault::Carrier);
     };
     match serve(
@@ -66,10 +66,10 @@ pub(crate) fn station<S: Connections + time::Clock, W: Sink>(
         report,
         &mut Elapsed::new(system),
         message,
-        served.turns,
-        served.timer_ms,
-        served.restart,
-        served.counters,
+        args.turns,
+        args.timer_ms,
+        args.restart,
+        args.counters,
     ) {
         Ok(()) => Ending::Done,
         Err(fault) => Ending::Fault(Fault::from(fault)),

@@ -20,12 +20,12 @@ use std::net::{Net, TcpStream};
 use std::time;
 
 /// The connection that a tap can't make, as a link's line is called.
-fn not_opened<'a>(tapped: &TapArgs<'a>, why: NotMade) -> NotOpened<'a>
+fn not_opened<'a>(args: &TapArgs<'a>, why: NotMade) -> NotOpened<'a>
     ensures { result.attempt ≡ attempt_of why.stage }
 {
     let (attempt, name) = match why.stage {
-        Stage::Listen => (Attempt::Listen, tapped.listen),
-        Stage::Connect => (Attempt::Connect, tapped.connect),
+        Stage::Listen => (Attempt::Listen, args.listen),
+        Stage::Connect => (Attempt::Connect, args.connect),
         Stage::Wait => (Attempt::Open, "epoll"),
     };
     NotOpened {
@@ -39,12 +39,12 @@ fn not_opened<'a>(tapped: &TapArgs<'a>, why: NotMade) -> NotOpened<'a>
 }
 
 /// How the program ends if a tap ended so.
-fn ending_of_fault(alloc: Global, tapped: &TapArgs<'_>, fault: TapFault) -> Ending
+fn ending_of_fault(alloc: Global, args: &TapArgs<'_>, fault: TapFault) -> Ending
     ensures ends { TapEnds (Err fault) result }
     ensures write { fault ≡ TapFault.Report → result ≡ Ending.Fault Fault.Write }
 {
     match fault {
-        TapFault::Carrier(why) => no_line(alloc, &not_opened(tapped, why)),
+        TapFault::Carrier(why) => no_line(alloc, &not_opened(args, why)),
         TapFault::Read => Ending::Fault(Fault::Read),
         TapFault::Write | TapFault::Report => Ending::Fault(Fault::Write),
         TapFault::Memory => Ending::Fault(Fault::Memory),
@@ -64,10 +64,10 @@ pub(crate) fn is_json(notation: Notation) -> bool
 }
 
 /// How the tap logs the traffic.
-fn notation_of(tapped: &TapArgs<'_>) -> TapNotation
-    ensures { result ≡ notation tapped.now }
+fn notation_of(args: &TapArgs<'_>) -> TapNotation
+    ensures { result ≡ notation args.now }
 {
-    match (tapped.notation, tapped.ladder) {
+    match (args.notation, args.ladder) {
         (_, true) => TapNotation::Ladder,
         (Notation::Plain, false) => TapNotation::Plain,
         (Notation::Json, false) => TapNotation::Json,
@@ -78,27 +78,27 @@ fn notation_of(tapped: &TapArgs<'_>) -> TapNotation
 fn tap_between<S: Net<Stream = TcpStream> + Eprint + time::Clock, W: Sink>(
     system: &S,
     alloc: Global,
-    tapped: &TapArgs<'_>,
+    args: &TapArgs<'_>,
     writer: &mut W,
 ) -> Ending
     requires whole { W.broken writer.old ≡ false }
-    requires low { 1 ≤ tapped.now.max }
-    requires high { tapped.now.max ≤ MAX_COUNT }
-    ensures taps { Taps tapped.now (W.contents writer.old) (W.contents writer.new) result }
+    requires low { 1 ≤ args.now.max }
+    requires high { args.now.max ≤ MAX_COUNT }
+    ensures taps { Taps args.now (W.contents writer.old) (W.contents writer.new) result }
     ensures written { IsTrue (W.broken writer.new) → result ≡ Ending.Fault Fault.Write }
 {
     match ddcmp_tap::tap(
         system,
         alloc,
-        tapped.listen,
-        tapped.connect,
-        notation_of(tapped),
-        tapped.time,
-        tapped.max,
+        args.listen,
+        args.connect,
+        notation_of(args),
+        args.time,
+        args.max,
         writer,
     ) {
         Ok(()) => Ending::Done,
-        Err(fault) => ending_of_fault(alloc, tapped, fault),
+        Err(fault) => ending_of_fault(alloc, args, fault),
     }
 }
 
@@ -106,13 +106,13 @@ fn tap_between<S: Net<Stream = TcpStream> + Eprint + time::Clock, W: Sink>(
 fn tap_in_turn<S: Net<Stream = TcpStream> + Eprint + time::Clock, W: Sink>(
     system: &S,
     alloc: Global,
-    tapped: &TapArgs<'_>,
+    args: &TapArgs<'_>,
     writer: &mut W,
 ) -> Ending
     requires whole { W.broken writer.old ≡ false }
-    requires low { 1 ≤ tapped.now.max }
-    requires high { tapped.now.max ≤ MAX_COUNT }
-    ensures taps { TapsInTurn tapped.now (W.contents writer.old) (W.contents writer.new) result }
+    requires low { 1 ≤ args.now.max }
+    requires high { args.now.max ≤ MAX_COUNT }
+    ensures taps { TapsInTurn args.now (W.contents writer.old) (W.contents writer.new) result }
     ensures written { IsTrue (W.broken writer.new) → result ≡ Ending.Fault Fault.Write }
 {
     let TapArgs {
@@ -121,31 +121,31 @@ fn tap_in_turn<S: Net<Stream = TcpStream> + Eprint + time::Clock, W: Sink>(
         time,
         max,
         ..
-    } = *tapped;
-    let notation = notation_of(tapped);
+    } = *args;
+    let notation = notation_of(args);
     let fault = tap_again(system, alloc, listen, connect, notation, time, max, writer);
-    ending_of_fault(alloc, tapped, fault)
+    ending_of_fault(alloc, args, fault)
 }
 
 /// A tap, as the words ask for it.
 pub(crate) fn tap<S: Net<Stream = TcpStream> + Eprint + time::Clock, W: Sink>(
     system: &S,
     alloc: Global,
-    tapped: &TapArgs<'_>,
+    args: &TapArgs<'_>,
     writer: &mut W,
 ) -> Ending
     requires whole { W.broken writer.old ≡ false }
-    requires low { 1 ≤ tapped.now.max }
-    requires high { tapped.now.max ≤ MAX_COUNT }
-    ensures taps { TapsAsked tapped.now (W.contents writer.old) (W.contents writer.new) result }
+    requires low { 1 ≤ args.now.max }
+    requires high { args.now.max ≤ MAX_COUNT }
+    ensures taps { TapsAsked args.now (W.contents writer.old) (W.contents writer.new) result }
     ensures written { IsTrue (W.broken writer.new) → result ≡ Ending.Fault Fault.Write }
 {
-    let misused = tapped.ladder && is_json(tapped.notation);
+    let misused = args.ladder && is_json(args.notation);
     match misused {
         true => usage(alloc, TWO_NOTATIONS),
-        false => match tapped.again {
-            true => tap_in_turn(system, alloc, tapped, writer),
-            false => tap_between(system, alloc, tapped, writer),
+        false => match args.again {
+            true => tap_in_turn(system, alloc, args, writer),
+            false => tap_between(system, alloc, args, writer),
         },
     }
 }

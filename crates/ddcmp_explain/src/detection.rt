@@ -5,7 +5,7 @@ ghost use Rattle.ddcmp_explain.specs.Detection.{detected_at, detected_first};
 ghost use Rattle.ddcmp_explain.specs.Detection.{is_text as is_text_byte, sight_after, start_then};
 
 /// What an input is by its first bytes.
-#[derive(Clone, Copy, Debug, PartialEq, Eq)]
+#[derive(Clone, Copy)]
 pub enum Detected {
     /// The bytes as they are.
     Raw,
@@ -16,7 +16,7 @@ pub enum Detected {
 }
 
 /// What the bytes so far may be the beginning of.
-#[derive(Clone, Copy, Debug, PartialEq, Eq)]
+#[derive(Clone, Copy)]
 pub(crate) enum Sight {
     /// Nothing but ends of lines was taken.
     Start,

@@ -12,7 +12,7 @@ use ddcmp_io::input::read_within;
 use ddcmp_io::{Got, Source, Worst};
 
 /// How an input is written.
-#[derive(Clone, Copy, Debug, PartialEq, Eq)]
+#[derive(Clone, Copy, PartialEq, Eq)]
 pub enum Written {
     /// In one of the forms.
     As(Form),

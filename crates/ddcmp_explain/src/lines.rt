@@ -186,7 +186,7 @@ impl Lines {
     }
 
     /// Writes the lines of the bytes after the last item.
-    fn tell_rest<W: Sink>(&mut self, writer: &mut W, end: u64, left_open: u64)
+    fn write_rest<W: Sink>(&mut self, writer: &mut W, end: u64, left_open: u64)
         ensures frames { self.new.frames ≡ self.old.frames }
         ensures style { self.new.style ≡ self.old.style }
         ensures items { self.new.items ≡ self.old.items }
@@ -213,7 +213,7 @@ impl Lines {
 
     /// Writes the lines of the bytes after the last item, and that no frame was good, if that is
     /// reported.
-    fn tell_end<W: Sink>(&mut self, writer: &mut W, bytes: u64, left_open: u64)
+    fn write_end<W: Sink>(&mut self, writer: &mut W, bytes: u64, left_open: u64)
         ensures frames { self.new.frames ≡ self.old.frames }
         ensures style { self.new.style ≡ self.old.style }
         ensures items { self.new.items ≡ self.old.items }
@@ -227,12 +227,12 @@ impl Lines {
         if !self.style.discarded {
             return;
         }
-        self.tell_rest(writer, bytes.saturating_sub(left_open), left_open);
-        self.tell_none(writer);
+        self.write_rest(writer, bytes.saturating_sub(left_open), left_open);
+        self.write_none(writer);
     }
 
     /// Writes that no frame was good, if none was.
-    fn tell_none<W: Sink>(&mut self, writer: &mut W)
+    fn write_none<W: Sink>(&mut self, writer: &mut W)
         ensures frames { self.new.frames ≡ self.old.frames }
         ensures style { self.new.style ≡ self.old.style }
         ensures items { self.new.items ≡ self.old.items }
@@ -289,7 +289,7 @@ impl Lines {
     {
         let bytes = self.frames.offset();
         let left_open = self.frames.open() as u64;
-        self.tell_end(writer, bytes, left_open);
+        self.write_end(writer, bytes, left_open);
         let notation = self.style.notation;
         write_last(
             &mut self.page,

@@ -12,7 +12,7 @@ use ddcmp_io::text::write_hex;
 use ddcmp_io::{Page, Sink};
 
 /// How lines are written.
-#[derive(Clone, Copy, Debug, PartialEq, Eq)]
+#[derive(Clone, Copy, Debug)]
 pub enum Notation {
     /// Words for people.
     Plain,

@@ -8,7 +8,7 @@ use ddcmp_io::{Got, Source, Worst};
 pub(crate) const OPENING: usize = 64;
 
 /// What was read of an input to detect its form.
-#[derive(Clone, Copy, Debug, PartialEq, Eq)]
+#[derive(Clone, Copy)]
 pub(crate) enum Opening {
     /// All bytes that are looked at.
     Whole,

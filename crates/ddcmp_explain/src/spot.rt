@@ -8,7 +8,7 @@ ghost use Rattle.ddcmp_explain.specs.Digits.{is_wrong as is_wrong_spot, spot_aft
 use crate::hex_digits::{hex_value, is_blank};
 
 /// The place in a log of the character that was taken last.
-#[derive(Clone, Copy, Debug, PartialEq, Eq)]
+#[derive(Clone, Copy)]
 pub(crate) enum Spot {
     /// Between two bytes.
     Between,

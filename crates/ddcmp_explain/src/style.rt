@@ -2,7 +2,7 @@
 use crate::notation::Notation;
 
 /// What is reported of bytes, and how.
-#[derive(Clone, Copy, Debug, PartialEq, Eq)]
+#[derive(Clone, Copy, Debug)]
 pub struct Style {
     pub notation: Notation,
     /// Whether bytes that no item takes have lines of their own: those that were skipped, and those

@@ -1,7 +1,8 @@
 -- Lines of the grammar, read from place to place.
 use Rattle.std.proofs.Common.{◌≡◌, ◌≢◌, ◌⊎◌, inl, inr, ℕ, Bool, true, false, cond, List, [], ◌∷◌}
-use Rattle.std.proofs.Common.{◌++◌, refl, sym, ◌∙◌, ap, append_assoc, subst, arith}
-use Rattle.std.specs.Prelude.{◌==◌, ◌||◌, if◌then◌else◌}
+use Rattle.std.proofs.Common.{◌++◌, refl, sym, ◌∙◌, ap, append_assoc, subst, arith, suc, ◌+◌, ◌≤◌}
+use Rattle.std.proofs.Common.{length}
+use Rattle.std.specs.Prelude.{◌==◌, ◌||◌, if◌then◌else◌, nat_lt}
 use Rattle.std.specs.Char.{is_ascii_hexdigit}
 use Rattle.std.specs.List.{All, filter}
 use Rattle.std.proofs.lemmas.List.Elements.{All-head, All-tail}
@@ -15,7 +16,7 @@ use Rattle.ddcmp_input.specs.Dump.{place_from, text_then}
 use Rattle.ddcmp_input.specs.Grammar.{IsDigit, IsOneLine, Bytes, NoByte, Blank, Byte, Column}
 use Rattle.ddcmp_input.specs.Grammar.{Groups}
 use Rattle.ddcmp_input.specs.Grammar.{NoGroup, LastBlank, One, Two, Behind, Line, Empty, Dumped}
-use Rattle.ddcmp_input.specs.Grammar.{Grouped, LineEnd, Feed, ReturnFeed, digits_in, Reads}
+use Rattle.ddcmp_input.specs.Grammar.{Grouped, IsAddress, LineEnd, Feed, ReturnFeed, digits_in, Reads}
 
 kept_or_not : (b : Bool) (x : ℕ) (xs ds : List ℕ) → b ≡ false → xs ≡ ds → cond b (x ∷ xs) xs ≡ ds
 kept_or_not b x xs ds none e = rw none e
@@ -141,24 +142,69 @@ groups p end blank feed return (Two {a = a} {b = b} {c = c} {d = d} first second
 groups p end blank feed return (Behind {text = text} one) ends =
     quiet p Gap 32 _ _ blank refl (quiet Gap Text 32 _ _ refl refl (in-text text end one ends))
 
-in-address : (address rest ds : List ℕ) → All IsDigit address → Reads Address rest ds
-    → Reads Address (address ++ rest) ds
+-- an address
+counted : (n : ℕ) → nat_lt n 15 ≡ true → place_of_kind (Address n) kind.Digit ≡ Address (n + 1)
+counted n h = rw h refl
+
+in-address : (n : ℕ) (address rest ds : List ℕ) → All IsDigit address → n + length address ≤ 15
+    → Reads (Address (n + length address)) rest ds → Reads (Address n) (address ++ rest) ds
 unfolding shown_at
-in-address [] rest ds digits reads = reads
-in-address (b ∷ address) rest ds digits reads =
-    quiet Address Address b _ ds (digit-place Address b (All-head IsDigit b address digits)) refl
-    (in-address address rest ds (All-tail IsDigit b address digits) reads)
+in-address n [] rest ds digits fits reads =
+    subst (λ m. Reads (Address m) rest ds) (none n) reads
+  where
+    none : (m : ℕ) → m + 0 ≡ m
+    none m = search arith
+in-address n (b ∷ address) rest ds digits fits reads =
+    quiet (Address n) (Address (n + 1)) b _ ds
+    (digit-place (Address n) b (All-head IsDigit b address digits)
+    ∙ counted n (room n (length address) fits))
+    refl
+    (in-address (n + 1) address rest ds (All-tail IsDigit b address digits)
+    (still n (length address) fits)
+    (subst (λ m. Reads (Address m) rest ds) (same n (length address)) reads))
+  where
+    room : (m k : ℕ) → m + suc k ≤ 15 → nat_lt m 15 ≡ true
+    room m k h = search arith
+
+    still : (m k : ℕ) → m + suc k ≤ 15 → (m + 1) + k ≤ 15
+    still m k h = search arith
+
+    same : (m k : ℕ) → m + suc k ≡ (m + 1) + k
+    same m k = search arith
+
+addressed : (address rest ds : List ℕ) → IsAddress address
+    → Reads (Address (length address)) rest ds → Reads Start (address ++ rest) ds
+unfolding place_after shown_at
+addressed [] rest ds is reads = absurd (omega (arith, is.least))
+addressed (first ∷ address) rest ds is reads =
+    quiet Start (Address 1) first _ ds
+    (digit-place Start first (All-head IsDigit first address is.digits)) refl
+    (in-address 1 address rest ds (All-tail IsDigit first address is.digits)
+    (most (length address) is.most)
+    (subst (λ m. Reads (Address m) rest ds) (same (length address)) reads))
+  where
+    most : (k : ℕ) → suc k ≤ 15 → 1 + k ≤ 15
+    most k h = search arith
+
+    same : (k : ℕ) → suc k ≡ 1 + k
+    same k = search arith
+
+enough : (n : ℕ) → 6 ≤ n → nat_lt n 6 ≡ false
+enough n h = search arith
 
 pub reads-line : {line digits : List ℕ} (end : List ℕ) → Line line digits → LineEnd end
     → Reads Start (line ++ end) digits
 unfolding place_after shown_at
 reads-line end Empty ends = finish Start end refl refl ends
-reads-line end (Dumped first address {text = text} {digits = digits} is all rest) ends =
-    quiet Start Address first _ digits (digit-place Start first is) refl
-    (subst (λ t. Reads Address t digits) (sym (append_assoc address text end))
-    (in-address address (text ++ end) digits all (bytes Address end refl refl refl rest ends)))
-reads-line end (Grouped first address {text = text} {digits = digits} is all rest) ends =
-    quiet Start Address first _ digits (digit-place Start first is) refl
-    (subst (λ t. Reads Address t digits) (sym (append_assoc address (58 ∷ text) end))
-    (in-address address (58 ∷ (text ++ end)) digits all
-    (quiet Address Colon 58 _ digits refl refl (groups Colon end refl refl refl rest ends))))
+reads-line end (Dumped address {text = text} {digits = digits} is rest) ends =
+    subst (λ t. Reads Start t digits) (sym (append_assoc address text end))
+    (addressed address (text ++ end) digits is
+    (bytes (Address (length address)) end (rw (enough (length address) is.least) refl)
+    (rw (enough (length address) is.least) refl) (rw (enough (length address) is.least) refl)
+    rest ends))
+reads-line end (Grouped address {text = text} {digits = digits} is rest) ends =
+    subst (λ t. Reads Start t digits) (sym (append_assoc address (58 ∷ text) end))
+    (addressed address (58 ∷ (text ++ end)) digits is
+    (quiet (Address (length address)) Colon 58 _ digits
+    (rw (enough (length address) is.least) refl) refl
+    (groups Colon end refl refl refl rest ends)))

@@ -1,6 +1,7 @@
 -- What is made of the bytes of a dump: a digit of data stays, a line that is none of a dump is
 -- question marks, and all else is blank. By the place in its line at which each byte stands.
 use Rattle.std.specs.Prelude.{ℕ, ◌+◌, ◌-◌, ◌^◌, min, Bool, true, false, ◌==◌, ◌||◌, if◌then◌else◌}
+use Rattle.std.specs.Prelude.{nat_lt}
 use Rattle.std.specs.Prelude.{List, [], ◌∷◌}
 use Rattle.std.specs.Char.{is_ascii_hexdigit}
 use Rattle.ddcmp_input.specs.declared.place.Kind.{Kind}
@@ -26,20 +27,24 @@ kind_of_byte c =
 
 -- a line begins with its address, or is empty
 abbrev pub start_then : Kind → Place
-start_then kind.Digit = Address
+start_then kind.Digit = Address 1
 start_then kind.LineFeed = Start
 start_then kind.Return = Return
 start_then kind.Star = LeftOut
 start_then _ = Refused
 
 -- after the address stands a colon in a dump of `xxd`, else blanks; or nothing
-abbrev pub address_then : Kind → Place
-address_then kind.Digit = Address
-address_then kind.Colon = Colon
-address_then kind.Blank = Blanks
-address_then kind.LineFeed = Start
-address_then kind.Return = Return
-address_then _ = Refused
+abbrev pub past_address : Kind → Place
+past_address kind.Colon = Colon
+past_address kind.Blank = Blanks
+past_address kind.LineFeed = Start
+past_address kind.Return = Return
+past_address _ = Refused
+
+-- an address has six to fifteen digits, since sixteen are a frame
+abbrev pub address_then : ℕ → Kind → Place
+address_then count kind.Digit = if nat_lt count 15 then Address (count + 1) else Refused
+address_then count k = if nat_lt count 6 then Refused else past_address k
 
 -- blanks stand in front of each byte, and of the bar in front of the text
 abbrev pub blanks_then : Kind → Place
@@ -76,7 +81,7 @@ return_then _ = Refused
 -- that is none on nothing more is read.
 abbrev pub place_of_kind : Place → Kind → Place
 place_of_kind Start k = start_then k
-place_of_kind Address k = address_then k
+place_of_kind (Address count) k = address_then count k
 place_of_kind Blanks k = blanks_then k
 place_of_kind High k = half_then k Low
 place_of_kind Low k = whole_then k Blanks Refused

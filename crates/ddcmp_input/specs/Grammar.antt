@@ -1,5 +1,5 @@
 -- The lines of a dump, and the digits of the data of each, said apart from how they are read.
-use Rattle.std.specs.Prelude.{◌≡◌, ◌≢◌, ◌⊎◌, ℕ, true, List, [], ◌∷◌, ◌++◌}
+use Rattle.std.specs.Prelude.{◌≡◌, ◌≢◌, ◌≤◌, ◌⊎◌, ℕ, true, List, [], ◌∷◌, ◌++◌, length}
 use Rattle.std.specs.Char.{is_ascii_hexdigit}
 use Rattle.std.specs.List.{All, filter}
 use Rattle.ddcmp_input.specs.declared.place.Place.{Place}
@@ -34,15 +34,19 @@ pub data Groups : List ℕ → List ℕ → Type 0 where
       → Groups text digits → Groups (32 ∷ a ∷ b ∷ c ∷ d ∷ text) (a ∷ b ∷ c ∷ d ∷ digits)
   Behind : {text : List ℕ} → IsOneLine text → Groups (32 ∷ 32 ∷ text) []
 
+-- six to fifteen digits, since sixteen are a frame
+pub record IsAddress (text : List ℕ) : Type 0 where
+  pub digits : All IsDigit text
+  pub least : 6 ≤ length text
+  pub most : length text ≤ 15
+
 -- a line, which may be empty, or have an address alone
 pub data Line : List ℕ → List ℕ → Type 0 where
   Empty : Line [] []
-  Dumped : (first : ℕ) (address : List ℕ) {text digits : List ℕ}
-      → IsDigit first → All IsDigit address → Bytes text digits
-      → Line (first ∷ address ++ text) digits
-  Grouped : (first : ℕ) (address : List ℕ) {text digits : List ℕ}
-      → IsDigit first → All IsDigit address → Groups text digits
-      → Line (first ∷ address ++ (58 ∷ text)) digits
+  Dumped : (address : List ℕ) {text digits : List ℕ} → IsAddress address → Bytes text digits
+      → Line (address ++ text) digits
+  Grouped : (address : List ℕ) {text digits : List ℕ} → IsAddress address → Groups text digits
+      → Line (address ++ (58 ∷ text)) digits
 
 -- LF ends a line, or CR and LF
 pub data LineEnd : List ℕ → Type 0 where

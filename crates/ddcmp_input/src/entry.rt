@@ -1,7 +1,7 @@
 //! What the bytes of an input complete.
 
 /// What a byte completed.
-#[derive(Clone, Copy, Debug, PartialEq, Eq)]
+#[derive(Clone, Copy, PartialEq, Eq)]
 pub enum Entry {
     /// A message.
     Message,
@@ -14,7 +14,7 @@ pub enum Entry {
 }
 
 /// What came of a piece of the input.
-#[derive(Clone, Copy, Debug, PartialEq, Eq)]
+#[derive(Clone, Copy, PartialEq, Eq)]
 pub struct Pushed {
     /// How many bytes were used. The caller pushes the rest.
     pub used: usize,

@@ -1,17 +1,18 @@
 //! The place of a byte in a line of a dump.
 ghost use Rattle.std.specs.Prelude.{◌≡◌};
-ghost use Rattle.ddcmp_input.specs.Dump.{address_then, blanks_then, half_then, return_then};
+ghost use Rattle.ddcmp_input.specs.Dump.{address_then, blanks_then, half_then, past_address};
+ghost use Rattle.ddcmp_input.specs.Dump.{return_then};
 ghost use Rattle.ddcmp_input.specs.Dump.{start_then, text_then, whole_then, place_after};
 ghost use Rattle.ddcmp_input.specs.Dump.{place_of_kind};
 ghost use Rattle.ddcmp_input.specs.Dump.{is_data_at, kind_of_byte, line_at, shown_at};
 
 /// The place in a line of a dump of the byte that was taken last.
-#[derive(Clone, Copy, Debug, PartialEq, Eq)]
+#[derive(Clone, Copy)]
 pub enum Place {
     /// Nothing of the line was taken.
     Start,
-    /// In the address.
-    Address,
+    /// At this digit of the address, from 1.
+    Address(u8),
     /// In the blanks before a byte.
     Blanks,
     /// At the first digit of a byte.
@@ -38,7 +39,7 @@ pub enum Place {
 }
 
 /// What a byte is to a dump.
-#[derive(Clone, Copy, Debug, PartialEq, Eq)]
+#[derive(Clone, Copy)]
 pub(crate) enum Kind {
     Digit,
     Blank,
@@ -90,7 +91,7 @@ impl Place {
     {
         match self {
             Place::Start => at_start(kind),
-            Place::Address => in_address(kind),
+            Place::Address(count) => in_address(count, kind),
             Place::Blanks => in_blanks(kind),
             Place::High => at_half(kind, Place::Low),
             Place::Low => at_whole(kind, Place::Blanks, Place::Refused),
@@ -156,7 +157,7 @@ fn at_start(kind: Kind) -> Place
     ensures { result ≡ start_then kind }
 {
     match kind {
-        Kind::Digit => Place::Address,
+        Kind::Digit => Place::Address(1),
         Kind::LineFeed => Place::Start,
         Kind::Return => Place::Return,
         Kind::Star => Place::LeftOut,
@@ -165,11 +166,32 @@ fn at_start(kind: Kind) -> Place
 }
 
 #[inline(always)]
-fn in_address(kind: Kind) -> Place
-    ensures { result ≡ address_then kind }
+fn in_address(count: u8, kind: Kind) -> Place
+    ensures { result ≡ address_then count kind }
 {
     match kind {
-        Kind::Digit => Place::Address,
+        Kind::Digit => {
+            if count < 15 {
+                Place::Address(count + 1)
+            } else {
+                Place::Refused
+            }
+        }
+        _ => {
+            if count < 6 {
+                Place::Refused
+            } else {
+                after_address(kind)
+            }
+        }
+    }
+}
+
+#[inline(always)]
+fn after_address(kind: Kind) -> Place
+    ensures { result ≡ past_address kind }
+{
+    match kind {
         Kind::Colon => Place::Colon,
         Kind::Blank => Place::Blanks,
         Kind::LineFeed => Place::Start,

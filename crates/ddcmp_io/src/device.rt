@@ -78,7 +78,7 @@ pub trait Sink {
 }
 
 /// A write to a sink failed.
-#[derive(Clone, Copy, Debug, PartialEq, Eq)]
+#[derive(Clone, Copy)]
 pub struct WriteFailed;
 
 /// Writes all of some bytes to a sink.

@@ -29,7 +29,7 @@ use std::alloc::Global;
 use std::collections::VecDeque;
 
 /// Why a line wasn't done.
-#[derive(Clone, Copy, Debug, PartialEq, Eq)]
+#[derive(Clone, Copy, PartialEq, Eq)]
 pub(crate) enum Stop {
     NoCommand,
     NotHex,

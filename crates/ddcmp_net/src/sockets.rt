@@ -14,7 +14,7 @@ const PIECE: usize = 1024;
 const WAIT_SECONDS: u64 = 5;
 
 /// Holds both ends of one TCP connection, writes at one and reads as many bytes at the other.
-#[derive(Debug, Drop)]
+#[derive(Drop)]
 pub struct Sockets {
     a: TcpStream,
     b: TcpStream,

@@ -48,7 +48,7 @@ pub trait Carrier {
 }
 
 /// Returns what went in.
-#[derive(Clone, Copy, Debug, Drop, PartialEq, Eq)]
+#[derive(Clone, Copy, Drop)]
 pub struct Direct;
 
 impl Carrier for Direct {

@@ -5,7 +5,7 @@ use crate::bytes::{Bytes, Notices};
 use ddcmp_core::{SendRefusal, Seq, StartRefusal};
 
 /// An end of the line.
-#[derive(Clone, Copy, Debug, PartialEq, Eq)]
+#[derive(Clone, Copy, Debug)]
 pub enum End {
     A,
     B,

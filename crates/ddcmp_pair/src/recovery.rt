@@ -17,7 +17,7 @@ fn is_same(message: &[u8], other: &[u8]) -> bool
 }
 
 /// How a recovery ended.
-#[derive(Clone, Copy, Debug, PartialEq, Eq)]
+#[derive(Clone, Copy, PartialEq, Eq)]
 pub struct Recovered {
     /// How many exchanges were counted in each of its settles.
     pub exchanges: [u32; 3],

@@ -5,7 +5,7 @@ use crate::{End, Event, Reply};
 use ddcmp_proto::Memory;
 
 /// How a settle ended.
-#[derive(Clone, Copy, Debug, PartialEq, Eq)]
+#[derive(Clone, Copy, PartialEq, Eq)]
 pub struct Settled {
     /// How many exchanges were counted: at most 16 times the larger window and 4.
     pub exchanges: u32,

@@ -18,7 +18,7 @@ pub trait Watch {
 }
 
 /// Watches nothing.
-#[derive(Clone, Copy, Debug, Drop, PartialEq, Eq)]
+#[derive(Clone, Copy, Drop)]
 pub struct Unwatched;
 
 impl Watch for Unwatched {

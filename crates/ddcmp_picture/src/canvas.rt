@@ -13,7 +13,7 @@ use ddcmp_pair::Pair;
 use std::alloc::Global;
 
 /// How a run is drawn.
-#[derive(Clone, Copy, Debug, PartialEq, Eq)]
+#[derive(Clone, Copy)]
 pub enum Picture {
     /// Lines of text, a line a step.
     Ladder,

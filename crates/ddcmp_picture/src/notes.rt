@@ -97,7 +97,7 @@ pub(crate) fn sent<P: Paper>(paper: &mut P, at: End, message: &[u8], reply: &Rep
     note(paper, at, text, false);
 }
 
-fn tell_notices<P: Paper>(paper: &mut P, to: End, notices: &[Notice])
+fn draw_notices<P: Paper>(paper: &mut P, to: End, notices: &[Notice])
     ensures { Logs (P.drawn paper.old) (P.drawn paper.new) (notice_marks to true notices.now) }
 {
     for i in 0..notices.len() {
@@ -107,7 +107,7 @@ fn tell_notices<P: Paper>(paper: &mut P, to: End, notices: &[Notice])
 
 /// What was wrong with an arrival, if anything was.
 #[tactic(auto, using(crate::proofs::NoteLaws::logs_none))]
-fn tell_faults<P: Paper>(paper: &mut P, to: End, is_beside: bool, faults: ShortText)
+fn draw_faults<P: Paper>(paper: &mut P, to: End, is_beside: bool, faults: ShortText)
     ensures { Logs (P.drawn paper.old) (P.drawn paper.new) (fault_marks to is_beside faults) }
 {
     if !faults.is_blank() {
@@ -117,7 +117,7 @@ fn tell_faults<P: Paper>(paper: &mut P, to: End, is_beside: bool, faults: ShortT
 
 /// The state after an arrival, if it is another and no notice says so.
 #[tactic(auto, using(crate::proofs::NoteLaws::logs_none))]
-fn tell_state<P: Paper>(
+fn draw_state<P: Paper>(
     paper: &mut P,
     to: End,
     is_beside: bool,
@@ -149,9 +149,9 @@ pub(crate) fn report<P: Paper>(
 {
     let faults = faults_text(&before.counters, &now.counters);
     let is_beside = notices.is_empty() && faults.is_blank();
-    tell_notices(paper, to, notices);
-    tell_faults(paper, to, notices.is_empty(), faults);
-    tell_state(paper, to, is_beside, notices, before.state, now.state);
+    draw_notices(paper, to, notices);
+    draw_faults(paper, to, notices.is_empty(), faults);
+    draw_state(paper, to, is_beside, notices, before.state, now.state);
 }
 
 /// The state of a station and its numbers, and what it holds.

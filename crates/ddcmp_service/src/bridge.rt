@@ -23,7 +23,7 @@ use std::net::{self, Net};
 use std::time;
 
 /// What a bridge has counted, and how it ended.
-#[derive(Clone, Copy, Debug, PartialEq, Eq)]
+#[derive(Clone, Copy)]
 pub struct BridgeEnd {
     /// What was counted from the first line to the second.
     pub there: Counts,
@@ -33,7 +33,7 @@ pub struct BridgeEnd {
 }
 
 /// Why there was no bridge.
-#[derive(Clone, Copy, Debug, PartialEq, Eq)]
+#[derive(Clone, Copy)]
 pub enum BridgeFault<'a> {
     /// A line couldn't be opened, or a file made.
     Open(NotOpened<'a>),
@@ -42,7 +42,7 @@ pub enum BridgeFault<'a> {
 }
 
 /// How a bridge runs.
-#[derive(Clone, Copy, Debug, PartialEq, Eq)]
+#[derive(Clone, Copy)]
 pub struct BridgeOptions<'a> {
     /// After how many seconds it ends, if no line has ended before.
     pub seconds: u32,

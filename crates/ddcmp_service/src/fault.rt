@@ -7,7 +7,7 @@ use std::fmt;
 use std::io::ErrorKind;
 
 /// What was tried with the name of a line or file.
-#[derive(Clone, Copy, Debug, PartialEq, Eq)]
+#[derive(Clone, Copy)]
 pub enum Attempt {
     Connect,
     Listen,
@@ -32,7 +32,7 @@ impl Attempt {
 }
 
 /// Why a line can't be opened, or a file not made or written.
-#[derive(Clone, Copy, Debug, PartialEq, Eq)]
+#[derive(Clone, Copy)]
 pub enum Cause {
     /// The system refused it.
     System(ErrorKind),
@@ -71,7 +71,7 @@ impl Cause {
 }
 
 /// A line or file that couldn't be opened: what was tried, with which name, and why it failed.
-#[derive(Clone, Copy, Debug, PartialEq, Eq)]
+#[derive(Clone, Copy)]
 pub struct NotOpened<'a> {
     pub attempt: Attempt,
     pub name: &'a str,
@@ -93,7 +93,7 @@ impl fmt::Display for NotOpened<'_> {
 }
 
 /// Why a service ended before it had delivered all.
-#[derive(Clone, Copy, Debug, PartialEq, Eq)]
+#[derive(Clone, Copy)]
 pub enum ServiceFault<'a> {
     /// The line couldn't be opened.
     Open(NotOpened<'a>),

@@ -7,7 +7,7 @@ use crate::opener::OpenRefusal;
 use ddcmp_session::LineKind;
 
 /// A line, as a word names it.
-#[derive(Clone, Copy, Debug, PartialEq, Eq)]
+#[derive(Clone, Copy)]
 pub enum LineName<'a> {
     /// `connect:HOST:PORT`: one TCP connection to there.
     Connect(&'a str),

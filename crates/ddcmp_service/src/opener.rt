@@ -82,7 +82,7 @@ impl Opened {
 }
 
 /// Why a line can't be opened, and whether that is the remote one of two addresses.
-#[derive(Clone, Copy, PartialEq, Eq)]
+#[derive(Clone, Copy)]
 pub(crate) struct OpenRefusal {
     pub(crate) cause: Cause,
     pub(crate) is_remote: bool,

@@ -97,7 +97,7 @@ pub trait Devices {
 }
 
 /// What became of a read or a write that doesn't wait.
-#[derive(Clone, Copy, Debug, PartialEq, Eq)]
+#[derive(Clone, Copy, PartialEq, Eq)]
 pub enum Moved {
     Bytes(usize),
     /// Nothing came, or there was no room.
@@ -121,7 +121,7 @@ impl Moved {
 }
 
 /// Why a line is down.
-#[derive(Clone, Copy, Debug, PartialEq, Eq)]
+#[derive(Clone, Copy, PartialEq, Eq)]
 pub enum Down {
     /// The other end has closed it.
     Closed,
@@ -162,7 +162,7 @@ impl fmt::Display for Down {
 }
 
 /// Why a session can't go on over its devices.
-#[derive(Clone, Copy, Debug, PartialEq, Eq)]
+#[derive(Clone, Copy, PartialEq, Eq)]
 pub enum Fault {
     /// The line has ended or failed.
     Line(Down),
@@ -175,7 +175,7 @@ pub enum Fault {
 }
 
 /// Which devices are waited for.
-#[derive(Clone, Copy, Debug, PartialEq, Eq)]
+#[derive(Clone, Copy)]
 pub struct Wanted {
     pub input: bool,
     pub output: bool,

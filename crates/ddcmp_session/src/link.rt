@@ -16,7 +16,7 @@ use ddcmp_station::ConfigRefusal;
 use std::alloc::Global;
 
 /// How a link ended that nothing stopped.
-#[derive(Clone, Copy, Debug, PartialEq, Eq)]
+#[derive(Clone, Copy)]
 pub enum Served {
     /// All of the input was delivered.
     Delivered,
@@ -25,7 +25,7 @@ pub enum Served {
 }
 
 /// Why a link ended before all was delivered.
-#[derive(Clone, Copy, Debug, PartialEq, Eq)]
+#[derive(Clone, Copy)]
 pub enum LinkFault<R> {
     /// No session is made of its options, or an allocation failed.
     Refused(ConfigRefusal),

@@ -7,7 +7,7 @@ use crate::messages::Form;
 use ddcmp_station::Config;
 
 /// How a session runs.
-#[derive(Clone, Copy, Debug, PartialEq, Eq)]
+#[derive(Clone, Copy, Debug)]
 pub struct Options {
     pub config: Config,
     /// The reply timer, in milliseconds.
@@ -50,7 +50,7 @@ impl Options {
 }
 
 /// What a line is, as far as that makes a difference.
-#[derive(Clone, Copy, Debug, PartialEq, Eq)]
+#[derive(Clone, Copy)]
 pub enum LineKind {
     /// A connection to a peer.
     Connect,

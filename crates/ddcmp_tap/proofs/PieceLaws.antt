@@ -18,7 +18,7 @@ use Rattle.ddcmp_tap.specs.declared.tap_fault.NotMade.{NotMade}
 use Rattle.ddcmp_tap.specs.declared.tap_fault.TapFault.{TapFault}
 use Rattle.ddcmp_tap.specs.declared.tap_fault.TapFault.TheVariants.{Carrier, Read, Write, Report}
 use Rattle.ddcmp_tap.specs.declared.tap_fault.TapFault.TheVariants.{Memory}
-use Rattle.ddcmp_tap.specs.Pumping.{Begins, Ends, FlowView, HasSaid, Pumps, tap_text, HasFlown}
+use Rattle.ddcmp_tap.specs.Pumping.{Begins, Ends, FlowView, HasReported, Pumps, tap_text, HasFlown}
 use Rattle.ddcmp_tap.specs.Pumping.{HasMoved, IsOf, IsOfReport, IsOfSide, IsSame, Moves, Piece}
 use Rattle.ddcmp_tap.specs.Pumping.{Runs, Stopped, Stops, TellsOf, Turns, WritesText, AreStamped}
 use Rattle.ddcmp_tap.specs.Pumping.{items_added, pieces_text, said}
@@ -64,7 +64,7 @@ moved start now told h = record {
 -- once its lines were written
 pub flown : (start was now : FlowView) (told : List ℕ) (c : HasCome start was told)
     → now.left ≡ was.left → now.sent ≡ was.sent → Passes now.direction c.came c.handed c.came
-    → HasFlown start now (told ++ was.direction.queue.untold)
+    → HasFlown start now (told ++ was.direction.queue.unlogged)
 flown start was now told c l s p =
     subst (HasFlown start now) c.passes.explained (record {
       handed = c.handed;
@@ -106,7 +106,7 @@ part-of old new Memory text e w = w
 
 abbrev pub piece_of : Side → Option ℕ → FlowView → Piece
 piece_of side stamp flow =
-    record { side = side; stamp = stamp; bytes = flow.direction.queue.untold }
+    record { side = side; stamp = stamp; bytes = flow.direction.queue.unlogged }
 
 lines-as
     : (side : Side) (notation : Notation) (max : ℕ) (stamp : Option ℕ) (d : DirectionView)
@@ -189,7 +189,7 @@ not-report fault (inr (inl e)) (inr o) = let bad : Read ≡ Memory = sym e ∙ o
 not-report fault (inr (inr e)) (inl o) = let bad : Write ≡ Report = sym e ∙ o in cc
 not-report fault (inr (inr e)) (inr o) = let bad : Write ≡ Memory = sym e ∙ o in cc
 
-written : (old new : Known) (text : List ℕ) (result : Result (Unit {0}) TapFault) → HasSaid result
+written : (old new : Known) (text : List ℕ) (result : Result (Unit {0}) TapFault) → HasReported result
     → Appends old new text → WritesText old new result text
 written old new text (Ok u) h a = a
 written old new text (Err Read) h a = a
@@ -260,7 +260,7 @@ module _ (notation : Notation) (timed : Bool) (max : ℕ) (stamp : Option ℕ)
   up-told ua ub uc da db w0 w1 r mu md t =
       let b = come up0 ua ub (said Caller r.pieces) r.rising mu in
       let is = is-still Caller notation max ua.direction ub.direction mu.same r.up_is in
-      let more = ub.direction.queue.untold in
+      let more = ub.direction.queue.unlogged in
       record {
         pieces = piece_of Caller stamp ub ∷ r.pieces;
         marked =
@@ -289,7 +289,7 @@ module _ (notation : Notation) (timed : Bool) (max : ℕ) (stamp : Option ℕ)
   up-failed ua ub uc da db w0 w1 fault f r mu md t =
       let b = come up0 ua ub (said Caller r.pieces) r.rising mu in
       let is = is-still Caller notation max ua.direction ub.direction mu.same r.up_is in
-      let more = ub.direction.queue.untold in
+      let more = ub.direction.queue.unlogged in
       record {
         pieces = piece_of Caller stamp ub ∷ r.pieces;
         stamped =
@@ -312,7 +312,7 @@ module _ (notation : Notation) (timed : Bool) (max : ℕ) (stamp : Option ℕ)
       → Tells-by db dc stamp w1 w2 (Ok tt) → Runs notation timed max up0 uc down0 dc start w2
   down-told uc db dc w1 w2 h t =
       let b = h.falling in
-      let more = db.direction.queue.untold in
+      let more = db.direction.queue.unlogged in
       record {
         pieces = piece_of Called stamp db ∷ h.pieces;
         stamped =
@@ -339,7 +339,7 @@ module _ (notation : Notation) (timed : Bool) (max : ℕ) (stamp : Option ℕ)
       → Stopped notation timed max up0 uc down0 dc start w2
   down-failed uc db dc w1 w2 fault f h t =
       let b = h.falling in
-      let more = db.direction.queue.untold in
+      let more = db.direction.queue.unlogged in
       record {
         pieces = piece_of Called stamp db ∷ h.pieces;
         stamped =
@@ -463,7 +463,7 @@ module _ (notation : Notation) (timed : Bool) (max : ℕ) (stamp : Option ℕ)
   -- all was said, and the last lines were written
   pub pumps-whole
       : (ua ub da db : FlowView) (w0 w1 w2 : Known) (result : Result (Unit {0}) TapFault)
-      → HasSaid result
+      → HasReported result
       → (r : Runs notation timed max up0 ua down0 da start w0) → ub.left ≡ ua.left
       → ub.sent ≡ ua.sent → ub.closed ≡ ua.closed → db.left ≡ da.left → db.sent ≡ da.sent
       → db.closed ≡ da.closed
@@ -567,7 +567,7 @@ module _ (notation : Notation) (timed : Bool) (max : ℕ) (stamp : Option ℕ)
 
   pub pumps-whole-by
       : (ua ub da db : FlowView) (w0 w1 w2 : Known) (result : Result (Unit {0}) TapFault)
-      → HasSaid result
+      → HasReported result
       → Runs notation timed max up0 ua down0 da start w0 → ub.left ≡ ua.left → ub.sent ≡ ua.sent
       → ub.closed ≡ ua.closed → db.left ≡ da.left → db.sent ≡ da.sent → db.closed ≡ da.closed
       → TellsLast ua.direction w0 w1 (Ok tt) → TellsLast da.direction w1 w2 (Ok tt)

@@ -5,13 +5,13 @@ use Rattle.ddcmp_tap.specs.declared.notation.Notation.{Notation}
 use Rattle.ddcmp_tap.specs.declared.tap_fault.TapFault.{TapFault}
 use Rattle.ddcmp_tap.specs.declared.tap_fault.TapFault.TheVariants.{Carrier, Read, Write, Report}
 use Rattle.ddcmp_tap.specs.declared.tap_fault.TapFault.TheVariants.{Memory}
-use Rattle.ddcmp_tap.specs.Pumping.{FlowView, HasSaid, Pumps, Runs, Stops}
+use Rattle.ddcmp_tap.specs.Pumping.{FlowView, HasReported, Pumps, Runs, Stops}
 use Rattle.ddcmp_tap.proofs.PieceLaws.{moment, moment-timed, pumps-stopped}
 
 -- a tap whose last lines are to come runs
 pub runs-said
     : (notation : Notation) (timed : Bool) (max : ℕ) (up0 up down0 down : FlowView)
-    (old new : Known) (ended : Result (Unit {0}) TapFault) → HasSaid ended
+    (old new : Known) (ended : Result (Unit {0}) TapFault) → HasReported ended
     → Stops notation timed max up0 up down0 down old new ended
     → Runs notation timed max up0 up down0 down old new
 runs-said notation timed max up0 up down0 down old new (Ok u) h s = s
@@ -24,7 +24,7 @@ runs-said notation timed max up0 up down0 down old new (Err Memory) h s = absurd
 -- a tap that has no last lines was stopped
 pub pumps-unsaid
     : (notation : Notation) (timed : Bool) (max : ℕ) (up0 up down0 down : FlowView)
-    (old new : Known) (ended : Result (Unit {0}) TapFault) → (HasSaid ended → ⊥)
+    (old new : Known) (ended : Result (Unit {0}) TapFault) → (HasReported ended → ⊥)
     → Stops notation timed max up0 up down0 down old new ended
     → Pumps notation timed max up0 up down0 down old new ended
 pumps-unsaid notation timed max up0 up down0 down old new (Ok u) h s = absurd (h tt)

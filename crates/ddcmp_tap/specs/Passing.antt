@@ -10,7 +10,7 @@ use Rattle.ddcmp_tap.specs.declared.side.Side.{Side}
 -- there is room for
 pub record QueueView : Type 0 where
   pub waiting : List ℕ
-  pub untold : List ℕ
+  pub unlogged : List ℕ
   pub room : ℕ
 
 -- A direction: the side that its bytes come from and how its lines are written; its bytes; whether
@@ -27,7 +27,7 @@ pub record DirectionView : Type 0 where
 
 -- how many bytes came
 abbrev pub came_of : DirectionView → ℕ
-came_of d = d.frames.offset + length d.queue.untold
+came_of d = d.frames.offset + length d.queue.unlogged
 
 -- how many bytes more may come: no more than there is room for, and than can be counted
 abbrev pub room_of : DirectionView → ℕ
@@ -41,7 +41,7 @@ pub record HasTold (frames : ReaderView) (count : ℕ) (told : List ℕ) : Type 
 -- Of the bytes that came these were handed on, and the others wait; and these were explained.
 pub record Passes (d : DirectionView) (came handed told : List ℕ) : Type 0 where
   pub handed_on : came ≡ handed ++ d.queue.waiting
-  pub explained : came ≡ told ++ d.queue.untold
+  pub explained : came ≡ told ++ d.queue.unlogged
   pub has_told : HasTold d.frames d.items told
 
 -- Of more bytes after those that were logged the lines of the items that they add were put after a

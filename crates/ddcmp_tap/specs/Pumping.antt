@@ -56,13 +56,13 @@ abbrev pub AreStamped : Bool → List Piece → Type 0
 AreStamped timed pieces = All (λ (p : Piece). is_some p.stamp ≡ timed) pieces
 
 -- a tap went on until both sides had ended or one had failed
-abbrev pub HasSaid : Result (Unit {0}) TapFault → Type 0
-HasSaid (Ok u) = ⊤
-HasSaid (Err Read) = ⊤
-HasSaid (Err Write) = ⊤
-HasSaid (Err (Carrier why)) = ⊥
-HasSaid (Err Report) = ⊥
-HasSaid (Err Memory) = ⊥
+abbrev pub HasReported : Result (Unit {0}) TapFault → Type 0
+HasReported (Ok u) = ⊤
+HasReported (Err Read) = ⊤
+HasReported (Err Write) = ⊤
+HasReported (Err (Carrier why)) = ⊥
+HasReported (Err Report) = ⊥
+HasReported (Err Memory) = ⊥
 
 -- a fault of a side, and one of what is written
 abbrev pub IsOfSide : TapFault → Type 0
@@ -139,7 +139,7 @@ abbrev pub TellsOf : DirectionView → Option ℕ → Known → Known
     → Result (Unit {0}) TapFault → List ℕ → Type 0
 TellsOf was stamp old new result told =
     WritesText old new result
-    (tapped_lines was.notation stamp was.side (items_added was.frames.max told was.queue.untold))
+    (tapped_lines was.notation stamp was.side (items_added was.frames.max told was.queue.unlogged))
 
 -- One direction since a beginning: what pieces have of it came, and what the outlet took of that
 -- is its front.
@@ -231,7 +231,7 @@ pub record Pumps (notation : Notation) (timed : Bool) (max : ℕ) (up0 up down0 
   pub says : Says [] notation timed max old new result
   pub rising : HasMoved up0 up
   pub falling : HasMoved down0 down
-  pub said_all : HasSaid result → (said Caller says.pieces ≡ rising.came)
+  pub said_all : HasReported result → (said Caller says.pieces ≡ rising.came)
       × (said Called says.pieces ≡ falling.came)
   pub done : result ≡ Ok tt → (rising.waiting ≡ []) × (falling.waiting ≡ [])
       × (up.closed ≡ true) × (down.closed ≡ true) × IsAtEnd up.left × IsAtEnd down.left

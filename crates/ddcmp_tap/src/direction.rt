@@ -21,7 +21,7 @@ pub const ROOM: usize = 65536;
 /// they were explained: in two queues, so that neither waits for the other.
 pub struct Direction {
     waiting: ByteQueue,
-    untold: ByteQueue,
+    unlogged: ByteQueue,
     log: ItemLog,
     text: MemorySink,
     ended: bool,
@@ -32,7 +32,7 @@ impl Drop for Direction {
     fn drop(self) {
         let Direction {
             waiting: _waiting,
-            untold: _untold,
+            unlogged: _untold,
             log: _log,
             text: _text,
             ended: _,
@@ -52,8 +52,8 @@ impl Model for Direction {
       notation = d.log.notation;
       queue = record {
         waiting = d.waiting.waiting;
-        untold = d.untold.waiting;
-        room = min d.waiting.room d.untold.room;
+        unlogged = d.unlogged.waiting;
+        room = min d.waiting.room d.unlogged.room;
       };
       ended = d.ended;
       frames = d.log.frames;
@@ -61,8 +61,8 @@ impl Model for Direction {
       text = d.text.bytes.items;
     } };
 
-    ghost invariant = { λ d. (d.log.frames.offset + length d.untold.waiting < 2 ^ 64)
-        × (d.waiting.size ≡ ROOM) × (d.untold.size ≡ ROOM) };
+    ghost invariant = { λ d. (d.log.frames.offset + length d.unlogged.waiting < 2 ^ 64)
+        × (d.waiting.size ≡ ROOM) × (d.unlogged.size ≡ ROOM) };
 }
 
 impl Direction {
@@ -85,7 +85,7 @@ impl Direction {
         let Ok(waiting) = ByteQueue::new(alloc, ROOM) else {
             return Err(NoMemory);
         };
-        let Ok(untold) = ByteQueue::new(alloc, ROOM) else {
+        let Ok(unlogged) = ByteQueue::new(alloc, ROOM) else {
             return Err(NoMemory);
         };
         let Ok(frames) = Reader::new(alloc, max) else {
@@ -93,7 +93,7 @@ impl Direction {
         };
         Ok(Direction {
             waiting,
-            untold,
+            unlogged,
             log: ItemLog {
                 side,
                 notation,
@@ -110,12 +110,12 @@ impl Direction {
     pub fn room(&self) -> usize
         ensures value { result ≡ room_of self.now }
         ensures most { result + length self.now.queue.waiting ≤ 65536 }
-        ensures whole { self.now.queue.waiting ≡ [] → self.now.queue.untold ≡ []
+        ensures whole { self.now.queue.waiting ≡ [] → self.now.queue.unlogged ≡ []
             → self.now.queue.room ≡ 65536 }
     {
-        let room = self.waiting.room().min(self.untold.room());
-        let untold = self.untold.waiting().len() as u64;
-        let countable = u64::MAX - self.log.frames.offset() - untold;
+        let room = self.waiting.room().min(self.unlogged.room());
+        let unlogged = self.unlogged.waiting().len() as u64;
+        let countable = u64::MAX - self.log.frames.offset() - unlogged;
         if countable < room as u64 {
             countable as usize
         } else {
@@ -129,12 +129,12 @@ impl Direction {
         ensures passes { (came handed told : List ℕ) → Passes self.old came handed told
             → Passes self.new (came ++ bytes.now) handed told }
         ensures waiting { self.new.queue.waiting ≡ self.old.queue.waiting ++ bytes.now }
-        ensures untold { self.new.queue.untold ≡ self.old.queue.untold ++ bytes.now }
+        ensures unlogged { self.new.queue.unlogged ≡ self.old.queue.unlogged ++ bytes.now }
         ensures room { self.new.queue.room + length bytes.now ≡ self.old.queue.room }
         ensures stays { self.new ≡ record self.old { queue = self.new.queue } }
     {
         self.waiting.push(bytes);
-        self.untold.push(bytes);
+        self.unlogged.push(bytes);
     }
 
     /// What is to be forwarded to the other side.
@@ -150,7 +150,7 @@ impl Direction {
         ensures passes { (came handed told : List ℕ) → Passes self.old came handed told
             → Passes self.new came (handed ++ take n self.old.queue.waiting) told }
         ensures waiting { self.new.queue.waiting ≡ drop n self.old.queue.waiting }
-        ensures untold { self.new.queue.untold ≡ self.old.queue.untold }
+        ensures unlogged { self.new.queue.unlogged ≡ self.old.queue.unlogged }
         ensures room { self.old.queue.room ≤ self.new.queue.room }
         ensures stays { self.new ≡ record self.old { queue = self.new.queue } }
     {
@@ -176,11 +176,11 @@ impl Direction {
         ensures passes { IsOk result → (came handed told : List ℕ)
             → Passes self.old came handed told → Passes self.new came handed came
             × Tells self.old.notation self.old.side self.old.frames.max stamp told
-            self.old.queue.untold [] self.new.text }
+            self.old.queue.unlogged [] self.new.text }
         ensures waiting { self.new.queue.waiting ≡ self.old.queue.waiting }
 
         // If an allocation failed too: no byte is read twice.
-        ensures untold { self.new.queue.untold ≡ [] }
+        ensures unlogged { self.new.queue.unlogged ≡ [] }
         ensures room { self.old.queue.room ≤ self.new.queue.room }
         ensures side { self.new.side ≡ self.old.side }
         ensures notation { self.new.notation ≡ self.old.notation }
@@ -188,8 +188,8 @@ impl Direction {
         ensures ended { self.new.ended ≡ self.old.ended }
     {
         self.text.clear();
-        let told = self.log.log(&mut self.text, stamp, self.untold.waiting());
-        self.untold.clear();
+        let told = self.log.log(&mut self.text, stamp, self.unlogged.waiting());
+        self.unlogged.clear();
         told
     }
 

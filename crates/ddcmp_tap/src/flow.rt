@@ -159,7 +159,7 @@ impl<R: Source, O: Outlet> Flow<R, O> {
         ensures passes { IsOk result ⊎ (result ≡ Err TapFault.Report)
             → (came handed told : List ℕ) → Passes self.old.direction came handed told
             → Passes self.new.direction came handed came }
-        ensures untold { self.new.direction.queue.untold ≡ [] }
+        ensures unlogged { self.new.direction.queue.unlogged ≡ [] }
         ensures waiting { self.new.direction.queue.waiting ≡ self.old.direction.queue.waiting }
         ensures same { IsSame self.old.direction self.new.direction }
         ensures ended { self.new.direction.ended ≡ self.old.direction.ended }
@@ -175,7 +175,7 @@ impl<R: Source, O: Outlet> Flow<R, O> {
     }
 
     /// Writes the last line.
-    pub(crate) fn tell_end<W: Sink>(
+    pub(crate) fn log_end<W: Sink>(
         &mut self,
         writer: &mut W,
         stamp: Option<u64>,

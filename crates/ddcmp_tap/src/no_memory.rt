@@ -1,5 +1,5 @@
 //! Why a text is not complete.
 
 /// The allocation for a text failed.
-#[derive(Clone, Copy, Debug, PartialEq, Eq)]
+#[derive(Clone, Copy)]
 pub struct NoMemory;

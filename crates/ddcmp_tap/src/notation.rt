@@ -1,7 +1,7 @@
 //! How a tap logs what passes.
 
 /// How a tap logs what passes.
-#[derive(Clone, Copy, Debug, PartialEq, Eq)]
+#[derive(Clone, Copy, Debug)]
 pub enum Notation {
     /// Words for people, as `explain` has them.
     Plain,

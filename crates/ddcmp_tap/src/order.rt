@@ -15,7 +15,7 @@ use ddcmp_frame::{ControlType, Header, Item, Short};
 use ddcmp_num::Seq;
 
 /// What the order needs of an item: what it acknowledges, and its own number.
-#[derive(Clone, Copy, Debug, PartialEq, Eq)]
+#[derive(Clone, Copy)]
 pub enum Word {
     /// An item that is no good frame.
     Bad,
@@ -102,7 +102,7 @@ fn distance(from: u8, to: u8) -> u8
 }
 
 /// What was drawn of a side, as far as items of the other refer to it.
-#[derive(Clone, Copy, Debug, PartialEq, Eq)]
+#[derive(Clone, Copy)]
 pub struct Drawn {
     /// The number of its last data message in sequence, after a NAK again.
     pub num: u8,
@@ -353,7 +353,7 @@ impl Drawn {
 }
 
 /// What was drawn of both sides, and whose turn it is.
-#[derive(Clone, Copy, Debug, PartialEq, Eq)]
+#[derive(Clone, Copy)]
 pub struct Order {
     turn: Side,
     caller: Drawn,

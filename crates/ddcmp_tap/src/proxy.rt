@@ -4,7 +4,7 @@ ghost use Rattle.std.specs.Prelude.{◌≡◌, ◌≢◌, ◌<◌, ◌↔◌, Bo
 ghost use Rattle.std.specs.Prelude.{false, is_some, length, true};
 ghost use Rattle.ddcmp_io.specs.Written.{Known};
 ghost use Rattle.ddcmp_tap.specs.declared.notation.Notation.{Notation};
-ghost use Rattle.ddcmp_tap.specs.Pumping.{Begins, Both, Ends, HasSaid, FlowView, IsOfSide, Moves};
+ghost use Rattle.ddcmp_tap.specs.Pumping.{Begins, Both, Ends, HasReported, FlowView, IsOfSide, Moves};
 ghost use Rattle.ddcmp_tap.specs.Pumping.{Pumps, Runs, Stops, Turns, flow_of};
 ghost use Rattle.ddcmp_tap.specs.declared.tap_fault.TapFault.{TapFault as TapFaultValue};
 ghost use Rattle.ddcmp_tap.specs.declared.side.Side.TheVariants.{Caller as CallerSide};
@@ -131,8 +131,8 @@ fn until_over<R: Source, O: Outlet, K: Readiness, C: Clock, W: Sink>(
 }
 
 /// Returns whether a tap went on until both sides had ended or one had failed.
-fn has_said(ended: &Result<(), TapFault>) -> bool
-    ensures { IsTrue result ↔ HasSaid ended.now }
+fn has_reported(ended: &Result<(), TapFault>) -> bool
+    ensures { IsTrue result ↔ HasReported ended.now }
 {
     match ended {
         Ok(()) => true,
@@ -151,7 +151,7 @@ fn conclude<R: Source, O: Outlet, C: Clock, W: Sink>(
 ) -> Result<(), TapFault>
     requires whole { W.broken writer.old ≡ false }
     requires ends { Both (λ it. Ends (flow_of R.left O.contents O.closed it)) up.old down.old }
-    requires said { HasSaid ended }
+    requires said { HasReported ended }
     requires done { ended ≡ Ok tt
         → (O.closed up.old.outlet ≡ true) × (O.closed down.old.outlet ≡ true) }
     ensures pumps { (notation : Notation) (max : ℕ) (up0 down0 : FlowView) (start : Known)
@@ -163,11 +163,11 @@ fn conclude<R: Source, O: Outlet, C: Clock, W: Sink>(
     ensures broken { (result ≡ Err TapFault.Report) ↔ IsTrue (W.broken writer.new) }
 {
     let at = stamp(clock, timed);
-    match up.tell_end(writer, at) {
+    match up.log_end(writer, at) {
         Ok(()) => {}
         Err(fault) => return Err(fault),
     }
-    match down.tell_end(writer, at) {
+    match down.log_end(writer, at) {
         Ok(()) => ended,
         Err(fault) => Err(fault),
     }
@@ -199,7 +199,7 @@ pub fn pump<R: Source, O: Outlet, K: Readiness, C: Clock, W: Sink>(
     ensures broken { (result ≡ Err TapFault.Report) ↔ IsTrue (W.broken writer.new) }
 {
     let ended = until_over(up, down, readiness, clock, timed, buffer, writer);
-    if has_said(&ended) {
+    if has_reported(&ended) {
         conclude(up, down, clock, timed, writer, ended)
     } else {
         ended

@@ -4,7 +4,7 @@ use std::fmt;
 use std::io::ErrorKind;
 
 /// What a tap does before it has both connections.
-#[derive(Clone, Copy, Debug, PartialEq, Eq)]
+#[derive(Clone, Copy, PartialEq, Eq)]
 pub enum Stage {
     /// It listens, and takes the first who connects.
     Listen,
@@ -14,7 +14,7 @@ pub enum Stage {
 }
 
 /// A connection that can't be made, or can't be waited for.
-#[derive(Clone, Copy, Debug, PartialEq, Eq)]
+#[derive(Clone, Copy, PartialEq, Eq)]
 pub struct NotMade {
     pub stage: Stage,
     /// The reason of the system; none if no host has the name.
@@ -43,7 +43,7 @@ impl NotMade {
 }
 
 /// Why a tap that was to go on until both sides end isn't done.
-#[derive(Clone, Copy, Debug, PartialEq, Eq)]
+#[derive(Clone, Copy, PartialEq, Eq)]
 pub enum TapFault {
     /// A connection can't be made.
     Carrier(NotMade),

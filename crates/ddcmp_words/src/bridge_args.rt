@@ -12,7 +12,7 @@ use ddcmp_explain::Notation;
 use std::alloc::Global;
 
 /// A bridge between two lines, as the arguments give it.
-#[derive(Clone, Copy, Debug, PartialEq, Eq)]
+#[derive(Clone, Copy, Debug)]
 pub struct BridgeArgs<'a> {
     /// The name of a line, such as `connect:127.0.0.1:7000`.
     pub first: &'a str,

@@ -30,7 +30,7 @@ use ddcmp_proto::{Config, MAX_INBOX, MAX_SYN};
 use std::alloc::Global;
 
 /// A command with its options.
-#[derive(Clone, Copy, Debug, PartialEq, Eq)]
+#[derive(Clone, Copy, Debug)]
 pub enum Command<'a> {
     /// Explain an input.
     Explain(ExplainArgs<'a>),

@@ -2,7 +2,7 @@
 use ddcmp_explain::{Form, Style};
 
 /// An input that is to be explained, as the arguments give it.
-#[derive(Clone, Copy, Debug, PartialEq, Eq)]
+#[derive(Clone, Copy, Debug)]
 pub struct ExplainArgs<'a> {
     pub form: Form,
     /// How the input is written, if a word names that: `hexdump`, `xxd` or `od` a dump, `text`

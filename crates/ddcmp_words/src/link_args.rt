@@ -19,7 +19,7 @@ pub const USUAL_TIMER_MS: u32 = 3000;
 pub const USUAL_ATTEMPTS: u32 = u32::MAX;
 
 /// A link, as the arguments give it.
-#[derive(Clone, Copy, Debug, PartialEq, Eq)]
+#[derive(Clone, Copy, Debug)]
 pub struct LinkArgs<'a> {
     /// The name of the line, such as `connect:127.0.0.1:7000`.
     pub line: &'a str,

@@ -1,7 +1,7 @@
 //! Why the arguments name no command to run.
 
 /// Why no command is run.
-#[derive(Debug, Drop)]
+#[derive(Drop)]
 pub enum NoCommand {
     /// Help was asked for; this is its text.
     Help(String),

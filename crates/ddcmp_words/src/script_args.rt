@@ -3,7 +3,7 @@ use crate::view::View;
 use ddcmp_proto::Config;
 
 /// The two ends that a script begins with.
-#[derive(Clone, Copy, Debug, PartialEq, Eq)]
+#[derive(Clone, Copy, Debug)]
 pub struct Beginning {
     /// The sizes of both.
     pub config: Config,
@@ -12,7 +12,7 @@ pub struct Beginning {
 }
 
 /// A script between two ends, as the arguments give it.
-#[derive(Clone, Copy, Debug, PartialEq, Eq)]
+#[derive(Clone, Copy, Debug)]
 pub struct ScriptArgs<'a> {
     pub from: Beginning,
     pub view: View,

@@ -1,7 +1,7 @@
 //! The arguments of `station`.
 
 /// Who opens the connection of a station.
-#[derive(Clone, Copy, Debug, PartialEq, Eq)]
+#[derive(Clone, Copy, Debug)]
 pub enum Role {
     /// The station connects to a peer that listens.
     Connect,
@@ -10,7 +10,7 @@ pub enum Role {
 }
 
 /// A station over a connection, as the arguments give it.
-#[derive(Clone, Copy, Debug, PartialEq, Eq)]
+#[derive(Clone, Copy, Debug)]
 pub struct StationArgs<'a> {
     /// None if the word names no role; a station has one.
     pub role: Option<Role>,

@@ -12,7 +12,7 @@ use ddcmp_explain::Notation;
 use std::alloc::Global;
 
 /// A tap, as the arguments give it.
-#[derive(Clone, Copy, Debug, PartialEq, Eq)]
+#[derive(Clone, Copy, Debug)]
 pub struct TapArgs<'a> {
     /// The address that is listened at, such as `127.0.0.1:7000`.
     pub listen: &'a str,

@@ -13,7 +13,7 @@ use crate::devices::{Devices, Fault, Wanted};
 use crate::session::{End, Session};
 
 /// Why a run ended before all was delivered.
-#[derive(Clone, Copy, Debug, PartialEq, Eq)]
+#[derive(Clone, Copy, PartialEq, Eq)]
 pub enum Stop<R> {
     /// The line couldn't be opened, for this reason.
     NotOpened(R),

@@ -8,8 +8,8 @@ use Rattle.ddcmp_cli.proofs.explain_command.explain_source.Goals as goal
 pub returns-in-Ok-explain_detected-clause-explains
     : goal.returns-in-Ok-explain_detected-clause-explains
 returns-in-Ok-explain_detected-clause-explains g c = λ input e.
-    let asked : written c.args.explained.now ≡ Detected = sym c.written.ensures ∙ c.in-Detected.is in
-    subst (λ o. ExplainsBy o c.args.explained.now
+    let asked : written c.args.args.now ≡ Detected = sym c.written.ensures ∙ c.in-Detected.is in
+    subst (λ o. ExplainsBy o c.args.args.now
     (streams input (g.R.Source.left c.explain_detected.new.reader)
     (g.W.Sink.contents c.args.writer.now) (g.W.Sink.contents c.explain_detected.new.writer)) Done)
     (sym asked) (
@@ -21,8 +21,8 @@ returns-in-Ok-explain_detected-clause-explains g c = λ input e.
 pub returns-in-Err-explain_detected-clause-explains
     : goal.returns-in-Err-explain_detected-clause-explains
 returns-in-Err-explain_detected-clause-explains g c = λ input e.
-    let asked : written c.args.explained.now ≡ Detected = sym c.written.ensures ∙ c.in-Detected.is in
-    subst (λ o. ExplainsBy o c.args.explained.now
+    let asked : written c.args.args.now ≡ Detected = sym c.written.ensures ∙ c.in-Detected.is in
+    subst (λ o. ExplainsBy o c.args.args.now
     (streams input (g.R.Source.left c.explain_detected.new.reader)
     (g.W.Sink.contents c.args.writer.now) (g.W.Sink.contents c.explain_detected.new.writer))
     (Fault c.from-in-Err-explain_detected.result))

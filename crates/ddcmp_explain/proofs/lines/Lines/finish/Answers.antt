@@ -15,16 +15,16 @@ returns-clause-told g c = λ max start text h.
     let left_open =
     c.open-left_open.ensures.text text h.stands ∙ ap (λ m. open_at_end m text) h.max_is in
     let last =
-    ap (λ s. totals_in s.notation c.tell_end.new.self.items c.offset-bytes.result
+    ap (λ s. totals_in s.notation c.write_end.new.self.items c.offset-bytes.result
     c.open-left_open.result)
-    c.tell_end.ensures.style
+    c.write_end.ensures.style
     ∙ ap (λ n. totals_in was.style.notation n c.offset-bytes.result c.open-left_open.result)
-    (c.tell_end.ensures.items ∙ h.counted)
+    (c.write_end.ensures.items ∙ h.counted)
     ∙ ap (λ n. totals_in was.style.notation (length (items max text)) n c.open-left_open.result)
     bytes
     ∙ ap (λ n. totals_in was.style.notation (length (items max text)) (length text) n) left_open in
     let all =
-    sends-then (sends-then (c.tell_end.ensures.told max start text h bytes left_open)
+    sends-then (sends-then (c.write_end.ensures.told max start text h bytes left_open)
     (sends-as last c.write_last.ensures))
     c.flush.ensures.sends in
     written start _ _ _ _ c.flush.result

@@ -1,7 +1,7 @@
 use Rattle.std.proofs.Common.{◌∙◌, ap, false, sym}
 use Rattle.ddcmp_io.proofs.TextLaws.{sends-as}
 use Rattle.ddcmp_explain.specs.Discarded.{none_text}
-use Rattle.ddcmp_explain.proofs.lines.Lines.tell_none.Goals as goal
+use Rattle.ddcmp_explain.proofs.lines.Lines.write_none.Goals as goal
 
 pub returns-in-Plain-false-clause-told : goal.returns-in-Plain-false-clause-told
 returns-in-Plain-false-clause-told g c =

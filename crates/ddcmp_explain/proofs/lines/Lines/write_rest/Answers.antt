@@ -5,7 +5,7 @@ use Rattle.std.proofs.lemmas.List.{append-nil}
 use Rattle.ddcmp_explain.specs.Discarded.{open_header, open_text, opened, part_lines, passed}
 use Rattle.ddcmp_explain.specs.Inside.Heads.{Heads}
 use Rattle.ddcmp_explain.proofs.PartLaws.{lines-append, opened-some, opened-none}
-use Rattle.ddcmp_explain.proofs.lines.Lines.tell_rest.Goals as goal
+use Rattle.ddcmp_explain.proofs.lines.Lines.write_rest.Goals as goal
 
 pub returns-then-left_open-gt0-clause-told : goal.returns-then-left_open-gt0-clause-told
 returns-then-left_open-gt0-clause-told g c = λ p h o n.

@@ -6,7 +6,7 @@ use Rattle.ddcmp_frame.specs.Reading.{ending, items}
 use Rattle.ddcmp_explain.specs.Discarded.{none_text, opened, part_lines}
 use Rattle.ddcmp_explain.specs.Discarded.{passed, reached, rest_by}
 use Rattle.ddcmp_explain.specs.Inside.Progress.{BeginsWith, HasFound, ReachesTo}
-use Rattle.ddcmp_explain.proofs.lines.Lines.tell_end.Goals as goal
+use Rattle.ddcmp_explain.proofs.lines.Lines.write_end.Goals as goal
 
 pub returns-then-not-self-clause-told : goal.returns-then-not-self-clause-told
 returns-then-not-self-clause-told g c = λ max start text h b o.
@@ -25,7 +25,7 @@ returns-clause-told g c = λ max start text h b o.
     subst (λ t. ReachesTo t (items max text) was.reached.offset was.reached.taken) on
     h.reaches in
     let begins = subst (λ t. BeginsWith t was.head p.rest) on h.head in
-    let told = c.tell_rest.ensures.told p begins ends (sym o) in
+    let told = c.write_rest.ensures.told p begins ends (sym o) in
     let found = subst (λ t. HasFound t (items max text) was.is_found) on h.found in
     let last =
     sends-as
@@ -35,7 +35,7 @@ returns-clause-told g c = λ max start text h b o.
     told in
     let none =
     sends-as
-    (ap (λ s. none_text s.notation c.tell_rest.new.self.is_found) c.tell_rest.ensures.style
-    ∙ ap (none_text notation) (c.tell_rest.ensures.found ∙ found))
-    c.tell_none.ensures.told in
+    (ap (λ s. none_text s.notation c.write_rest.new.self.is_found) c.write_rest.ensures.style
+    ∙ ap (none_text notation) (c.write_rest.ensures.found ∙ found))
+    c.write_none.ensures.told in
     sends-as (ap (λ t. rest_by t notation max text) (sym on)) (sends-then last none)

@@ -5,7 +5,7 @@ use Rattle.ddcmp_core.specs.declared.notice.Notice.TheVariants.{Running}
 use Rattle.ddcmp_picture.specs.Labels.{notice_label}
 use Rattle.ddcmp_picture.specs.declared.mark.Mark.TheVariants.{Note}
 use Rattle.ddcmp_picture.proofs.NoteLaws.{logs_then, logs_none, notices_step, notices_none}
-use Rattle.ddcmp_picture.proofs.notes.tell_notices.Goals as goal
+use Rattle.ddcmp_picture.proofs.notes.draw_notices.Goals as goal
 
 pub loop-i-init : goal.loop-i-init
 loop-i-init g c = ([], logs_none _, refl)

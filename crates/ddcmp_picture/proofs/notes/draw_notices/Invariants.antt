@@ -2,7 +2,7 @@ use Rattle.std.proofs.Common.{◌≡◌, ◌++◌, ◌==◌, List, true, drop}
 use Rattle.ddcmp_io.specs.Device.{Logs}
 use Rattle.ddcmp_picture.specs.Marks.{notice_marks}
 use Rattle.ddcmp_picture.specs.declared.mark.Mark.{Mark}
-use Rattle.ddcmp_picture.proofs.notes.tell_notices.Given as goal
+use Rattle.ddcmp_picture.proofs.notes.draw_notices.Given as goal
 
 -- the marks so far, and those of what is left
 abbrev pub invariant-loop-i : goal.invariant-loop-i
