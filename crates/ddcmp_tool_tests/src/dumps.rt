@@ -2,6 +2,7 @@
 use crate::same::is;
 use ddcmp_explain::{DumpFault, NotDumped, Notation, Style, explain_dump};
 use ddcmp_frame::failing::{Pieces, Taken};
+use std::io;
 use std::process::Abort;
 
 /// An ACK as `hexdump -C` writes it, and the bytes after it as `xxd` does.
@@ -43,14 +44,46 @@ fn dumps_at_every_cut(rt: HostRuntime) {
 fn lines_that_are_none(rt: HostRuntime) {
     let none = Err(DumpFault::Line(NotDumped::NotALine(2)));
     for most in [1, 5, 4096] {
-        row(&rt, b"0000  05\nx\n0000  01\n", most, &none, b"");
-        row(&rt, b"0000\n0000  0\n", most, &none, b"");
-        row(&rt, b"\n0000: 05010\n", most, &none, b"");
-        row(&rt, b"0000\r\n0000  01\rx\n", most, &none, b"");
-        row(&rt, b"0000\n0000 01 0", most, &none, b"");
+        row(&rt, b"000000  05\nx\n000000  01\n", most, &none, b"");
+        row(&rt, b"000000\n000000  0\n", most, &none, b"");
+        row(&rt, b"\n000000: 05010\n", most, &none, b"");
+        row(&rt, b"000000\r\n000000  01\rx\n", most, &none, b"");
+        row(&rt, b"000000\n000000 01 0", most, &none, b"");
         let star = Err(DumpFault::Line(NotDumped::Star(3)));
-        row(&rt, b"0000  05\n\n*\n0010\n", most, &star, b"");
+        row(&rt, b"000000  05\n\n*\n000010\n", most, &star, b"");
     }
+}
+
+/// An address of so many digits, and what comes after it on its line.
+fn addressed(rt: &HostRuntime, digits: usize, rest: &[u8]) -> io::Result<Vec<u8>> {
+    let mut line = Vec::new(rt.alloc());
+    for _ in 0..digits {
+        line.push(b'0')?;
+    }
+    line.extend_from_slice(rest)?;
+    Ok(line)
+}
+
+#[test]
+fn addresses_of_every_length(rt: HostRuntime) -> io::Result<()> {
+    let none = Err(DumpFault::Line(NotDumped::NotALine(1)));
+    let one = b"items=0 bytes=1 open=1\n";
+    for digits in 1..40usize {
+        let is_address = 6 <= digits && digits <= 15;
+        for rest in [&b": 05\n"[..], b" 05\n", b"  05  |.|\r\n"] {
+            let line = addressed(&rt, digits, rest)?;
+            match is_address {
+                true => row(&rt, line.as_slice(), 7, &Ok(()), one),
+                false => row(&rt, line.as_slice(), 7, &none, b""),
+            }
+        }
+        let alone = addressed(&rt, digits, b"\n")?;
+        match is_address {
+            true => row(&rt, alone.as_slice(), 7, &Ok(()), b"items=0 bytes=0 open=0\n"),
+            false => row(&rt, alone.as_slice(), 7, &none, b""),
+        }
+    }
+    Ok(())
 }
 
 #[test]
