@@ -10,7 +10,7 @@ pub returns-clause-stations : goal.returns-clause-stations
 returns-clause-stations g c =
     connects (g.S.Connections.peers c.args.system.now)
     c.in-Some.role c.args.args.now c.in-Some-message_in.message.now _ _ _
-    (let is = c.in-Some.is in cc) (omega (arith, c.if-served.false))
+    (let is = c.in-Some.is in cc) (omega (arith, c.if-args.false))
     c.in-Some-message_in.ensures.bytes
     (let ends = ap Faulted c.from.ensures ∙ sym (ap (ending_of serve_fault) c.in-Err.is) in
     inr (
@@ -30,7 +30,7 @@ pub returns-in-Ok-clause-stations : goal.returns-in-Ok-clause-stations
 returns-in-Ok-clause-stations g c =
     connects (g.S.Connections.peers c.args.system.now)
     c.in-Some.role c.args.args.now c.in-Some-message_in.message.now _ _ _
-    (let is = c.in-Some.is in cc) (omega (arith, c.if-served.false))
+    (let is = c.in-Some.is in cc) (omega (arith, c.if-args.false))
     c.in-Some-message_in.ensures.bytes (inr (
       c.in-Some-connection.ensures.opens,
       record {
