@@ -280,7 +280,7 @@ def no_device():
         if ends:
             one = Link(f"device:{ends[0]}", "--seconds", "20")
             time.sleep(0.5)
-            wants("taken", Link(f"device:{ends[0]}", "--seconds", "2"), 3, f"ddcmp: open {ends[0]}: in use by another program")
+            wants("taken", Link(f"device:{ends[0]}", "--seconds", "2"), 3, f"ddcmp: open {ends[0]}: already in use")
             end = os.open(ends[1], os.O_RDWR | os.O_NOCTTY)
             os.write(end, STACK)
             if not one.waits(lambda it: b"Running" in it.said, 5):

@@ -210,7 +210,7 @@ fn lines(rt: HostRuntime) -> Result<(), Fail> {
         "open it: not of the other address's family",
     )?;
     tells(&rt, of, Cause::NotDevice, "open it: not a character device")?;
-    tells(&rt, of, Cause::InUse, "open it: in use by another program")
+    tells(&rt, of, Cause::InUse, "open it: already in use")
 }
 
 #[test]

@@ -42,7 +42,7 @@ pub enum Cause {
     OtherFamily,
     /// The file isn't a character device.
     NotDevice,
-    /// Another program has locked the device.
+    /// The device is locked: by another program, or as the other line of a bridge.
     InUse,
     /// The file is there already.
     Exists,
@@ -62,7 +62,7 @@ impl Cause {
             Cause::UnknownHost => "no such host",
             Cause::OtherFamily => "not of the other address's family",
             Cause::NotDevice => "not a character device",
-            Cause::InUse => "in use by another program",
+            Cause::InUse => "already in use",
             Cause::Exists => "file exists",
             Cause::Full => "no space left on device",
             Cause::Failed => "failed",

@@ -79,7 +79,13 @@ fn addresses_of_every_length(rt: HostRuntime) -> io::Result<()> {
         }
         let alone = addressed(&rt, digits, b"\n")?;
         match is_address {
-            true => row(&rt, alone.as_slice(), 7, &Ok(()), b"items=0 bytes=0 open=0\n"),
+            true => row(
+                &rt,
+                alone.as_slice(),
+                7,
+                &Ok(()),
+                b"items=0 bytes=0 open=0\n",
+            ),
             false => row(&rt, alone.as_slice(), 7, &none, b""),
         }
     }
