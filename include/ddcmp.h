@@ -117,7 +117,7 @@ struct ddcmp_config {
 };
 
 /* The default sizes. */
-#define DDCMP_USUAL { 7, 8, 1500, 0, 0 }
+#define DDCMP_DEFAULT_CONFIG { 7, 8, 1500, 0, 0 }
 
 struct ddcmp_notice {
     uint8_t kind;       /* enum ddcmp_kind */

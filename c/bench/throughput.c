@@ -50,7 +50,7 @@ static void take(struct end *end) {
 
 int main(int argc, char **argv) {
     static struct end ends[2];
-    const struct ddcmp_config config = DDCMP_USUAL;
+    const struct ddcmp_config config = DDCMP_DEFAULT_CONFIG;
     uint64_t count = argc > 1 ? strtoull(argv[1], NULL, 10) : 200000, rounds;
     uint8_t dropped;
     int i;

@@ -1,5 +1,5 @@
-/* A station over a TCP connection at 127.0.0.1: it sends one message, and prints what it is told and
-   handed. It ends well once its message is acknowledged and one came.
+/* A station over a TCP connection at 127.0.0.1: it sends one message, and prints its notices and what
+   it receives. It ends well once its message is acknowledged and one was received.
 
      tcp connect|listen PORT MESSAGE                                                             */
 #define _POSIX_C_SOURCE 200112L
@@ -64,7 +64,7 @@ static int connection(bool listens, unsigned short port) {
     return line;
 }
 
-static void told(const struct ddcmp_notice *notice) {
+static void print_notice(const struct ddcmp_notice *notice) {
     switch (notice->kind) {
     case DDCMP_NO_NOTICE:
         return;
@@ -100,7 +100,7 @@ static void hear(const uint8_t *piece, size_t length) {
     while (at < length) {
         must("feed", ddcmp_feed(&station, piece + at, length - at, &used, &notice));
         at += used;
-        told(&notice);
+        print_notice(&notice);
     }
     take_mail();
 }
@@ -122,7 +122,7 @@ static void speak(int line) {
     }
 }
 
-/* Sets the deadline of a timer that was started, and tells the station where it has come. */
+/* Sets the deadline of a timer that was started, and reports to the station where it expired. */
 static long keep_time(long deadline) {
     if (ddcmp_take_arm(&station))
         deadline = now_ms() + TIMER_MS;
@@ -161,7 +161,7 @@ static void talk(int line, const char *message) {
 }
 
 int main(int argc, char **argv) {
-    struct ddcmp_config config = DDCMP_USUAL;
+    struct ddcmp_config config = DDCMP_DEFAULT_CONFIG;
     uint8_t dropped;
     int line;
     if (argc != 4)

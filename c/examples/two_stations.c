@@ -80,7 +80,7 @@ static bool carry(struct end *from, struct end *to) {
     size_t written, next = ddcmp_next_length(&from->station);
     must("poll", ddcmp_poll(&from->station, to->line, FRAME, &written), DDCMP_OK);
     if (written != next)
-        wrong("poll", "another length than next_length told");
+        wrong("poll", "another length than next_length returned");
     if (written == 0)
         return false;
     from->frames++;
@@ -138,7 +138,7 @@ static void feed(struct end *end, unsigned from) {
 static struct end ends[2];
 
 static void begin(struct end *end) {
-    struct ddcmp_config config = DDCMP_USUAL, sizes;
+    struct ddcmp_config config = DDCMP_DEFAULT_CONFIG, sizes;
     uint8_t dropped;
     size_t written;
     config.window = (uint16_t)window;

@@ -50,8 +50,8 @@ static ddcmp_station a = DDCMP_NO_STATION, b = DDCMP_NO_STATION;
 static ddcmp_reader reader = DDCMP_NO_READER;
 static uint8_t out[ROOM], mail[MAX];
 
-/* All that is told of a station. */
-struct told {
+/* All that can be asked of a station. */
+struct seen {
     struct ddcmp_config config;
     struct ddcmp_numbers numbers;
     struct ddcmp_counters counters;
@@ -62,8 +62,8 @@ struct told {
     bool timer, room;
 };
 
-static struct told told_of(ddcmp_station *station) {
-    struct told t;
+static struct seen seen_of(ddcmp_station *station) {
+    struct seen t;
     memset(&t, 0, sizeof t);
     IS(ddcmp_config(station, &t.config) == DDCMP_OK);
     IS(ddcmp_numbers(station, &t.numbers) == DDCMP_OK);
@@ -162,18 +162,18 @@ static void refused_memory(void) {
 static void startup(void) {
     uint8_t dropped = 7;
     struct ddcmp_config got;
-    struct told before, after;
+    struct seen before, after;
     IS(ddcmp_config(&a, &got) == DDCMP_OK && memcmp(&got, &sizes, sizeof got) == 0);
     IS(ddcmp_frame_room(&a) == ROOM && ddcmp_state(&a) == DDCMP_HALTED);
     IS(ddcmp_start(&a, &dropped) == DDCMP_OK && dropped == 0);
-    before = told_of(&a);
+    before = seen_of(&a);
     dropped = 7;
     IS(ddcmp_start(&a, &dropped) == DDCMP_NOT_HALTED && dropped == 7);
     IS(ddcmp_enter_maintenance(&a, &dropped) == DDCMP_NOT_HALTED && dropped == 7);
     IS(!ddcmp_clear_line(&a));
     IS(ddcmp_send(&a, mail, 1, &dropped) == DDCMP_WRONG_STATE && dropped == 7);
     IS(ddcmp_send_maintenance(&a, mail, 1) == DDCMP_WRONG_STATE);
-    after = told_of(&a);
+    after = seen_of(&a);
     IS(memcmp(&before, &after, sizeof before) == 0);
     IS(ddcmp_start(&b, &dropped) == DDCMP_OK);
     IS(ddcmp_next_length(&a) == 8);
@@ -191,37 +191,37 @@ static void startup(void) {
 
 static void messages(void) {
     static uint8_t longer[MAX + 1];
-    struct told before, after;
+    struct seen before, after;
     uint8_t number = 0;
     size_t n = 0;
-    before = told_of(&a);
+    before = seen_of(&a);
     IS(ddcmp_send(&a, longer, 0, &number) == DDCMP_EMPTY);
     IS(ddcmp_send(&a, longer, MAX + 1, &number) == DDCMP_TOO_LONG && number == 0);
     IS(ddcmp_send_refusal(&a, longer, MAX + 1) == DDCMP_TOO_LONG);
     IS(ddcmp_send_refusal(&a, longer, 0) == DDCMP_EMPTY);
     IS(ddcmp_send_refusal(&a, longer, MAX) == DDCMP_OK);
-    after = told_of(&a);
+    after = seen_of(&a);
     IS(memcmp(&before, &after, sizeof before) == 0);
     IS(ddcmp_send(&a, (const uint8_t *)"abc", 3, &number) == DDCMP_OK && number == 1);
     IS(ddcmp_send(&a, (const uint8_t *)"defg", 4, &number) == DDCMP_OK && number == 2);
     IS(!ddcmp_room(&a) && ddcmp_outgoing(&a) == 2 && ddcmp_held(&a) == 7);
-    before = told_of(&a);
+    before = seen_of(&a);
     IS(ddcmp_send(&a, longer, 1, &number) == DDCMP_WINDOW_FULL && number == 2);
     IS(ddcmp_send_refusal(&a, longer, 1) == DDCMP_WINDOW_FULL);
     IS(ddcmp_poll(&a, out, ROOM - 1, &n) == DDCMP_ROOM && n == 0);
-    after = told_of(&a);
+    after = seen_of(&a);
     IS(memcmp(&before, &after, sizeof before) == 0);
     IS(ddcmp_next_length(&a) == 13);
     IS(pass(&a, &b) == DDCMP_HANDED_UP && pass(&a, &b) == DDCMP_HANDED_UP);
     IS(ddcmp_waiting(&b) == 2 && ddcmp_waiting_length(&b, 1) == 4);
     IS(ddcmp_waiting_length(&b, 2) == 0);
-    before = told_of(&b);
+    before = seen_of(&b);
     IS(ddcmp_waiting_at(&b, 2, mail, sizeof mail, &n) == DDCMP_ABSENT && n == 0);
     IS(ddcmp_waiting_at(&b, 1, mail, sizeof mail - 1, &n) == DDCMP_ROOM && n == 0);
     IS(ddcmp_take(&b, mail, sizeof mail - 1, &n) == DDCMP_ROOM && n == 0);
     IS(ddcmp_waiting_at(&b, 1, mail, sizeof mail, &n) == DDCMP_OK && n == 4);
     IS(memcmp(mail, "defg", 4) == 0);
-    after = told_of(&b);
+    after = seen_of(&b);
     IS(memcmp(&before, &after, sizeof before) == 0);
     IS(ddcmp_take(&b, mail, sizeof mail, &n) == DDCMP_OK && n == 3 && memcmp(mail, "abc", 3) == 0);
     IS(ddcmp_take(&b, mail, sizeof mail, &n) == DDCMP_OK && n == 4);
@@ -266,7 +266,7 @@ static void ends(void) {
 /* A halted station whose inbox isn't empty isn't started. */
 static void untaken(void) {
     uint8_t dropped, number;
-    struct told before, after;
+    struct seen before, after;
     IS(ddcmp_halt(&a) == DDCMP_OK && ddcmp_halt(&b) == DDCMP_OK);
     IS(ddcmp_clear_line(&a) && ddcmp_clear_line(&b));
     IS(ddcmp_start(&a, &dropped) == DDCMP_OK && dropped == 0);
@@ -277,11 +277,11 @@ static void untaken(void) {
     }
     IS(ddcmp_send(&a, (const uint8_t *)"x", 1, &number) == DDCMP_OK);
     IS(pass(&a, &b) == DDCMP_HANDED_UP && ddcmp_halt(&b) == DDCMP_OK);
-    before = told_of(&b);
+    before = seen_of(&b);
     dropped = 7;
     IS(ddcmp_start(&b, &dropped) == DDCMP_UNTAKEN && dropped == 7);
     IS(ddcmp_enter_maintenance(&b, &dropped) == DDCMP_UNTAKEN && dropped == 7);
-    after = told_of(&b);
+    after = seen_of(&b);
     IS(memcmp(&before, &after, sizeof before) == 0 && after.waiting == 1);
 }
 
@@ -289,20 +289,20 @@ static void untaken(void) {
 static void maintenance(void) {
     static const uint8_t longer[MAX + 1];
     uint8_t dropped;
-    struct told before, after;
+    struct seen before, after;
     IS(ddcmp_halt(&a) == DDCMP_OK && ddcmp_enter_maintenance(&a, &dropped) == DDCMP_OK);
     IS(ddcmp_state(&a) == DDCMP_MAINTENANCE);
-    before = told_of(&a);
+    before = seen_of(&a);
     IS(ddcmp_send_maintenance(&a, longer, 0) == DDCMP_EMPTY);
     IS(ddcmp_send_maintenance(&a, longer, MAX + 1) == DDCMP_TOO_LONG);
     IS(ddcmp_send_refusal(&a, longer, 1) == DDCMP_WRONG_STATE);
-    after = told_of(&a);
+    after = seen_of(&a);
     IS(memcmp(&before, &after, sizeof before) == 0);
     IS(ddcmp_send_maintenance(&a, longer, MAX) == DDCMP_OK);
     IS(ddcmp_send_maintenance(&a, longer, 1) == DDCMP_OK);
-    before = told_of(&a);
+    before = seen_of(&a);
     IS(ddcmp_send_maintenance(&a, longer, 1) == DDCMP_WINDOW_FULL);
-    after = told_of(&a);
+    after = seen_of(&a);
     IS(memcmp(&before, &after, sizeof before) == 0 && after.outgoing == 2);
 }
 

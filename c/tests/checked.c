@@ -22,7 +22,7 @@ int main(void) {
     struct ddcmp_header header = { 0, DDCMP_HEADER_ACK, 0, 0, 0, 0, 0, 1 };
     struct ddcmp_item item;
     uint8_t out[8];
-    struct ddcmp_config config = DDCMP_USUAL;
+    struct ddcmp_config config = DDCMP_DEFAULT_CONFIG;
     struct ddcmp_notice notice;
     size_t used = 7, written = 7;
     uint8_t number;

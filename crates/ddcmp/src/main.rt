@@ -6,7 +6,7 @@ use ddcmp_frame::{FromRead, ToWrite};
 use std::process::ExitCode;
 use std::{env, io};
 
-/// Whether the arguments are those of `link`, which no standard error holds up.
+/// Returns whether the arguments are those of `link`, which no standard error holds up.
 fn is_link(words: &io::Result<Vec<String>>) -> bool {
     match words {
         Ok(words) => words.get(1).map(|word| word.as_str()) == Some("link"),

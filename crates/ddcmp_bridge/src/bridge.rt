@@ -37,7 +37,7 @@ pub struct Bridge {
     back: Flow,
 }
 
-// By hand, so that it is dropped by a call: a derived one is written out at each such place.
+// Manual, since a derived `Drop` is expanded wherever it is dropped.
 impl Drop for Bridge {
     fn drop(self) {
         let Bridge {

@@ -26,7 +26,7 @@ pub(crate) struct DelayLine {
     spare: Vec<Vec<u8>>,
 }
 
-// By hand, so that it is dropped by a call: a derived one is written out at each such place.
+// Manual, since a derived `Drop` is expanded wherever it is dropped.
 impl Drop for DelayLine {
     fn drop(self) {
         let DelayLine {

@@ -29,7 +29,7 @@ pub struct Direction {
     line: DelayLine,
 }
 
-// By hand, so that it is dropped by a call: a derived one is written out at each such place.
+// Manual, since a derived `Drop` is expanded wherever it is dropped.
 impl Drop for Direction {
     fn drop(self) {
         let Direction {

@@ -55,7 +55,7 @@ pub(crate) fn draw_fate(faults: &Faults, draws: &mut Pcg32, length: usize) -> Fa
 }
 
 /// Makes of the frame at the front of `space` what is left of it; returns how many bytes.
-pub(crate) fn suffer(space: &mut [u8], end: usize, fate: Fate) -> usize
+pub(crate) fn apply_fault(space: &mut [u8], end: usize, fate: Fate) -> usize
     requires end { end ≤ length space.old }
     requires within { IsWithin end fate }
     ensures left { take result space.new ≡ after_fate fate (take end space.old) }

@@ -26,7 +26,7 @@ pub(crate) struct Flow {
     end: usize,
 }
 
-// By hand, so that it is dropped by a call: a derived one is written out at each such place.
+// Manual, since a derived `Drop` is expanded wherever it is dropped.
 impl Drop for Flow {
     fn drop(self) {
         let Flow {

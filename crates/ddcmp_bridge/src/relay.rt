@@ -10,7 +10,7 @@ ghost use Rattle.ddcmp_bridge.specs.Relaying.{IsOfOneFrame, Relays, counts_of, f
 ghost use Rattle.ddcmp_bridge.specs.Relaying.{fate_given, fates_in, relayed};
 
 use crate::counts::Counts;
-use crate::faults::{Fate, Faults, draw_fate, start_draws, suffer};
+use crate::faults::{Fate, Faults, apply_fault, draw_fate, start_draws};
 use ddcmp_frame::{Header, Item, MAX_COUNT, Pushed, Reader, write_frame};
 use rand_pcg::Pcg32;
 use std::alloc::Global;
@@ -84,7 +84,7 @@ pub struct Relay {
     altered: u64,
 }
 
-// By hand, so that a relay is dropped by a call: a derived one is written out at each such place.
+// Manual, since a derived `Drop` is expanded wherever a relay is dropped.
 impl Drop for Relay {
     fn drop(self) {
         let Relay {
@@ -194,7 +194,7 @@ impl Relay {
         let length = write_frame(&header, self.frames.data(), self.frame.as_mut_slice());
         let fate = draw_fate(&self.faults, &mut self.draws, length);
         self.from = 0;
-        self.end = suffer(self.frame.as_mut_slice(), length, fate);
+        self.end = apply_fault(self.frame.as_mut_slice(), length, fate);
         self.good += 1;
         self.bytes += length as u128;
         self.lost += is_lost(&fate);

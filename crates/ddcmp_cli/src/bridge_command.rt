@@ -19,7 +19,7 @@ use std::alloc::Global;
 const NO_LINE: &str =
     "a LINE is connect:HOST:PORT, listen:HOST:PORT, udp:LOCAL,REMOTE or device:PATH";
 
-/// How the program ends if a bridge ended so: what it counted is written first.
+/// Returns how the program ends if a bridge ended so: what it counted is written first.
 fn ending_of<W: Sink>(
     alloc: Global,
     ended: Result<BridgeEnd, BridgeFault<'_>>,
@@ -51,7 +51,7 @@ fn report<W: Sink>(end: &BridgeEnd, writer: &mut W) -> Ending
     }
 }
 
-/// How the frames that come are printed: drawn if they are to be drawn and printed.
+/// Returns how the frames that come are printed: drawn if they are to be drawn and printed.
 fn traced_as(args: &BridgeArgs<'_>) -> Option<Notation>
     ensures { result ≡ trace_of args.now }
 {

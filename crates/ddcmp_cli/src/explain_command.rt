@@ -34,7 +34,7 @@ const NO_PAIR: &str = "'--ladder' draws two files, FILE and SECOND";
 /// The usage error for two files without `--ladder`.
 const NO_LADDER: &str = "SECOND is for '--ladder'";
 
-/// What is typed at a terminal.
+/// Returns what is typed at a terminal.
 fn typed(args: &ExplainArgs<'_>) -> &'static str {
     match written(args) {
         Written::Dump => "a dump",
@@ -129,8 +129,7 @@ fn explain_one<I: Inputs, R: Source, W: Sink>(
     }
 }
 
-/// Whether the word for what the input comes from is none that is known, or stands beside bytes as
-/// they are.
+/// Returns whether `--from` is unknown, or used with `--raw`.
 fn is_misused(form: Form, from: Option<&str>) -> bool
     ensures { result ≡ is_misused_by form from.entry }
 {

@@ -12,7 +12,7 @@ use ddcmp_service::{
     BridgeEnd, BridgeFault, BridgeOptions, LineName, NotOpened, Options, Served, ServiceFault,
     bridge_lines, serve_link,
 };
-use ddcmp_words::link_args::{LinkArgs, USUAL_ATTEMPTS, USUAL_TIMER_MS};
+use ddcmp_words::link_args::{DEFAULT_ATTEMPTS, DEFAULT_TIMER_MS, LinkArgs};
 use std::alloc::Global;
 
 /// The usage error for another value of `--line`.
@@ -20,18 +20,18 @@ const NO_LINE: &str =
     "'--line' is connect:HOST:PORT, listen:HOST:PORT, udp:LOCAL,REMOTE or device:PATH";
 
 /// The usage error for options that mean nothing in maintenance mode.
-const NOT_IN_MAINTENANCE: &str = "'--maintenance' acknowledges nothing: \
-    it takes no '--window', '--restart', '--timer-ms' or '--attempts'";
+const NOT_IN_MAINTENANCE: &str = "'--maintenance' can't be used with \
+    '--window', '--restart', '--timer-ms' or '--attempts'";
 
-/// Whether options were given that mean nothing in maintenance mode.
+/// Returns whether options were given that mean nothing in maintenance mode.
 fn means_nothing(options: &Options) -> bool
     ensures { result ≡ means_nothing options.now }
 {
     options.maintenance
-        && (options.config.window != Config::USUAL.window
+        && (options.config.window != Config::DEFAULT.window
             || options.config.restart
-            || options.timer_ms != USUAL_TIMER_MS
-            || options.attempts != USUAL_ATTEMPTS)
+            || options.timer_ms != DEFAULT_TIMER_MS
+            || options.attempts != DEFAULT_ATTEMPTS)
 }
 
 /// The ending if the line can't be opened.
@@ -131,7 +131,7 @@ pub(crate) fn link<S: Lines, R: Source, W: Sink>(
     ending_of(alloc, ended)
 }
 
-/// How the program ends if a link ended so.
+/// Returns how the program ends if a link ended so.
 fn ending_of(alloc: Global, ended: Result<Served, ServiceFault<'_>>) -> Ending
     ensures ends { LinkEnds ended.entry result }
     ensures write { (result ≡ Ending.Fault Fault.Write) ↔ (ended.entry ≡ Err ServiceFault.Write) }

@@ -21,7 +21,7 @@ pub(crate) fn origin_of(word: &str) -> Option<Written>
     }
 }
 
-/// How the input is written: as `--from` names it, else in its form.
+/// Returns how the input is written: as `--from` names it, else in its form.
 pub(crate) fn written(args: &ExplainArgs<'_>) -> Written
     ensures { result ≡ written_of args.now }
 {

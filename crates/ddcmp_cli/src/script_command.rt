@@ -164,7 +164,7 @@ fn show_pair<N: Net<Stream = TcpStream>, R: Source, W: Sink>(
     show_over(alloc, from, view, &mut sockets, reader, writer)
 }
 
-/// Whether both pictures are asked for.
+/// Returns whether both pictures are asked for.
 fn are_two(view: View) -> bool
     ensures { result ≡ (view.svg && view.ladder) }
 {

@@ -38,7 +38,7 @@ fn not_opened<'a>(args: &TapArgs<'a>, why: NotMade) -> NotOpened<'a>
     }
 }
 
-/// How the program ends if a tap ended so.
+/// Returns how the program ends if a tap ended so.
 fn ending_of_fault(alloc: Global, args: &TapArgs<'_>, fault: TapFault) -> Ending
     ensures ends { TapEnds (Err fault) result }
     ensures write { fault ≡ TapFault.Report → result ≡ Ending.Fault Fault.Write }
@@ -63,7 +63,7 @@ pub(crate) fn is_json(notation: Notation) -> bool
     }
 }
 
-/// How the tap logs the traffic.
+/// Returns how the tap logs the traffic.
 fn notation_of(args: &TapArgs<'_>) -> TapNotation
     ensures { result ≡ notation args.now }
 {

@@ -62,7 +62,8 @@ fn faults_of_the_system_have_a_line(rt: HostRuntime) -> Result<(), Fail> {
     is_fault_told(&rt, Fault::Memory, 3, "ddcmp: memory\n")
 }
 
-/// What a run over memory ends as, and what it wrote; the write `fails_at` fails, 0 is none.
+/// Returns what a run over memory ends as, and what it wrote; the write `fails_at` fails, 0 is
+/// none.
 fn ran(rt: &impl System, words: &[&str], input: &[u8], fails_at: usize) -> (Ending, Taken<4096>) {
     let mut reader = Pieces::of(input);
     let mut writer = Taken::new().failing_at(fails_at);
@@ -148,7 +149,7 @@ fn a_far_byte_is_told(rt: HostRuntime) {
     assert!(rt; text.bytes().is_empty());
 }
 
-/// What a run with the words of the system ends as, and what it wrote.
+/// Returns what a run with the words of the system ends as, and what it wrote.
 fn ran_args(rt: &impl System, args: io::Result<Vec<String>>) -> (u8, Taken<4096>) {
     let mut reader = Pieces::of(b"050100000001fc55");
     let mut writer = Taken::new();
@@ -182,12 +183,12 @@ fn words_that_are_no_text_are_told(rt: HostRuntime) {
     has_status(&rt, Err(refused), 3, b"");
 }
 
-/// What words ask for.
+/// Returns what words ask for.
 fn read<'a>(alloc: Global, words: &'a [&'a str]) -> Result<Command<'a>, NoCommand> {
     read_words(alloc, words)
 }
 
-/// Why words ask for nothing: whether it is their usage, and the text.
+/// Returns why words ask for nothing: whether it is their usage, and the text.
 fn text_of(alloc: Global, words: &[&str]) -> Option<(bool, String)> {
     match read(alloc, words) {
         Ok(_command) => None,

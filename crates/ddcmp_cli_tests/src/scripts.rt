@@ -14,7 +14,7 @@ use std::net::{Net, Shutdown, SocketAddr, TcpListener, TcpStream};
 use std::process::Abort;
 use std::time::{Clock, Duration};
 
-/// What a script ends as on a system, and what it wrote.
+/// Returns what a script ends as on a system, and what it wrote.
 fn played(
     rt: &impl AllocGlobal,
     system: &(impl Net<Stream = TcpStream> + Eprint + Clock + Inputs + Connections + Lines),

@@ -35,7 +35,7 @@ fn words<'a>(
     ]
 }
 
-/// What a station ends as, and what it wrote.
+/// Returns what a station ends as, and what it wrote.
 fn stationed(rt: &impl System, words: &[&str], fails_at: usize) -> (Ending, Taken<4096>) {
     let mut reader = Pieces::of(b"");
     let mut writer = Taken::new().failing_at(fails_at);

@@ -36,7 +36,7 @@ fn dumps(rt: HostRuntime) -> Result<(), Fail> {
     reads(
         &rt,
         &star,
-        "line 2: a * stands for lines left out: dump with -v",
+        "line 2: repeated lines left out (*): dump with -v",
     )?;
     reads(&rt, &DumpFault::Read, "read")?;
     reads(&rt, &DumpFault::Write, "write")?;
@@ -109,7 +109,7 @@ fn files(rt: HostRuntime) -> Result<(), Fail> {
     Ok(())
 }
 
-/// What is reported of an attempt at a line of the name `it` that failed so.
+/// Returns what is reported of an attempt at a line of the name `it` that failed so.
 fn tells(
     rt: &(impl Abort + AllocGlobal),
     attempt: Attempt,

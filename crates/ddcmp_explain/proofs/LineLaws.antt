@@ -9,10 +9,10 @@ use Rattle.ddcmp_explain.specs.declared.notation.Notation.{Notation}
 use Rattle.ddcmp_explain.specs.declared.notation.Notation.TheVariants.{Plain, Json}
 use Rattle.ddcmp_explain.specs.Text.{item_text, lends, line_of}
 use Rattle.ddcmp_explain.specs.Json.{json_item, json_line_of, member, quoted}
-use Rattle.ddcmp_explain.specs.Output.{behind_in, front_in, line_in}
+use Rattle.ddcmp_explain.specs.Output.{after_in, front_in, line_in}
 
 pub line-with-data : (notation : Notation) (item : Item) (lent : List ℕ) → true ≡ lends item
-    → (front_in notation item ++ encode_lower lent) ++ behind_in notation
+    → (front_in notation item ++ encode_lower lent) ++ after_in notation
     ≡ line_in notation (item, lent)
 unfolding line_of json_line_of
 line-with-data Plain item lent e =

@@ -19,9 +19,9 @@ front_in Plain item = front_text item
 front_in Json item = json_front item
 
 -- what stands after data
-abbrev pub behind_in : Notation → List ℕ
-behind_in Plain = codes "\n"
-behind_in Json = codes "\"}\n"
+abbrev pub after_in : Notation → List ℕ
+after_in Plain = codes "\n"
+after_in Json = codes "\"}\n"
 
 -- the lines of the items of some bytes
 unfoldable pub lines : Notation → ℕ → List ℕ → List ℕ

@@ -14,21 +14,21 @@ use crate::text::put_header;
 use ddcmp_frame::Header;
 use ddcmp_io::{Page, Sink};
 
-fn put_passed(line: &mut [u8; LINE], notation: Notation, from: u64, count: u64) -> usize
+fn put_skipped(line: &mut [u8; LINE], notation: Notation, from: u64, count: u64) -> usize
     ensures puts { Puts line.old 0 line.new result (passed_text notation from count) }
     ensures within { result ≤ 80 }
 {
     match notation {
         Notation::Plain => {
-            let behind_offset = put_number(line, 0, from);
-            let at_count = put(line, behind_offset, b" discarded ");
-            let behind_count = put_number(line, at_count, count);
-            put(line, behind_count, b"\n")
+            let after_offset = put_number(line, 0, from);
+            let at_count = put(line, after_offset, b" discarded ");
+            let after_count = put_number(line, at_count, count);
+            put(line, after_count, b"\n")
         }
         Notation::Json => {
             let at_count = put_start(line, from, b",\"discarded\":");
-            let behind_count = put_number(line, at_count, count);
-            put(line, behind_count, b"}\n")
+            let after_count = put_number(line, at_count, count);
+            put(line, after_count, b"}\n")
         }
     }
 }
@@ -45,20 +45,20 @@ pub fn write_discarded<W: Sink>(
         (output_of W.broken W.contents writer.new page.new) (passed_text notation from count) }
 {
     let mut line = [0; LINE];
-    let end = put_passed(&mut line, notation, from, count);
+    let end = put_skipped(&mut line, notation, from, count);
     page.write(writer, &line[..end]);
 }
 
-/// What is open, up to its numbers, in words.
+/// Writes what is open, up to its numbers, in words.
 fn put_open_words(line: &mut [u8; LINE], offset: u64, header: &Option<Header>) -> usize
     ensures puts { Puts line.old 0 line.new result (open_front Notation.Plain offset header.now) }
     ensures within { result ≤ 110 }
 {
-    let behind_offset = put_number(line, 0, offset);
+    let after_offset = put_number(line, 0, offset);
     match header {
-        None => put(line, behind_offset, b" unfinished header"),
+        None => put(line, after_offset, b" unfinished header"),
         Some(header) => {
-            let at_header = put(line, behind_offset, b" unfinished ");
+            let at_header = put(line, after_offset, b" unfinished ");
             put_header(line, at_header, header)
         }
     }
@@ -101,17 +101,17 @@ fn put_open_end(line: &mut [u8; LINE], notation: Notation, have: u64, whole: u64
     match notation {
         Notation::Plain => {
             let at_have = put(line, 0, b" ");
-            let behind_have = put_number(line, at_have, have);
-            let at_whole = put(line, behind_have, b" of ");
-            let behind_whole = put_number(line, at_whole, whole);
-            put(line, behind_whole, b"\n")
+            let after_have = put_number(line, at_have, have);
+            let at_whole = put(line, after_have, b" of ");
+            let after_whole = put_number(line, at_whole, whole);
+            put(line, after_whole, b"\n")
         }
         Notation::Json => {
             let at_have = put(line, 0, b",\"have\":");
-            let behind_have = put_number(line, at_have, have);
-            let at_whole = put(line, behind_have, b",\"of\":");
-            let behind_whole = put_number(line, at_whole, whole);
-            put(line, behind_whole, b"}\n")
+            let after_have = put_number(line, at_have, have);
+            let at_whole = put(line, after_have, b",\"of\":");
+            let after_whole = put_number(line, at_whole, whole);
+            put(line, after_whole, b"}\n")
         }
     }
 }

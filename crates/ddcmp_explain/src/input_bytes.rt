@@ -162,7 +162,7 @@ impl<R: Source> InputBytes<R> {
         decoded.count
     }
 
-    /// Why the input isn't read on.
+    /// Returns why the input isn't read on.
     fn wrong(&self) -> DetectedFault {
         match (self.written, self.unexpected) {
             (Written::Dump, _) => DetectedFault::Line(self.dump.not_dumped()),

@@ -40,10 +40,10 @@ fn put_fields(line: &mut [u8; LINE], at: usize, flags: Flags, resp: u8, num: u8,
     ensures puts { Puts line.old at line.new result (json_fields flags resp num addr) }
     ensures within { result ≤ at + 44 }
 {
-    let behind_flags = put(line, at, flag_members(flags));
-    let behind_resp = put_member(line, behind_flags, b",\"resp\":", resp);
-    let behind_num = put_member(line, behind_resp, b",\"num\":", num);
-    put_member(line, behind_num, b",\"addr\":", addr)
+    let after_flags = put(line, at, flag_members(flags));
+    let after_resp = put_member(line, after_flags, b",\"resp\":", resp);
+    let after_num = put_member(line, after_resp, b",\"num\":", num);
+    put_member(line, after_num, b",\"addr\":", addr)
 }
 
 fn kind_value(kind: ControlType) -> &'static [u8]
@@ -67,11 +67,11 @@ fn put_reason_member(line: &mut [u8; LINE], at: usize, reason: Nak) -> usize
     ensures within { result ≤ at + 42 }
 {
     let at_name = put(line, at, b",\"reason\":\"");
-    let behind_name = put_slice(line, at_name, reason_name(reason));
-    put(line, behind_name, b"\"")
+    let after_name = put_slice(line, at_name, reason_name(reason));
+    put(line, after_name, b"\"")
 }
 
-/// Why a NAK was sent, from its SUBTYPE.
+/// Writes why a NAK was sent, from its SUBTYPE.
 fn put_reason(line: &mut [u8; LINE], at: usize, kind: ControlType, sub: u8) -> usize
     requires { at + 42 ≤ LINE }
     ensures puts { Puts line.old at line.new result (json_reason kind sub) }
@@ -93,10 +93,10 @@ fn put_control(line: &mut [u8; LINE], at: usize, h: &Short) -> usize
         ++ json_fields h.now.flags h.now.resp h.now.num h.now.addr) }
     ensures within { result ≤ at + 103 }
 {
-    let behind_kind = put_slice(line, at, kind_value(h.kind));
-    let behind_sub = put_member(line, behind_kind, b",\"sub\":", h.sub);
-    let behind_reason = put_reason(line, behind_sub, h.kind, h.sub);
-    put_fields(line, behind_reason, h.flags, h.resp, h.num, h.addr)
+    let after_kind = put_slice(line, at, kind_value(h.kind));
+    let after_sub = put_member(line, after_kind, b",\"sub\":", h.sub);
+    let after_reason = put_reason(line, after_sub, h.kind, h.sub);
+    put_fields(line, after_reason, h.flags, h.resp, h.num, h.addr)
 }
 
 /// A name as a value, and the fields of a header with COUNT.
@@ -111,10 +111,10 @@ fn put_counted<const N: usize>(
     ensures puts { Puts line.old at line.new result (name.now ++ json_counted h.now) }
     ensures within { result ≤ at + 80 }
 {
-    let behind_name = put(line, at, name);
-    let at_count = put(line, behind_name, b",\"count\":");
-    let behind_count = put_number(line, at_count, h.count as u64);
-    put_fields(line, behind_count, h.flags, h.resp, h.num, h.addr)
+    let after_name = put(line, at, name);
+    let at_count = put(line, after_name, b",\"count\":");
+    let after_count = put_number(line, at_count, h.count as u64);
+    put_fields(line, after_count, h.flags, h.resp, h.num, h.addr)
 }
 
 /// Puts the name of a header as a value, and its fields; returns where they end.
@@ -150,8 +150,8 @@ pub(crate) fn put_start(line: &mut [u8; LINE], offset: u64, text: &[u8]) -> usiz
     ensures within { result ≤ 30 + length text.now }
 {
     let at_offset = put(line, 0, b"{\"offset\":");
-    let behind_offset = put_number(line, at_offset, offset);
-    put_slice(line, behind_offset, text)
+    let after_offset = put_number(line, at_offset, offset);
+    put_slice(line, after_offset, text)
 }
 
 /// Puts the header of a frame that was damaged or too long; returns where it ends.
@@ -165,7 +165,7 @@ fn put_damaged(line: &mut [u8; LINE], at: usize, header: &Header) -> usize
     put_header(line, at_header, header)
 }
 
-/// What an item is, without the end of its object.
+/// Writes what an item is, without the end of its object.
 #[tactic(auto, unfolding(crate::specs::Json::json_item))]
 fn put_item(line: &mut [u8; LINE], item: &Item) -> usize
     ensures puts { Puts line.old 0 line.new result (json_item item.now) }
@@ -178,16 +178,16 @@ fn put_item(line: &mut [u8; LINE], item: &Item) -> usize
         }
         Item::HeaderCheck(offset) => put_start(line, *offset, b",\"item\":\"header check\""),
         Item::DataCheck(offset, header) => {
-            let behind_item = put_start(line, *offset, b",\"item\":\"data check\"");
-            put_damaged(line, behind_item, header)
+            let after_item = put_start(line, *offset, b",\"item\":\"data check\"");
+            put_damaged(line, after_item, header)
         }
         Item::TooLong(offset, header) => {
-            let behind_item = put_start(line, *offset, b",\"item\":\"too long\"");
-            put_damaged(line, behind_item, header)
+            let after_item = put_start(line, *offset, b",\"item\":\"too long\"");
+            put_damaged(line, after_item, header)
         }
         Item::Format(offset, fault) => {
-            let behind_item = put_start(line, *offset, b",\"item\":\"format\"");
-            put_fault(line, behind_item, fault)
+            let after_item = put_start(line, *offset, b",\"item\":\"format\"");
+            put_fault(line, after_item, fault)
         }
     }
 }
@@ -207,8 +207,8 @@ pub(crate) fn put_json_front(line: &mut [u8; LINE], item: &Item) -> usize
     ensures puts { Puts line.old 0 line.new result (json_front item.now) }
     ensures within { result ≤ 170 }
 {
-    let behind_item = put_item(line, item);
-    put_slice(line, behind_item, item_end(item))
+    let after_item = put_item(line, item);
+    put_slice(line, after_item, item_end(item))
 }
 
 /// Puts the last line: how many items, how many bytes, and how many of these of an unfinished
@@ -224,10 +224,10 @@ pub(crate) fn put_json_totals(
     ensures within { result ≤ 90 }
 {
     let at_items = put(line, 0, b"{\"items\":");
-    let behind_items = put_number(line, at_items, items);
-    let at_bytes = put(line, behind_items, b",\"bytes\":");
-    let behind_bytes = put_number(line, at_bytes, bytes);
-    let at_open = put(line, behind_bytes, b",\"open\":");
-    let behind_open = put_number(line, at_open, left_open);
-    put(line, behind_open, b"}\n")
+    let after_items = put_number(line, at_items, items);
+    let at_bytes = put(line, after_items, b",\"bytes\":");
+    let after_bytes = put_number(line, at_bytes, bytes);
+    let at_open = put(line, after_bytes, b",\"open\":");
+    let after_open = put_number(line, at_open, left_open);
+    put(line, after_open, b"}\n")
 }

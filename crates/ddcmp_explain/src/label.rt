@@ -22,10 +22,10 @@ fn put_nak_label(line: &mut [u8; LINE], at: usize, sub: u8, resp: u8) -> usize
     ensures within { result ≤ at + 49 }
 {
     let at_sub = put(line, at, b"NAK ");
-    let behind_sub = put_byte(line, at_sub, sub);
-    let at_reason = put(line, behind_sub, b" (");
-    let behind_reason = put_slice(line, at_reason, reason_name(Nak::of(sub)));
-    let at_resp = put(line, behind_reason, b") resp=");
+    let after_sub = put_byte(line, at_sub, sub);
+    let at_reason = put(line, after_sub, b" (");
+    let after_reason = put_slice(line, at_reason, reason_name(Nak::of(sub)));
+    let at_resp = put(line, after_reason, b") resp=");
     put_byte(line, at_resp, resp)
 }
 
@@ -78,8 +78,8 @@ fn put_count_label(line: &mut [u8; LINE], at: usize, count: u16) -> usize
     ensures within { result ≤ at + 29 }
 {
     let at_count = put(line, at, b" (");
-    let behind_count = put_number(line, at_count, count as u64);
-    put_unit(line, behind_count, count)
+    let after_count = put_number(line, at_count, count as u64);
+    put_unit(line, after_count, count)
 }
 
 fn put_data_label(line: &mut [u8; LINE], at: usize, num: u8, resp: u8, count: u16) -> usize
@@ -89,10 +89,10 @@ fn put_data_label(line: &mut [u8; LINE], at: usize, num: u8, resp: u8, count: u1
     ensures within { result ≤ at + 46 }
 {
     let at_num = put(line, at, b"DATA ");
-    let behind_num = put_byte(line, at_num, num);
-    let at_resp = put(line, behind_num, b" resp=");
-    let behind_resp = put_byte(line, at_resp, resp);
-    put_count_label(line, behind_resp, count)
+    let after_num = put_byte(line, at_num, num);
+    let at_resp = put(line, after_num, b" resp=");
+    let after_resp = put_byte(line, at_resp, resp);
+    put_count_label(line, after_resp, count)
 }
 
 /// Puts the label of a frame, by its header; returns where it ends.
@@ -104,8 +104,8 @@ fn put_frame_label(line: &mut [u8; LINE], at: usize, header: &Header) -> usize
     match header {
         Header::Data(h) => put_data_label(line, at, h.num, h.resp, h.count),
         Header::Maint(h) => {
-            let behind_name = put(line, at, b"MAINT");
-            put_count_label(line, behind_name, h.count)
+            let after_name = put(line, at, b"MAINT");
+            put_count_label(line, after_name, h.count)
         }
         Header::Control(h) => put_control_label(line, at, h.kind, h.sub, h.resp, h.num),
     }

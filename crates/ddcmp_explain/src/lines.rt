@@ -155,12 +155,12 @@ impl Lines {
             (passed (self.old.reached.offset + self.old.reached.taken) (item_offset item.now))) }
     {
         let reached = reached_by(item);
-        self.pass_to(writer, reached.offset);
+        self.write_skipped_to(writer, reached.offset);
         self.reached = reached;
     }
 
     /// Writes the line of what was skipped up to an offset.
-    fn pass_to<W: Sink>(&mut self, writer: &mut W, to: u64)
+    fn write_skipped_to<W: Sink>(&mut self, writer: &mut W, to: u64)
         ensures frames { self.new.frames ≡ self.old.frames }
         ensures style { self.new.style ≡ self.old.style }
         ensures items { self.new.items ≡ self.old.items }
@@ -198,7 +198,7 @@ impl Lines {
             (part_lines self.old.style.notation
             (passed (self.old.reached.offset + self.old.reached.taken) end ++ opened p)) }
     {
-        self.pass_to(writer, end);
+        self.write_skipped_to(writer, end);
         if 0 < left_open {
             write_open(
                 &mut self.page,

@@ -1,7 +1,7 @@
 //! How lines are written.
 ghost use Rattle.std.specs.Prelude.{◌≤◌};
 ghost use Rattle.ddcmp_io.specs.Written.{HandsOver, output_of};
-ghost use Rattle.ddcmp_explain.specs.Output.{behind_in, front_in, line_in, totals_in};
+ghost use Rattle.ddcmp_explain.specs.Output.{after_in, front_in, line_in, totals_in};
 ghost use Rattle.ddcmp_explain.specs.Inside.Putting.{Puts};
 
 use crate::json::{put_json_front, put_json_totals};
@@ -35,9 +35,9 @@ impl Notation {
 
     /// Writes what comes after data.
     #[inline(always)]
-    fn write_behind<W: Sink>(self, page: &mut Page, writer: &mut W)
+    fn write_after<W: Sink>(self, page: &mut Page, writer: &mut W)
         ensures { HandsOver (output_of W.broken W.contents writer.old page.old)
-            (output_of W.broken W.contents writer.new page.new) (behind_in self) }
+            (output_of W.broken W.contents writer.new page.new) (after_in self) }
     {
         match self {
             Notation::Plain => page.write(writer, b"\n"),
@@ -91,7 +91,7 @@ pub(crate) fn write_item_by<W: Sink>(
     page.write(writer, &line[..end]);
     if lends(item) {
         write_hex(page, writer, data);
-        notation.write_behind(page, writer);
+        notation.write_after(page, writer);
     }
 }
 

@@ -51,7 +51,7 @@ pub(crate) fn put_byte(line: &mut [u8; LINE], at: usize, number: u8) -> usize
     ensures within { result ≤ at + 3 }
 {
     let (digits, length) = byte_text(number);
-    let _behind_three = put(line, at, &digits);
+    let _after_three = put(line, at, &digits);
     at + length
 }
 

@@ -35,7 +35,7 @@ fn put_kind(line: &mut [u8; LINE], at: usize, kind: ControlType) -> usize
     ensures within { result ≤ at + 10 }
 {
     let (name, length) = kind_name(kind);
-    let _behind_ten = put(line, at, name);
+    let _after_ten = put(line, at, name);
     at + length
 }
 
@@ -60,10 +60,10 @@ fn put_fields(line: &mut [u8; LINE], at: usize, flags: Flags, resp: u8, num: u8,
     ensures within { result ≤ at + 34 }
 {
     let at_resp = put(line, at, flags_name(flags));
-    let behind_resp = put_byte(line, at_resp, resp);
-    let at_num = put(line, behind_resp, b" num=");
-    let behind_num = put_byte(line, at_num, num);
-    let at_addr = put(line, behind_num, b" addr=");
+    let after_resp = put_byte(line, at_resp, resp);
+    let at_num = put(line, after_resp, b" num=");
+    let after_num = put_byte(line, at_num, num);
+    let at_addr = put(line, after_num, b" addr=");
     put_byte(line, at_addr, addr)
 }
 
@@ -76,8 +76,8 @@ fn put_control(line: &mut [u8; LINE], at: usize, h: &Short) -> usize
     ensures within { result ≤ at + 47 }
 {
     let at_sub = put_kind(line, at, h.kind);
-    let behind_sub = put_byte(line, at_sub, h.sub);
-    put_fields(line, behind_sub, h.flags, h.resp, h.num, h.addr)
+    let after_sub = put_byte(line, at_sub, h.sub);
+    put_fields(line, after_sub, h.flags, h.resp, h.num, h.addr)
 }
 
 fn put_counted(line: &mut [u8; LINE], at: usize, h: &Counted) -> usize
@@ -86,8 +86,8 @@ fn put_counted(line: &mut [u8; LINE], at: usize, h: &Counted) -> usize
     ensures within { result ≤ at + 61 }
 {
     let at_count = put(line, at, b" count=");
-    let behind_count = put_number(line, at_count, h.count as u64);
-    put_fields(line, behind_count, h.flags, h.resp, h.num, h.addr)
+    let after_count = put_number(line, at_count, h.count as u64);
+    put_fields(line, after_count, h.flags, h.resp, h.num, h.addr)
 }
 
 #[inline(always)]
@@ -98,12 +98,12 @@ pub(crate) fn put_header(line: &mut [u8; LINE], at: usize, header: &Header) -> u
 {
     match header {
         Header::Data(h) => {
-            let behind_name = put(line, at, b"DATA");
-            put_counted(line, behind_name, h)
+            let after_name = put(line, at, b"DATA");
+            put_counted(line, after_name, h)
         }
         Header::Maint(h) => {
-            let behind_name = put(line, at, b"MAINT");
-            put_counted(line, behind_name, h)
+            let after_name = put(line, at, b"MAINT");
+            put_counted(line, after_name, h)
         }
         Header::Control(h) => put_control(line, at, h),
     }
@@ -138,12 +138,12 @@ fn put_labelled<const N: usize>(
         (decimal offset ++ label.now ++ header_text header.now) }
     ensures within { result ≤ 98 }
 {
-    let behind_offset = put_number(line, 0, offset);
-    let at_header = put(line, behind_offset, label);
+    let after_offset = put_number(line, 0, offset);
+    let at_header = put(line, after_offset, label);
     put_header(line, at_header, header)
 }
 
-/// What an item is, without the data that it lends.
+/// Writes what an item is, without the data that it lends.
 #[tactic(auto, unfolding(crate::specs::Text::item_text))]
 #[inline(always)]
 fn put_item(line: &mut [u8; LINE], item: &Item) -> usize
@@ -153,14 +153,14 @@ fn put_item(line: &mut [u8; LINE], item: &Item) -> usize
     match item {
         Item::Good(offset, header) => put_labelled(line, *offset, b" ", header),
         Item::HeaderCheck(offset) => {
-            let behind_offset = put_number(line, 0, *offset);
-            put(line, behind_offset, b" header check")
+            let after_offset = put_number(line, 0, *offset);
+            put(line, after_offset, b" header check")
         }
         Item::DataCheck(offset, header) => put_labelled(line, *offset, b" data check ", header),
         Item::TooLong(offset, header) => put_labelled(line, *offset, b" too long ", header),
         Item::Format(offset, fault) => {
-            let behind_offset = put_number(line, 0, *offset);
-            let at_fault = put(line, behind_offset, b" format ");
+            let after_offset = put_number(line, 0, *offset);
+            let at_fault = put(line, after_offset, b" format ");
             put_fault(line, at_fault, fault)
         }
     }
@@ -195,8 +195,8 @@ pub(crate) fn put_front(line: &mut [u8; LINE], item: &Item) -> usize
     ensures puts { Puts line.old 0 line.new result (front_text item.now) }
     ensures within { result ≤ 99 }
 {
-    let behind_item = put_item(line, item);
-    put(line, behind_item, item_end(item))
+    let after_item = put_item(line, item);
+    put(line, after_item, item_end(item))
 }
 
 /// Puts the last line: how many items, how many bytes, and how many of these of an unfinished
@@ -206,10 +206,10 @@ pub(crate) fn put_totals(line: &mut [u8; LINE], items: u64, bytes: u64, left_ope
     ensures within { result ≤ 80 }
 {
     let at_items = put(line, 0, b"items=");
-    let behind_items = put_number(line, at_items, items);
-    let at_bytes = put(line, behind_items, b" bytes=");
-    let behind_bytes = put_number(line, at_bytes, bytes);
-    let at_open = put(line, behind_bytes, b" open=");
-    let behind_open = put_number(line, at_open, left_open);
-    put(line, behind_open, b"\n")
+    let after_items = put_number(line, at_items, items);
+    let at_bytes = put(line, after_items, b" bytes=");
+    let after_bytes = put_number(line, at_bytes, bytes);
+    let at_open = put(line, after_bytes, b" open=");
+    let after_open = put_number(line, at_open, left_open);
+    put(line, after_open, b"\n")
 }

@@ -404,7 +404,7 @@ fn is_whole(piece: &[u8], count: u16, max: u16) -> bool
     count <= max && end <= piece.len() && data_right(&piece[..end], count as usize)
 }
 
-/// What eight bytes are that begin with a start byte, at the offset `at`.
+/// Returns what eight bytes are that begin with a start byte, at the offset `at`.
 #[inline(always)]
 fn candidate_at(front: &[u8; 8], max: u16, at: u64) -> Candidate
     requires start { is_start_byte (slice_index front.now 0) ≡ true }

@@ -11,7 +11,7 @@ pub enum NotDumped {
     #[error("line {0}: not a line of a dump")]
     NotALine(u64),
     /// `hexdump` and `od` write a `*` for lines that are like the one before them.
-    #[error("line {0}: a * stands for lines left out: dump with -v")]
+    #[error("line {0}: repeated lines left out (*): dump with -v")]
     Star(u64),
 }
 
@@ -56,7 +56,7 @@ impl Dump {
         }
     }
 
-    /// Why the line that is read is none.
+    /// Returns why the line that is read is none.
     pub fn not_dumped(&self) -> NotDumped
         ensures { result ≡ not_dumped self.now }
     {

@@ -182,7 +182,7 @@ impl HexLines {
         &self.message
     }
 
-    /// Whether the line is `?` alone, which is no message.
+    /// Returns whether the line is `?` alone, which is no message.
     pub fn is_question(&self) -> bool
         ensures { result ≡ is_question self.now }
     {

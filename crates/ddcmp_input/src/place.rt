@@ -135,8 +135,8 @@ impl Place {
         }
     }
 
-    /// What a byte here is made: a digit of data stays, a line that is none of a dump is question
-    /// marks, and all else is blank.
+    /// Returns what a byte here becomes: a digit of data stays, a line that is none of a dump
+    /// becomes question marks, and all else is blank.
     #[inline(always)]
     #[tactic(auto, unfolding(crate::specs::Dump::shown_at))]
     pub(crate) fn shown(self, byte: u8) -> u8
@@ -214,7 +214,7 @@ fn in_blanks(kind: Kind) -> Place
     }
 }
 
-/// Where the second digit of a byte is to come.
+/// Returns the place after one at which the second digit of a byte is to come.
 #[inline(always)]
 fn at_half(kind: Kind, second: Place) -> Place
     ensures { result ≡ half_then kind second }
@@ -225,7 +225,8 @@ fn at_half(kind: Kind, second: Place) -> Place
     }
 }
 
-/// Where the bytes are whole: a blank, a digit or the end of the line may come.
+/// Returns the place after one at which the bytes are whole: a blank, a digit or the end of the
+/// line may come.
 #[inline(always)]
 fn at_whole(kind: Kind, blank: Place, digit: Place) -> Place
     ensures { result ≡ whole_then kind blank digit }

@@ -18,7 +18,7 @@ pub struct ByteQueue {
     is_cut: bool,
 }
 
-// By hand, so that a queue is dropped by a call: a derived one is written out at each such place.
+// Manual, since a derived `Drop` is expanded wherever a queue is dropped.
 impl Drop for ByteQueue {
     fn drop(self) {
         let ByteQueue {
@@ -76,7 +76,7 @@ impl ByteQueue {
         self.size - self.bytes.len()
     }
 
-    /// Whether some text was dropped because it found no room.
+    /// Returns whether some text was dropped because it found no room.
     pub fn is_cut(&self) -> bool
         ensures { result ≡ self.now.is_cut }
     {

@@ -227,7 +227,7 @@ impl<const N: usize> Taken<N> {
         }
     }
 
-    /// What it took.
+    /// Returns what it took.
     pub fn bytes(&self) -> &[u8]
         ensures { result.now ≡ self.now.bytes }
     {

@@ -11,7 +11,7 @@ use Rattle.ddcmp_station.specs.Driving.{Driving, Devices}
 use Rattle.ddcmp_proto.specs.Station.{StationView}
 use Rattle.ddcmp_net.specs.declared.serve_fault.ServeFault.{ServeFault}
 use Rattle.ddcmp_net.specs.declared.serve_fault.ServeFault.TheVariants.{Line}
-use Rattle.ddcmp_net.specs.Serving.{usual_config, HasStarted, OffersOnce, WritesOut, report_text}
+use Rattle.ddcmp_net.specs.Serving.{default_config, HasStarted, OffersOnce, WritesOut, report_text}
 use Rattle.ddcmp_net.specs.Serving.{served_answer, Serves}
 use Rattle.ddcmp_laws.specs.Faithful.{Begins}
 use Rattle.ddcmp_laws.specs.Driven.{DriveCall, driven, IsDriven, after_drives, begun, seen_of}
@@ -19,13 +19,13 @@ use Rattle.ddcmp_laws.specs.Served.{IsServed}
 use Rattle.ddcmp_laws.proofs.Drives.{drives_by_a_call}
 
 one_drive : (restart : Bool) (call : DriveCall)
-    → after_drives 0 (call ∷ []) (begun (usual_config restart))
-    ≡ driven 0 call (begun (usual_config restart)).core []
+    → after_drives 0 (call ∷ []) (begun (default_config restart))
+    ≡ driven 0 call (begun (default_config restart)).core []
 unfolding after_drives
 one_drive restart call = refl
 
 from_start : (restart : Bool) (call : DriveCall) (old : StationView) → HasStarted restart old
-    → driven old.syn call old.core [] ≡ after_drives 0 (call ∷ []) (begun (usual_config restart))
+    → driven old.syn call old.core [] ≡ after_drives 0 (call ∷ []) (begun (default_config restart))
 from_start restart call old h =
     ap (λ n. driven n call old.core []) h.syn ∙ ap (λ (k : CoreView). driven 0 call k []) h.core
     ∙ sym (one_drive restart call)
@@ -51,7 +51,7 @@ served ms turns restart counted send devices failed report report_after answer n
     let call = c.0 in
     let d : IsDriven ms call s.old s.new devices saw = c.1 in
     let e = from_start restart call s.old s.begun in
-    let seen : d.seen ≡ seen_of (usual_config restart) (call ∷ []) =
+    let seen : d.seen ≡ seen_of (default_config restart) (call ∷ []) =
     sym (d.seen_is [] s.begun.line) ∙ ap (λ (x : Driving). x.seen) e in
     let shown = subst saw seen d.shown in (
       call,

@@ -13,12 +13,12 @@ use Rattle.ddcmp_laws.specs.Links.{LinkCall, BeginsAnew, station_calls, HasDone,
 use Rattle.ddcmp_laws.specs.Links.{LinkStep, after_step, Links, link_at, new_links}
 use Rattle.ddcmp_laws.specs.StationRuns.{station_call, run_station_calls}
 
--- What the contract of each call says that it does; `begin_anew` does it on any line.
+-- What the contract of each call says that it does; `restart` does it on any line.
 abbrev pub Does : LinkCall → List ℕ → LinkView → LinkView → Type 0
 Does BeginsAnew text old new = new ≡ anew new.station.line old
 Does call text old new = HasDone call text old new
 
--- the calls of its station, of which `begin_anew` makes three
+-- the calls of its station, of which `restart` makes three
 abbrev pub all_calls : LinkCall → LinkView → List StationCall
 all_calls BeginsAnew d = HaltsStation ∷ ClearsLine ∷ StartsStation ∷ []
 all_calls call d = map station_call (station_calls call d)

@@ -59,7 +59,7 @@ pub record HasFed (text used : List ℕ) (old new : LinkView) : Type 0 where
   pub syn : new.station.syn ≡ old.station.syn
   pub stays : new ≡ record old { station = new.station; totals = new.totals }
 
--- `begin_anew` clears the line: here it begins a link whose line is clear.
+-- `restart` clears the line: here it begins a link whose line is clear.
 abbrev pub HasDone : LinkCall → List ℕ → LinkView → LinkView → Type 0
 HasDone Starts text old new = new ≡ with_state (started old.station.core.station) old
 HasDone BeginsAnew text old new =

@@ -6,7 +6,7 @@ use Rattle.ddcmp_core.specs.Core.{CoreView}
 use Rattle.ddcmp_station.specs.declared.driver.Driven.{Driven}
 use Rattle.ddcmp_io.specs.declared.device.LineFault.{LineFault}
 use Rattle.ddcmp_station.specs.Driving.{Devices, bytes_read}
-use Rattle.ddcmp_net.specs.Serving.{usual_config, OffersOnce, WritesOut, report_text}
+use Rattle.ddcmp_net.specs.Serving.{default_config, OffersOnce, WritesOut, report_text}
 use Rattle.ddcmp_laws.specs.Faithful.{Begins}
 use Rattle.ddcmp_laws.specs.Driven.{DriveCall, after_drives, begun, seen_of}
 
@@ -21,9 +21,9 @@ pub record IsServed (milliseconds : ℕ) (restart counted : Bool) (send : List �
   pub core : CoreView
   pub consumed : Consumes devices.left devices.left_after (bytes_read call.turns)
   pub appended : Appends devices.sink devices.sink_after sent
-  pub text : (after_drives 0 (call ∷ []) (begun (usual_config restart))).text
+  pub text : (after_drives 0 (call ∷ []) (begun (default_config restart))).text
       ≡ bytes_read call.turns
-  pub written : Begins sent (after_drives 0 (call ∷ []) (begun (usual_config restart))).written
-  pub offered : OffersOnce send (seen_of (usual_config restart) (call ∷ []))
+  pub written : Begins sent (after_drives 0 (call ∷ []) (begun (default_config restart))).written
+  pub offered : OffersOnce send (seen_of (default_config restart) (call ∷ []))
   pub reported : WritesOut failed report report_after
-      (report_text counted (seen_of (usual_config restart) (call ∷ [])) told core)
+      (report_text counted (seen_of (default_config restart) (call ∷ [])) told core)

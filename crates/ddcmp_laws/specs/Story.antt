@@ -150,9 +150,9 @@ g = 0x67 ∷ []
 
 -- ---- the run
 
--- the usual sizes
-abbrev pub usual : Config
-usual = record { window = 7; inbox = 8; max = 1500; syn = 0; restart = false }
+-- the default sizes
+abbrev pub default_sizes : Config
+default_sizes = record { window = 7; inbox = 8; max = 1500; syn = 0; restart = false }
 
 -- what happens, and what is answered
 abbrev pub Happening : Type 0

@@ -29,7 +29,7 @@ pub fn begins_anew(link: &mut Link) -> Result<u8, StartRefusal>
     ensures line { StandsFor link.new.station.line [] }
     ensures answer { result ≡ answer_to_start (after_halt link.old.station.core.station) }
 {
-    link.begin_anew()
+    link.restart()
 }
 
 /// Halts it.

@@ -93,7 +93,7 @@ pub fn fills(session: &mut Session)
     session.fill();
 }
 
-/// Takes note that the line took bytes.
+/// Notes that the line took bytes.
 pub fn line_takes(session: &mut Session, n: usize)
     ensures done { (text : List ℕ)
         → SessionDoes (LineTook (min n (length session.old.state.link.outbox.waiting))) text
@@ -123,7 +123,7 @@ pub fn delivers(session: &mut Session) -> bool
     session.deliver()
 }
 
-/// Takes note that standard output took bytes.
+/// Notes that standard output took bytes.
 pub fn output_takes(session: &mut Session, n: usize)
     ensures done { (text : List ℕ)
         → SessionDoes (OutputTook (min n (length session.old.state.output.waiting))) text

@@ -2,7 +2,7 @@
 ghost use Rattle.std.specs.Prelude.{◌≡◌, [], ◌∷◌, map};
 ghost use Rattle.ddcmp_pair.specs.Run.{run, new_pair};
 ghost use Rattle.ddcmp_laws.specs.Vectors.{abc};
-ghost use Rattle.ddcmp_laws.specs.Story.{de, f, g, usual, tight, written_run, second_run};
+ghost use Rattle.ddcmp_laws.specs.Story.{de, f, g, default_sizes, tight, written_run, second_run};
 ghost use Rattle.ddcmp_laws.specs.Story.{clear_run, event_in, reply_in, replies_to, EndsWell};
 ghost use Rattle.ddcmp_laws.specs.Story.{counts_of_a, counts_of_b, second_counts_of_a};
 ghost use Rattle.ddcmp_laws.specs.Story.{second_counts_of_b, clear_counts_of_a, clear_counts_of_b};
@@ -12,9 +12,9 @@ ghost use Rattle.ddcmp_laws.specs.Clear.{StaysClear};
 /// repair of each: every frame on the line, every notice and every number is the one that is
 /// written down. In the end each message was delivered once, and both ends have counted right.
 pub fn written_run_is_answered()
-    ensures replies { replies_to (map event_in written_run) (new_pair usual usual)
+    ensures replies { replies_to (map event_in written_run) (new_pair default_sizes default_sizes)
         ≡ map reply_in written_run }
-    ensures ends { EndsWell (run (map event_in written_run) (new_pair usual usual))
+    ensures ends { EndsWell (run (map event_in written_run) (new_pair default_sizes default_sizes))
         (f ∷ []) (abc ∷ de ∷ g ∷ []) counts_of_a counts_of_b }
 {}
 
@@ -31,10 +31,10 @@ pub fn second_run_is_answered()
 /// a line wastes nothing speaks of runs in which messages are sent and asked for, also between ends
 /// whose inboxes take one message.
 pub fn clear_run_is_answered()
-    ensures clear { StaysClear (map event_in clear_run) (new_pair usual usual) }
+    ensures clear { StaysClear (map event_in clear_run) (new_pair default_sizes default_sizes) }
     ensures one { StaysClear (map event_in clear_run) (new_pair tight tight) }
-    ensures replies { replies_to (map event_in clear_run) (new_pair usual usual)
+    ensures replies { replies_to (map event_in clear_run) (new_pair default_sizes default_sizes)
         ≡ map reply_in clear_run }
-    ensures ends { EndsWell (run (map event_in clear_run) (new_pair usual usual))
+    ensures ends { EndsWell (run (map event_in clear_run) (new_pair default_sizes default_sizes))
         [] (abc ∷ []) clear_counts_of_a clear_counts_of_b }
 {}

@@ -163,7 +163,7 @@ fn read_alone(verb: &[u8]) -> ParsedLine
     }
 }
 
-/// What an end is asked with no further word.
+/// Returns what an end is asked with no further word.
 #[tactic(auto, unfolding(crate::specs::ScriptWords::command_at))]
 fn command_at(verb: &[u8], end: End) -> Option<ScriptCommand>
     ensures { result ≡ command_of verb.now end }

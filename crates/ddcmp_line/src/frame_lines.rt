@@ -37,7 +37,7 @@ impl FrameLeft {
         }
     }
 
-    /// What is left, to be read.
+    /// Returns what is left, to be read.
     pub(crate) fn as_slice(&self) -> &[u8]
         ensures { result.now ≡ self.now }
     {
@@ -119,7 +119,7 @@ impl FrameLines {
         }
     }
 
-    /// What is left of the first frame of a line.
+    /// Returns what is left of the first frame of a line.
     pub(crate) fn front(&self, end: End) -> Option<&[u8]>
         ensures { MatchOption result (frames_of end self.now ≡ [])
             (λ front. frames_of end self.now ≡ front.now ∷ drop 1 (frames_of end self.now)) }
@@ -164,7 +164,7 @@ impl FrameLines {
     }
 }
 
-/// What is left of the first frame.
+/// Returns what is left of the first frame.
 fn front_of(frames: &VecDeque<FrameLeft>) -> Option<&[u8]>
     ensures { MatchOption result (frames.now.items ≡ [])
         (λ front. frames.now.items ≡ front.now ∷ drop 1 frames.now.items) }

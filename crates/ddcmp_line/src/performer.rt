@@ -176,7 +176,7 @@ impl Stage {
         Ok(())
     }
 
-    /// Does an event that puts no frame on a line and takes none off, and writes its reply.
+    /// Applies an event that puts no frame on a line and takes none off, and writes its reply.
     fn step<W: Sink, V: View>(
         &mut self,
         pair: &mut Pair,
@@ -387,7 +387,7 @@ impl Stage {
         }
     }
 
-    /// Does what a command asks for, and writes its text.
+    /// Runs a command, and writes its text.
     fn perform<W: Sink, C: Carrier, V: View>(
         &mut self,
         pair: &mut Pair,
@@ -430,7 +430,7 @@ impl Stage {
         }
     }
 
-    /// Does what a line asks for.
+    /// Runs a line.
     pub(crate) fn do_line<W: Sink, C: Carrier, V: View>(
         &mut self,
         pair: &mut Pair,

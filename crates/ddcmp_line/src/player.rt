@@ -161,7 +161,7 @@ impl Player {
         }
     }
 
-    /// Does the last line, if LF doesn't end it.
+    /// Runs the last line, if LF doesn't end it.
     fn end_input<W: Sink, C: Carrier, V: View>(
         &mut self,
         pair: &mut Pair,
@@ -191,7 +191,7 @@ impl Player {
         self.stage.do_line(pair, view, writer, carrier, &self.line)
     }
 
-    /// Does what is left of the input, and writes what has been done.
+    /// Runs what is left of the input, and writes the totals.
     fn finish<W: Sink, C: Carrier, V: View>(
         &mut self,
         pair: &mut Pair,
@@ -300,8 +300,7 @@ impl Player {
     }
 }
 
-/// Does what the lines of a script ask for, and writes what comes of each, and a last line of what
-/// has been done.
+/// Runs a script: writes the result of each line, and a last line with the totals.
 pub fn script<R: Source, W: Sink, C: Carrier>(
     alloc: Global,
     pair: &mut Pair,
@@ -321,8 +320,8 @@ pub fn script<R: Source, W: Sink, C: Carrier>(
     script_with(alloc, pair, reader, writer, carrier, false)
 }
 
-/// Does what the lines of a script ask for, and writes what comes of each, the counters of both
-/// stations if they are asked for, and a last line of what has been done.
+/// Runs a script: writes the result of each line, the counters of both stations if they are asked
+/// for, and a last line with the totals.
 pub fn script_with<R: Source, W: Sink, C: Carrier>(
     alloc: Global,
     pair: &mut Pair,
@@ -353,10 +352,9 @@ pub fn script_with<R: Source, W: Sink, C: Carrier>(
     )
 }
 
-/// Does what the lines of a script ask for, and has a view show it to a sink: what is promised of
-/// the pair, of the carrier and of the result is what `script` promises. If the view goes no
-/// further, the script ends as after an allocation failure. A sink that failed is left to the
-/// caller.
+/// Runs a script, and has a view show it to a sink: what is promised of the pair, of the carrier
+/// and of the result is what `script` promises. If the view goes no further, the script ends as
+/// after an allocation failure. A sink that failed is left to the caller.
 pub fn script_viewed<R: Source, W: Sink, C: Carrier, V: View>(
     alloc: Global,
     pair: &mut Pair,
@@ -378,8 +376,7 @@ pub fn script_viewed<R: Source, W: Sink, C: Carrier, V: View>(
     script_over(alloc, pair, view, reader, &mut text, writer, carrier, false)
 }
 
-/// Does what the lines of a script ask for: its text goes to `writer`, and what the view shows to
-/// `shown`.
+/// Runs a script: its text goes to `writer`, and what the view shows to `shown`.
 fn script_over<R: Source, W: Sink, C: Carrier, V: View, O: Sink>(
     alloc: Global,
     pair: &mut Pair,

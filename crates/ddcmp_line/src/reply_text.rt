@@ -37,7 +37,7 @@ pub fn answerer_name(end: Option<End>) -> &'static [u8]
     }
 }
 
-/// Why a start is refused, as a line.
+/// Returns why a start is refused, as a line.
 pub fn start_refusal_name(refusal: StartRefusal) -> &'static [u8]
     ensures { result.now ≡ start_refusal_text refusal }
 {
@@ -47,7 +47,7 @@ pub fn start_refusal_name(refusal: StartRefusal) -> &'static [u8]
     }
 }
 
-/// Why the line isn't cleared, as a line.
+/// Returns why the line isn't cleared, as a line.
 pub fn clear_refusal_name(refusal: StartRefusal) -> &'static [u8]
     ensures { result.now ≡ clear_refusal_text refusal }
 {
@@ -57,7 +57,7 @@ pub fn clear_refusal_name(refusal: StartRefusal) -> &'static [u8]
     }
 }
 
-/// Why a message isn't taken, as a line.
+/// Returns why a message isn't taken, as a line.
 pub fn send_refusal_name(refusal: SendRefusal) -> &'static [u8]
     ensures { result.now ≡ send_refusal_text refusal }
 {
@@ -248,7 +248,7 @@ pub fn write_recovered<W: Sink>(page: &mut Page, writer: &mut W, exchanges: &[u3
     page.write(writer, done_name(is_done));
 }
 
-/// What became of a byte that was to be changed.
+/// Returns what became of a byte that was to be changed.
 pub fn damage_name(is_empty: bool, is_there: bool) -> &'static [u8]
     ensures { result.now ≡ damage_text is_empty is_there }
 {

@@ -34,7 +34,7 @@ pub const HANDED_UP: Answer = Answer::Notices(&[Notice::HandedUp]);
 pub const ACKNOWLEDGED: Answer = Answer::Notices(&[Notice::Acknowledged(1)]);
 
 /// The usual sizes.
-pub const USUAL: Config = Config {
+pub const DEFAULT: Config = Config {
     window: 7,
     inbox: 8,
     max: 1500,
@@ -44,7 +44,7 @@ pub const USUAL: Config = Config {
 
 /// The usual sizes, but for the window.
 pub fn sizes(window: u16) -> Config {
-    Config { window, ..USUAL }
+    Config { window, ..DEFAULT }
 }
 
 /// What is done.
@@ -119,7 +119,7 @@ pub fn event_of(alloc: Global, action: Action) -> Result<Event, AllocError> {
     Ok(event)
 }
 
-/// Whether a reply is this answer.
+/// Returns whether a reply is this answer.
 pub fn is_answer(reply: &Reply, answer: Answer) -> bool {
     match (reply, answer) {
         (Reply::Started(told), Answer::Started(dropped)) => *told == dropped,
@@ -163,9 +163,9 @@ impl Bench {
         }
     }
 
-    /// The pair of a run between ends of the usual sizes.
+    /// The pair of a run between ends of the default sizes.
     pub fn of_run(alloc: Global, events: &[Event]) -> Result<Bench, RunRefusal> {
-        match run(alloc, USUAL, USUAL, events) {
+        match run(alloc, DEFAULT, DEFAULT, events) {
             Ok(pair) => Ok(Bench { pair }),
             Err(refusal) => Err(refusal),
         }
@@ -191,7 +191,7 @@ impl Bench {
         self.pair.recover()
     }
 
-    /// Whether the line is honest and the run clean.
+    /// Returns whether the line is honest and the run clean.
     pub fn premises(&self) -> (bool, bool) {
         (self.pair.honest(), self.pair.clean())
     }
@@ -204,7 +204,7 @@ impl Bench {
         self.pair.done()
     }
 
-    /// How many messages were given, delivered, and reported acknowledged at an end.
+    /// Returns how many messages were given, delivered, and reported acknowledged at an end.
     pub fn counts(&self, end: End) -> (usize, usize, u64) {
         (
             self.pair.given(end),
@@ -213,12 +213,12 @@ impl Bench {
         )
     }
 
-    /// Whether message `i` of those that an end gave is this one.
+    /// Returns whether message `i` of those that an end gave is this one.
     pub fn is_given(&self, end: End, i: usize, message: &[u8]) -> bool {
         i < self.pair.given(end) && self.pair.given_at(end, i) == message
     }
 
-    /// Whether message `i` of those delivered at an end is this one.
+    /// Returns whether message `i` of those delivered at an end is this one.
     pub fn is_handed_up(&self, end: End, i: usize, message: &[u8]) -> bool {
         let mut out = [0; LONGEST];
         match self.handed_up_at(end, i, &mut out) {
@@ -260,7 +260,7 @@ impl Bench {
         }
     }
 
-    /// Whether an action has its answer.
+    /// Returns whether an action has its answer.
     pub fn is_played(&mut self, alloc: Global, action: Action, answer: Answer) -> bool {
         match event_of(alloc, action) {
             Ok(event) => self.is_answered(event, answer),
@@ -268,7 +268,7 @@ impl Bench {
         }
     }
 
-    /// Whether an event has this answer.
+    /// Returns whether an event has this answer.
     pub fn is_answered(&mut self, event: Event, answer: Answer) -> bool {
         match self.step(event) {
             Ok(reply) => is_answer(&reply, answer),
@@ -284,7 +284,7 @@ impl Bench {
         }
     }
 
-    /// Whether an end's next frame arrives whole at the other, and gives this notice.
+    /// Returns whether an end's next frame arrives whole at the other, and gives this notice.
     pub fn crosses(&mut self, from: End, notice: &'static [Notice]) -> bool {
         match self.polls(from) {
             Some(frame) => {

@@ -1,5 +1,5 @@
 //! Each call once, and pairs of many sizes.
-use crate::bench::{Bench, Step, USUAL, event_of, path, sizes};
+use crate::bench::{Bench, DEFAULT, Step, event_of, path, sizes};
 use ddcmp_pair::{Config, ConfigRefusal, End, Event, Pair, PairRefusal, RunRefusal, State, run};
 use std::alloc::{AllocError, Global};
 use std::process::Abort;
@@ -10,23 +10,29 @@ use std::test::Fail;
 fn many_sizes() -> [Config; 10] {
     let largest = largest();
     [
-        USUAL,
-        Config { window: 1, ..USUAL },
+        DEFAULT,
+        Config {
+            window: 1,
+            ..DEFAULT
+        },
         sizes(255),
-        Config { inbox: 1, ..USUAL },
+        Config {
+            inbox: 1,
+            ..DEFAULT
+        },
         Config {
             inbox: 255,
-            ..USUAL
+            ..DEFAULT
         },
-        Config { max: 1, ..USUAL },
+        Config { max: 1, ..DEFAULT },
         Config {
             max: 16383,
-            ..USUAL
+            ..DEFAULT
         },
-        Config { syn: 16, ..USUAL },
+        Config { syn: 16, ..DEFAULT },
         Config {
             restart: true,
-            ..USUAL
+            ..DEFAULT
         },
         largest,
     ]
@@ -57,20 +63,26 @@ fn all_wrong() -> Config {
 fn refused_sizes() -> [(Config, ConfigRefusal); 8] {
     let inbox = Config {
         inbox: 256,
-        ..USUAL
+        ..DEFAULT
     };
     let max = Config {
         max: 16384,
-        ..USUAL
+        ..DEFAULT
     };
     [
         (sizes(0), ConfigRefusal::Window),
         (sizes(256), ConfigRefusal::Window),
-        (Config { inbox: 0, ..USUAL }, ConfigRefusal::Inbox),
+        (
+            Config {
+                inbox: 0,
+                ..DEFAULT
+            },
+            ConfigRefusal::Inbox,
+        ),
         (inbox, ConfigRefusal::Inbox),
-        (Config { max: 0, ..USUAL }, ConfigRefusal::Max),
+        (Config { max: 0, ..DEFAULT }, ConfigRefusal::Max),
         (max, ConfigRefusal::Max),
-        (Config { syn: 17, ..USUAL }, ConfigRefusal::Syn),
+        (Config { syn: 17, ..DEFAULT }, ConfigRefusal::Syn),
         (all_wrong(), ConfigRefusal::Inbox),
     ]
 }
@@ -133,11 +145,19 @@ fn refuses(rt: &(impl Abort + AllocGlobal), first: Config, second: Config, refus
 /// These sizes are refused at either end, and the first end's refusal comes first.
 fn refuses_at_both(rt: &(impl Abort + AllocGlobal), config: Config, refusal: ConfigRefusal) {
     let first = PairRefusal::First(refusal);
-    refuses(rt, config, USUAL, first);
+    refuses(rt, config, DEFAULT, first);
     refuses(rt, config, largest(), first);
-    refuses(rt, config, Config { window: 0, ..USUAL }, first);
+    refuses(
+        rt,
+        config,
+        Config {
+            window: 0,
+            ..DEFAULT
+        },
+        first,
+    );
     let second = PairRefusal::Second(refusal);
-    refuses(rt, USUAL, config, second);
+    refuses(rt, DEFAULT, config, second);
     refuses(rt, largest(), config, second);
 }
 
@@ -170,7 +190,7 @@ fn a_run_is_its_steps(rt: HostRuntime) -> Result<(), Fail> {
     let events = events_of(rt.alloc(), path())?;
     assert_eq!(rt; events.len(), 14);
     ran(&rt, &events).has_many(&rt, b"abc", 1);
-    let mut bench = Bench::ample(&rt, USUAL, USUAL);
+    let mut bench = Bench::ample(&rt, DEFAULT, DEFAULT);
     bench.plays(&rt, path());
     bench.has_many(&rt, b"abc", 1);
     ran(&rt, &[]).has_many(&rt, b"", 0);

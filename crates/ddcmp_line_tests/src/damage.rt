@@ -3,7 +3,7 @@ use crate::link::Link;
 use ddcmp_line::{Config, End, Event};
 use std::process::Abort;
 
-const USUAL: Config = Config {
+const DEFAULT: Config = Config {
     window: 7,
     inbox: 8,
     max: 1500,
@@ -53,7 +53,7 @@ enum Spoil {
 /// The link after the path on which this frame had this byte spoilt. What is refused then, or finds
 /// nothing to send or to arrive, stays so.
 fn after_path(rt: &(impl Abort + AllocGlobal), frame: usize, at: usize, spoil: Spoil) -> Link {
-    let mut link = Link::new(rt, USUAL, USUAL);
+    let mut link = Link::new(rt, DEFAULT, DEFAULT);
     let mut passed = 0usize;
     for action in &PATH {
         match action {

@@ -84,7 +84,7 @@ impl Link {
         }
     }
 
-    /// Whether the end takes this message.
+    /// Returns whether the end takes this message.
     pub fn sends(&mut self, rt: &(impl Abort + AllocGlobal), end: End, message: &[u8]) -> bool {
         let bytes = copy_of(rt, message);
         matches!(self.does(rt, Event::Send(end, bytes)), Reply::Accepted(_))
@@ -156,7 +156,7 @@ impl Link {
         }
     }
 
-    /// How many bytes the front has.
+    /// Returns how many bytes the front has.
     pub fn front(&mut self, from: End) -> usize {
         match self.lines.of(from).front() {
             Some(front) => front.len(),

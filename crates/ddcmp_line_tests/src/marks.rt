@@ -64,7 +64,7 @@ impl Paper for List {
     }
 }
 
-const USUAL: Config = Config {
+const DEFAULT: Config = Config {
     window: 7,
     inbox: 8,
     max: 1500,
@@ -87,7 +87,7 @@ fn marks() -> &'static [u8] {
 
 #[test]
 fn marks_of_each_line(rt: HostRuntime) {
-    let Ok(mut pair) = Pair::new(rt.alloc(), USUAL, USUAL) else {
+    let Ok(mut pair) = Pair::new(rt.alloc(), DEFAULT, DEFAULT) else {
         panic!(&rt; "no pair");
     };
     let list = List {

@@ -2,7 +2,7 @@
 //! line isn't honest or a run isn't clean.
 ghost use Rattle.std.specs.Prelude.{◌<◌, ◌≤◌};
 
-use crate::bench::{Action, Answer, Bench, HANDED_UP, NO_NOTICE, Step, USUAL, sizes};
+use crate::bench::{Action, Answer, Bench, DEFAULT, HANDED_UP, NO_NOTICE, Step, sizes};
 use ddcmp_pair::{Bytes, End, Event, Notice, Reply, SendRefusal};
 use std::process::Abort;
 
@@ -32,7 +32,7 @@ fn comes_late(bench: &mut Bench, rt: &(impl Abort + AllocGlobal)) {
 /// Message 1 comes again when the next message is 257, whose number is 1 too.
 #[test]
 fn a_doubled_frame_is_handed_up_twice(rt: HostRuntime) {
-    let mut bench = Bench::running(&rt, USUAL);
+    let mut bench = Bench::running(&rt, DEFAULT);
     for number in 1..=256u16 {
         bench.carries(&rt, number);
     }
@@ -70,7 +70,7 @@ fn sent_twice() -> [Step; 10] {
 /// Of two frames that were sent the first comes last, after 255 others.
 #[test]
 fn a_late_frame_is_handed_up_twice(rt: HostRuntime) {
-    let mut bench = Bench::running(&rt, USUAL);
+    let mut bench = Bench::running(&rt, DEFAULT);
     bench.plays(&rt, &sent_twice());
     assert!(rt; is_acknowledged(&mut bench));
     for number in 2..=256u16 {
@@ -118,7 +118,7 @@ struct BadLine {
 }
 
 impl BadLine {
-    /// What comes of a frame.
+    /// Returns what comes of a frame.
     fn passes(&mut self, rt: &impl Abort, frame: Bytes) -> Option<Bytes> {
         self.frames = self.frames.wrapping_add(1);
         let mut bytes = frame.into_vec();
@@ -177,7 +177,7 @@ impl Talk {
         }
     }
 
-    /// What is answered to an event; there is memory.
+    /// Returns what is answered to an event; there is memory.
     fn does(&mut self, rt: &impl Abort, event: Event) -> Reply {
         match self.bench.step(event) {
             Ok(reply) => reply,
@@ -185,7 +185,7 @@ impl Talk {
         }
     }
 
-    /// Whether the end takes this message, if its window isn't full.
+    /// Returns whether the end takes this message, if its window isn't full.
     fn is_offered(&mut self, rt: &(impl Abort + AllocGlobal), end: End, message: &[u8]) -> bool {
         let Ok(bytes) = Vec::from_slice(rt.alloc(), message) else {
             panic!(rt; "no memory");
@@ -276,7 +276,7 @@ impl Talk {
         }
     }
 
-    /// Whether this message of an end is delivered at the other, in its place.
+    /// Returns whether this message of an end is delivered at the other, in its place.
     fn is_all_of(&self, from: End, number: u16) -> bool
         requires { 1 ≤ number }
     {

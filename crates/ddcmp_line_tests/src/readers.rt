@@ -81,7 +81,7 @@ fn a_frame_is_found_after_junk(rt: HostRuntime) -> Result<(), Fail> {
     Ok(())
 }
 
-/// How many items a reader gives of 20,000 bytes of this value.
+/// Returns how many items a reader gives of 20,000 bytes of this value.
 fn items_of(rt: &(impl Abort + AllocGlobal), max: u16, value: u8) -> u64 {
     assert!(rt; max <= 16383);
     let Ok(mut reader) = Reader::new(rt.alloc(), max) else {

@@ -4,7 +4,7 @@ use ddcmp_pair::{End, Settled, State, Station};
 use std::alloc::Global;
 use std::process::Abort;
 
-/// Whether a station runs with these numbers R, N, A, T, keeps no message, has no received
+/// Returns whether a station runs with these numbers R, N, A, T, keeps no message, has no received
 /// messages, and its timer is off.
 fn is_at(station: &Station, numbers: [u8; 4]) -> bool {
     let told = station.numbers();
@@ -38,12 +38,12 @@ fn numbers_go_round(rt: HostRuntime) {
     goes_round(&rt, 255);
 }
 
-/// Whether A takes message `number`, `a`.
+/// Returns whether A takes message `number`, `a`.
 fn is_taken(bench: &mut Bench, alloc: Global, number: u8) -> bool {
     bench.is_played(alloc, Action::Send(End::A, b"a"), Answer::Accepted(number))
 }
 
-/// Whether A's next frame has this number. It is lost.
+/// Returns whether A's next frame has this number. It is lost.
 fn is_lost(bench: &mut Bench, number: u8) -> bool {
     match bench.polls(End::A) {
         Some(frame) => frame.as_slice().get(4) == Some(&number),
@@ -59,7 +59,7 @@ fn window_lost() -> [Step; 2] {
     ]
 }
 
-/// Whether a settle has this many exchanges, and the line is quiet then.
+/// Returns whether a settle has this many exchanges, and the line is quiet then.
 fn is_settled(bench: &mut Bench, exchanges: u32) -> bool {
     match bench.settle() {
         Ok(told) => told

@@ -26,7 +26,7 @@ use Rattle.ddcmp_station.specs.Driving.{deadline_at, core_after_take_arm}
 use Rattle.ddcmp_station.specs.Station.{StationView}
 use Rattle.ddcmp_station.specs.UserCalls.{UserCall, Asked, Told, Handed, Calls, is_user_asked}
 use Rattle.ddcmp_station.specs.UserCalls.{calls_of_offer, calls_of_notices}
-use Rattle.ddcmp_net.specs.Serving.{HasStarted, usual_config, calls_text, OffersOnce, WritesOut}
+use Rattle.ddcmp_net.specs.Serving.{HasStarted, default_config, calls_text, OffersOnce, WritesOut}
 use Rattle.ddcmp_net.specs.Inside.Reporting.{Leaves, Reports}
 use Rattle.ddcmp_net.specs.declared.reporter.Reporter.{Reporter}
 
@@ -34,7 +34,7 @@ abbrev started : CoreView → CoreView
 started k = record k { station = if may_start k.station then after_start k.station else k.station }
 
 pub begun-of : (restart : Bool) (config : Config) (made begun : StationView)
-    → config ≡ usual_config restart
+    → config ≡ default_config restart
     → made.core ≡ core_made config → made.syn ≡ config.syn → StandsFor made.line []
     → begun
     ≡ record made {
@@ -314,7 +314,7 @@ comes-to-all broken contents begun ended given after send calls is sends short f
     (comes-to broken contents begun ended given after after send [] calls is sends short fine tie
     (sends-nothing (output_of broken contents after [])) asked h)
 
--- the room of a station of the usual sizes
-pub usual-room : (restart : Bool) (v : StationView) → HasStarted restart v
+-- the room of a station of the default sizes
+pub default-room : (restart : Bool) (v : StationView) → HasStarted restart v
     → v.core.limits.longest ≡ 1500
-usual-room restart v h = ap (λ k. k.limits.longest) h.core
+default-room restart v h = ap (λ k. k.limits.longest) h.core

@@ -21,14 +21,14 @@ use Rattle.ddcmp_station.specs.StationText.{notice_line, state_text}
 use Rattle.ddcmp_net.specs.declared.serve_fault.ServeFault.{ServeFault}
 use Rattle.ddcmp_net.specs.declared.serve_fault.ServeFault.TheVariants.{Line, Report}
 
-abbrev pub usual_config : Bool → Config
-usual_config restart =
+abbrev pub default_config : Bool → Config
+default_config restart =
     record { window = 7; inbox = 8; max = 1500; syn = 0; restart = restart }
 
 -- a station of these sizes that has started and done nothing more
 pub record HasStarted (restart : Bool) (v : StationView) : Type 0 where
   pub core : v.core
-      ≡ record (core_made (usual_config restart)) { station = after_start new_station }
+      ≡ record (core_made (default_config restart)) { station = after_start new_station }
   pub syn : v.syn ≡ 0
   pub line : StandsFor v.line []
 

@@ -3,7 +3,7 @@ ghost use Rattle.std.specs.Prelude.{◌≡◌, ◌≢◌, ◌⊎◌, ◌≤◌, 
 ghost use Rattle.std.specs.Io.KnownBytes.{IsAtEnd};
 ghost use Rattle.ddcmp_net.specs.Serving.{Serves};
 ghost use Rattle.ddcmp_station.specs.Driving.{devices_of};
-ghost use Rattle.ddcmp_net.specs.Serving.{usual_config as config_of};
+ghost use Rattle.ddcmp_net.specs.Serving.{default_config as config_of};
 ghost use Rattle.ddcmp_io.specs.declared.device.LineFault.{LineFault as LineFaultValue};
 
 use crate::reporter::{Reporter, write_end};
@@ -16,7 +16,7 @@ use std::alloc::Global;
 pub const SERVED_MAX: u16 = 1500;
 
 /// Returns the sizes of a served station.
-fn usual_config(restart: bool) -> Config
+fn default_config(restart: bool) -> Config
     ensures { result ≡ config_of restart }
 {
     Config {
@@ -66,7 +66,7 @@ pub fn serve<R: Source, W: Sink, P: Sink, C: Clock>(
         → (reader.new ≡ reader.old) × (writer.new ≡ writer.old) × (clock.new ≡ clock.old)
         × (report.new ≡ report.old) }
 {
-    let Ok(mut station) = Station::new(alloc, usual_config(restart)) else {
+    let Ok(mut station) = Station::new(alloc, default_config(restart)) else {
         return Err(ServeFault::Config);
     };
     let _dropped = station.start();

@@ -40,7 +40,7 @@ impl Ends {
     ghost use Rattle.ddcmp_pair.specs.Run.{asks_memory, asks_at, clear_refusal as clear_refusal_of};
     ghost use Rattle.ddcmp_pair.specs.Run.{after_clear_by, reply_to_clear, at, is_clean};
 
-    /// Does an event and returns its reply.
+    /// Applies an event and returns its reply.
     #[tactic(auto, unfolding(crate::specs::Run::after_event, crate::specs::Run::reply_to, crate::specs::Run::asks_memory))]
     pub(crate) fn apply(&mut self, event: &Event) -> Result<Reply, Memory>
         ensures state { IsOk result → self.new ≡ after_event event.now self.old }
@@ -88,7 +88,7 @@ impl Ends {
         Reply::Cleared
     }
 
-    /// Why the line isn't cleared.
+    /// Returns why the line isn't cleared.
     fn clear_refusal(&self) -> Option<StartRefusal>
         ensures { result ≡ clear_refusal_of self.now }
     {

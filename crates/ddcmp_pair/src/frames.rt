@@ -66,7 +66,7 @@ impl Frames {
         is_same(&self.headers[i], self.data.at(i), header, data)
     }
 
-    /// Has room for one more frame with data of this length.
+    /// Reserves room for one more frame with data of this length.
     pub(crate) fn reserve(&mut self, length: usize) -> Result<(), AllocError>
         ensures all { self.new.all ≡ self.old.all }
         ensures bytes { IsOk result → length ≤ self.new.spare_bytes }

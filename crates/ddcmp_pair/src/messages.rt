@@ -64,7 +64,7 @@ impl Messages {
         &self.bytes[from..self.ends[i]]
     }
 
-    /// Has room for one more message of this length.
+    /// Reserves room for one more message of this length.
     pub(crate) fn reserve(&mut self, length: usize) -> Result<(), AllocError>
         ensures all { self.new.all ≡ self.old.all }
         ensures bytes { IsOk result → length ≤ self.new.spare_bytes }
@@ -86,7 +86,7 @@ impl Messages {
     }
 }
 
-/// Where message `i` begins: where the one before it ends.
+/// Returns where message `i` begins: where the one before it ends.
 fn begin_of(ends: &[usize], i: usize) -> usize
     requires { i < length ends.now }
     ensures { result ≡ get_or (0 ∷ ends.now) i 0 }

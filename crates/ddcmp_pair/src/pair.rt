@@ -80,7 +80,7 @@ impl Pair {
         })
     }
 
-    /// Does an event and returns its reply.
+    /// Applies an event and returns its reply.
     pub fn step(&mut self, event: Event) -> Result<Reply, Memory>
         ensures state { IsOk result → self.new ≡ after_event event self.old }
         ensures reply { IfOk result (λ reply. reply ≡ reply_to event self.old) }
@@ -115,7 +115,7 @@ impl Pair {
         ensures unseen { OnErr result (watch.new ≡ watch.old) }
     {
         let reply = self.apply(&event)?;
-        watch.did(self, &event, &reply);
+        watch.on_step(self, &event, &reply);
         Ok(reply)
     }
 

@@ -22,7 +22,7 @@ pub enum RunRefusal {
     Memory { done: usize, pair: Pair },
 }
 
-/// Does events, up to one whose allocation fails; then it returns how many were done.
+/// Applies events, up to one whose allocation fails; then it returns how many were done.
 fn play(pair: &mut Pair, events: &[Event]) -> Result<(), usize>
     ensures done { IsOk result → pair.new ≡ run_of events.now pair.old }
     ensures memory { (done : ℕ) → result ≡ Err done → (done < length events.now)

@@ -112,7 +112,7 @@ impl Side {
         })
     }
 
-    /// Does what happens at this end; `sent` is what the other end has sent.
+    /// Applies an event at this end; `sent` is what the other end has sent.
     pub(crate) fn apply(&mut self, event: &Event, sent: &Frames) -> Result<Reply, Memory>
         requires { IsPlaced self.old sent.now.all }
         ensures state { IsOk result → self.new.state ≡ after_event_here event.now self.old.state }

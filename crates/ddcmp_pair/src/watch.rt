@@ -11,8 +11,8 @@ pub trait Watch {
     // The steps that were reported to it, if these are known.
     ghost seen: { Self → Option (List Step) } = { λ _. None };
 
-    /// Takes note of an event and of its reply; `pair` is as the event left it.
-    fn did(&mut self, pair: &Pair, event: &Event, reply: &Reply)
+    /// Notes an event and its reply; `pair` is as the event left it.
+    fn on_step(&mut self, pair: &Pair, event: &Event, reply: &Reply)
         ensures { Logs (seen self.old) (seen self.new)
             (record { event = event.now; reply = reply.now } ∷ []) };
 }
@@ -22,5 +22,5 @@ pub trait Watch {
 pub struct Unwatched;
 
 impl Watch for Unwatched {
-    fn did(&mut self, _pair: &Pair, _event: &Event, _reply: &Reply) {}
+    fn on_step(&mut self, _pair: &Pair, _event: &Event, _reply: &Reply) {}
 }

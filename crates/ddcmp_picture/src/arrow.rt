@@ -39,7 +39,7 @@ pub(crate) struct Stroke {
 }
 
 impl Stroke {
-    /// What a trip becomes that ends in this row.
+    /// Returns what a trip becomes that ends in this row.
     fn of(trip: &Trip, fate: Fate, row: u64) -> Stroke {
         let x2 = match fate {
             Fate::Arrived | Fate::Cut { .. } => line_of(trip.from.other()),
@@ -110,7 +110,7 @@ impl Stroke {
         if self.x2 == MIDDLE { 9 } else { 5 }
     }
 
-    /// Whether its label stands level, and not turned as it is: it was long in flight.
+    /// Returns whether its label stands level, and not turned as it is: it was long in flight.
     fn is_steep(&self) -> bool {
         self.y2.saturating_sub(self.y1) > STEEPEST || self.across() > STEEPEST
     }
@@ -223,7 +223,7 @@ impl Stroke {
         }
     }
 
-    /// How a trip ends, at its end.
+    /// Writes how a trip ends, at its end.
     fn write_fate<W: Sink>(&self, page: &mut Page, writer: &mut W, fate: Fate) {
         match fate {
             Fate::Arrived => {}
@@ -279,7 +279,7 @@ impl Stroke {
         write(page, writer, &parts);
     }
 
-    /// What marks a frame that was damaged.
+    /// Writes what marks a frame that was damaged.
     fn write_damage<W: Sink>(&self, page: &mut Page, writer: &mut W) {
         let (x, y) = self.place(3);
         let parts = [

@@ -34,7 +34,7 @@ pub(crate) struct Canvas {
     rows: u64,
 }
 
-// By hand, so that a canvas is dropped by a call: a derived one is written out at each such place.
+// Manual, since a derived `Drop` is expanded wherever a canvas is dropped.
 impl Drop for Canvas {
     fn drop(self) {
         let Canvas {
@@ -47,7 +47,7 @@ impl Drop for Canvas {
     }
 }
 
-/// How many rows a mark takes.
+/// Returns how many rows a mark takes.
 fn rows_of(mark: &Mark) -> u64 {
     match mark {
         Mark::Note { is_beside, .. } if *is_beside => 0,

@@ -13,14 +13,14 @@ use std::alloc::Global;
 /// The most bytes that a line has; a document is wide enough for as many digits.
 const WIDTH: usize = 125;
 
-/// Whether words end at this byte.
+/// Returns whether words end at this byte.
 fn is_gap(byte: u8) -> bool
     ensures { result ≡ is_gap byte }
 {
     byte == b' ' || byte == b'\n'
 }
 
-/// Whether a word ends in a value of 0.
+/// Returns whether a word ends in a value of 0.
 fn is_zero_counter(word: &[u8]) -> bool
     ensures { result ≡ is_zero word.now }
 {
@@ -93,8 +93,8 @@ pub(crate) fn write_caption_text<W: Sink>(
     true
 }
 
-/// Where the first line of a caption ends: before its LF, or before the last blank that it has room
-/// for.
+/// Returns where the first line of a caption ends: before its LF, or before the last blank that it
+/// has room for.
 fn line_end(text: &[u8]) -> usize
     ensures within { result ≤ WIDTH }
     ensures inside { result ≤ length text.now }

@@ -37,7 +37,7 @@ pub struct Drawing<P> {
     pub(crate) is_whole: bool,
 }
 
-// By hand, so that a drawing is dropped by a call: a derived one is written out at each such place.
+// Manual, since a derived `Drop` is expanded wherever a drawing is dropped.
 impl<P: Drop> Drop for Drawing<P> {
     fn drop(self) {
         let Drawing {
@@ -50,7 +50,7 @@ impl<P: Drop> Drop for Drawing<P> {
     }
 }
 
-/// How many bytes of a frame are to arrive: at most n, or all.
+/// Returns how many bytes of a frame are to arrive: at most n, or all.
 fn part_of(most: Option<u32>, of: usize) -> usize
     ensures { result ≡ part_of_them most of }
 {
@@ -174,7 +174,7 @@ impl<P: Paper + Drop> Drawing<P> {
         }
     }
 
-    /// What an end made of an arrival.
+    /// Notes what an end made of an arrival.
     fn noticed(&mut self, pair: &Pair, to: End, reply: &Reply)
         ensures marks { Logs (P.drawn self.old.paper) (P.drawn self.new.paper)
             (told_marks to (notices_in reply.now) (seen_at to self.old.states)

@@ -15,7 +15,7 @@ pub(crate) const TOP: u64 = 62;
 
 const STEP: u64 = 24;
 
-/// How high a row is.
+/// Returns how high a row is.
 pub(crate) fn height_of(row: u64) -> u64 {
     row.saturating_mul(STEP).saturating_add(TOP)
 }

@@ -23,8 +23,7 @@ impl Model for Flights {
     ghost view = { λ f. record { a = f.a.items; b = f.b.items } };
 }
 
-// By hand, so that what is in flight is dropped by a call: a derived one is written out at each
-// such place.
+// Manual, since a derived `Drop` is expanded wherever they are dropped.
 impl Drop for Flights {
     fn drop(self) {
         let Flights { a: _a, b: _b } = self;
@@ -81,7 +80,7 @@ impl Flights {
         }
     }
 
-    /// How many frames of an end there are.
+    /// Returns how many frames of an end there are.
     pub(crate) fn len(&self, end: End) -> usize
         ensures { result ≡ length (trips_of end self.now) }
     {

@@ -12,7 +12,7 @@ use ddcmp_pair::{Notice, Station};
 use ddcmp_proto::Counters;
 use ddcmp_station::{notice_name, notice_number, state_name};
 
-/// How many bytes of fill stand in front.
+/// Returns how many bytes of fill stand in front.
 #[tactic(auto, using(crate::proofs::LabelLaws::fill_step, crate::proofs::LabelLaws::fill_ends, crate::proofs::LabelLaws::fill_all))]
 fn fill_before(bytes: &[u8]) -> usize
     ensures within { result ≤ length bytes.now }
@@ -40,7 +40,7 @@ fn header_bytes(bytes: &[u8]) -> Option<[u8; 8]>
     Some(header)
 }
 
-/// What the bytes of a line begin with, if that is a header.
+/// Returns what the bytes of a line begin with, if that is a header.
 fn header_of(bytes: &[u8]) -> Option<Header>
     ensures { result ≡ header_in bytes.now }
 {
@@ -92,7 +92,7 @@ fn with_fault_text(text: ShortText, is_there: bool, fault: &[u8]) -> ShortText
     front.with(fault)
 }
 
-/// What an end saw in what arrived, by what it has counted before and now.
+/// Returns what an end saw in what arrived, by what it has counted before and now.
 pub(crate) fn faults_text(before: &Counters, now: &Counters) -> ShortText
     ensures { result ≡ faults_label before.now now.now }
 {
@@ -123,7 +123,7 @@ pub(crate) fn numbers_text(station: &Station) -> ShortText
         .with_number(numbers.t.0 as u64)
 }
 
-/// What a station holds, and whether its timer runs.
+/// Returns what a station holds, and whether its timer runs.
 pub(crate) fn holding_text(station: &Station) -> ShortText
     ensures { result ≡ holding_label station.now.core.station }
 {

@@ -46,13 +46,13 @@ impl Spot {
             .saturating_sub(up.saturating_mul(part) / across)
     }
 
-    /// Whether it is above another one from one place to another.
+    /// Returns whether it is above another one from one place to another.
     fn is_above(&self, other: &Spot, left: u64, right: u64) -> bool {
         self.base_at(left).saturating_add(HEIGHT) <= other.base_at(left)
             && self.base_at(right).saturating_add(HEIGHT) <= other.base_at(right)
     }
 
-    /// Whether one of both texts lies on the other.
+    /// Returns whether one of both texts lies on the other.
     fn meets(&self, other: &Spot) -> bool {
         let left = self.left.max(other.left);
         let right = self.right.min(other.right);
@@ -69,7 +69,7 @@ pub(crate) struct Lettering {
     next: usize,
 }
 
-// By hand, so that it is dropped by a call: a derived one is written out at each such place.
+// Manual, since a derived `Drop` is expanded wherever it is dropped.
 impl Drop for Lettering {
     fn drop(self) {
         let Lettering {
@@ -102,7 +102,7 @@ impl Lettering {
         self.next = (self.next % KEPT).saturating_add(1);
     }
 
-    /// Whether a text at this place would lie on no other.
+    /// Returns whether a text at this place would lie on no other.
     pub(crate) fn is_free(&self, spot: &Spot) -> bool {
         for kept in &self.spots {
             if kept.meets(spot) {

@@ -15,7 +15,7 @@ use crate::states::Seen;
 use ddcmp_pair::{End, Notice, Reply, State, Station};
 use ddcmp_station::state_name;
 
-/// Whether it is the same state.
+/// Returns whether it is the same state.
 fn is_same(before: State, now: State) -> bool
     ensures { result ≡ same_state before now }
 {
@@ -29,7 +29,7 @@ fn is_same(before: State, now: State) -> bool
     }
 }
 
-/// Whether a notice says what state it is now.
+/// Returns whether a notice says what state it is now.
 fn names(notice: Notice, now: State) -> bool
     ensures { result ≡ names_state notice now }
 {
@@ -42,7 +42,7 @@ fn names(notice: Notice, now: State) -> bool
     }
 }
 
-/// Whether one of some notices does.
+/// Returns whether one of some notices does.
 fn name(notices: &[Notice], now: State) -> bool
     ensures { result ≡ name_state notices.now now }
 {
@@ -72,7 +72,7 @@ pub(crate) fn across<P: Paper>(paper: &mut P, text: ShortText)
     paper.put(&Mark::Across(text));
 }
 
-/// What was replied at an end, and its state if that is another.
+/// Draws the reply at an end, and its state if that is another.
 pub(crate) fn answer<P: Paper>(paper: &mut P, at: End, reply: &Reply, before: State, now: State)
     ensures { Logs (P.drawn paper.old) (P.drawn paper.new)
         (Mark.Note at (answer_label (reply_label reply.now) before now) false ∷ []) }
@@ -105,7 +105,7 @@ fn draw_notices<P: Paper>(paper: &mut P, to: End, notices: &[Notice])
     }
 }
 
-/// What was wrong with an arrival, if anything was.
+/// Writes what was wrong with an arrival, if anything was.
 #[tactic(auto, using(crate::proofs::NoteLaws::logs_none))]
 fn draw_faults<P: Paper>(paper: &mut P, to: End, is_beside: bool, faults: ShortText)
     ensures { Logs (P.drawn paper.old) (P.drawn paper.new) (fault_marks to is_beside faults) }
@@ -134,8 +134,8 @@ fn draw_state<P: Paper>(
     }
 }
 
-/// What an end made of an arrival, in its row and below: its notices, the faults that it saw, and
-/// the state if no notice says it.
+/// Draws what an end made of an arrival, in its row and below: its notices, the faults that it saw,
+/// and the state if no notice says it.
 #[tactic(auto, using(crate::proofs::NoteLaws::logs_then))]
 pub(crate) fn report<P: Paper>(
     paper: &mut P,

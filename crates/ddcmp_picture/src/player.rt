@@ -36,10 +36,10 @@ fn answer_of(
     }
 }
 
-/// Does what the lines of a script ask for, as `ddcmp_line::script` does, and draws what comes of
-/// each. Below the picture is what `script` writes at its end. If a line is no command or an
-/// allocation fails, what was drawn stays, and a document is ended. A document is written at the
-/// end of the script, since its height is at its front, and not at all if the script can't be read.
+/// Runs a script, as `ddcmp_line::script` does, and draws what comes of each line. Below the
+/// picture is what `script` writes at its end. If a line is no command or an allocation fails, what
+/// was drawn stays, and a document is ended. A document is written at the end of the script, since
+/// its height is at its front, and not at all if the script can't be read.
 pub fn draw<R: Source, W: Sink, C: Carrier>(
     alloc: Global,
     pair: &mut Pair,

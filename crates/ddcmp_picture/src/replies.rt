@@ -16,7 +16,7 @@ pub(crate) fn words(text: &[u8]) -> ShortText
     ShortText::new().with(text)
 }
 
-/// What was replied, beside the line of an end.
+/// Returns what was replied, beside the line of an end.
 pub(crate) fn answer_text(reply: &Reply) -> ShortText
     ensures { result ≡ reply_label reply.now }
 {

@@ -9,7 +9,7 @@ use ddcmp_pair::{Event, Pair, Reply, Watch};
 use std::alloc::Global;
 
 impl<P: Paper + Drop> Watch for Drawing<P> {
-    fn did(&mut self, pair: &Pair, event: &Event, reply: &Reply) {
+    fn on_step(&mut self, pair: &Pair, event: &Event, reply: &Reply) {
         self.step(pair, event, reply);
     }
 }

@@ -183,7 +183,7 @@ fn write_end_line<W: Sink>(page: &mut Page, writer: &mut W, x: u64, foot: u64) {
     write(page, writer, &parts);
 }
 
-/// What stands before the rows, up to the lines of both ends.
+/// Writes the header, up to the lines of both ends.
 fn write_head<W: Sink>(page: &mut Page, writer: &mut W, foot: u64, height: u64, caption: &[u8]) {
     let parts = [
         Text(b"<svg xmlns=\"http://www.w3.org/2000/svg\" width=\"1000\" height=\""),

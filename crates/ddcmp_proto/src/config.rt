@@ -45,7 +45,7 @@ impl Config {
     ghost use Rattle.std.specs.Prelude.{◌+◌};
 
     /// The default sizes.
-    pub const USUAL: Config = Config {
+    pub const DEFAULT: Config = Config {
         window: 7,
         inbox: 8,
         max: 1500,

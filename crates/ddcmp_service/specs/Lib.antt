@@ -1,7 +1,3 @@
+pub mod Inside
 pub mod Events
 pub mod LineNames
-pub mod Lines
-pub mod Opening
-pub mod Outlets
-pub mod Readiness
-pub mod Sides

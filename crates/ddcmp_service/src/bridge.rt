@@ -108,7 +108,7 @@ fn save_in<'a, S: Files<File = File>>(
     }
 }
 
-/// Why it can't wait for several lines.
+/// Returns why it can't wait for several lines.
 fn no_poller<'a>(kind: ErrorKind) -> BridgeFault<'a> {
     match kind {
         ErrorKind::OutOfMemory => BridgeFault::Memory,
@@ -133,7 +133,7 @@ struct Opening<'a> {
     poller: Poller,
 }
 
-// By hand, so that it is dropped by a call: a derived one is written out at each such place.
+// Manual, since a derived `Drop` is expanded wherever it is dropped.
 impl Drop for Opening<'_> {
     fn drop(self) {
         let Opening {

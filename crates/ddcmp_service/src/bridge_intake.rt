@@ -21,7 +21,7 @@ pub(crate) struct Intake {
     save: Option<Save>,
 }
 
-// By hand, so that it is dropped by a call: a derived one is written out at each such place.
+// Manual, since a derived `Drop` is expanded wherever it is dropped.
 impl Drop for Intake {
     fn drop(self) {
         let Intake {

@@ -28,7 +28,7 @@ fn read_from(side: &mut Side, intake: &mut Intake, space: &mut [u8]) -> Option<u
     Some(intake.take(&space[..n], side.has_datagrams()))
 }
 
-/// What is needed of a side that a direction reads and the other one writes.
+/// Returns what is needed of a side that a direction reads and the other one writes.
 fn needs_of(side: &Side, reading: Needs, writing: Needs) -> Needs {
     Needs {
         to_read: reading.to_read && side.down.is_none(),
@@ -38,7 +38,7 @@ fn needs_of(side: &Side, reading: Needs, writing: Needs) -> Needs {
 
 impl<E: Eprint, C: Clock> Lines for LiveLines<'_, E, C> {
     ghost use Rattle.std.specs.Prelude.{None, is_some};
-    ghost use Rattle.ddcmp_service.specs.Sides.{down_of};
+    ghost use Rattle.ddcmp_service.specs.Inside.Sides.{down_of};
 
     ghost traffic = { λ _. None };
 

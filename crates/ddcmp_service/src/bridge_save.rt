@@ -10,7 +10,7 @@ pub(crate) struct Save {
     failed: Option<Cause>,
 }
 
-// By hand, so that it is dropped by a call: a derived one is written out at each such place.
+// Manual, since a derived `Drop` is expanded wherever it is dropped.
 impl Drop for Save {
     fn drop(self) {
         let Save {

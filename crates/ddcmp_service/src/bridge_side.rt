@@ -1,7 +1,7 @@
 //! The two lines of a bridge, and waiting for both.
 ghost use Rattle.std.specs.Prelude.{◌≡◌, ◌≤◌, ◌&&◌, is_none, length};
 ghost use Rattle.ddcmp_bridge.specs.Joining.{count_of};
-ghost use Rattle.ddcmp_service.specs.Lines.{has_datagrams};
+ghost use Rattle.ddcmp_service.specs.Inside.Lines.{has_datagrams};
 
 use crate::line::Line;
 use crate::poller::{Descriptor, Ready};
@@ -31,7 +31,7 @@ pub(crate) struct Side {
     pub(crate) down: Option<Down>,
 }
 
-// By hand, so that it is dropped by a call: a derived one is written out at each such place.
+// Manual, since a derived `Drop` is expanded wherever it is dropped.
 impl Drop for Side {
     fn drop(self) {
         let Side {
@@ -66,7 +66,7 @@ impl Side {
         }
     }
 
-    /// Whether it takes bytes, as far as it has room.
+    /// Returns whether it takes bytes, as far as it has room.
     pub(crate) fn takes_bytes(&self) -> bool
         ensures { result ≡ is_none self.now.down && is_none self.now.refuses }
     {
@@ -107,7 +107,7 @@ impl Side {
         line.close(clock);
     }
 
-    /// Whether it is one of datagrams.
+    /// Returns whether it is one of datagrams.
     pub(crate) fn has_datagrams(&self) -> bool
         ensures { result ≡ has_datagrams self.now.line }
     {
@@ -123,7 +123,7 @@ pub(crate) struct Sides {
     pub(crate) second: Side,
 }
 
-// By hand, so that they are dropped by a call: a derived one is written out at each such place.
+// Manual, since a derived `Drop` is expanded wherever they are dropped.
 impl Drop for Sides {
     fn drop(self) {
         let Sides {

@@ -13,7 +13,7 @@ pub(crate) struct Trace {
     side: Side,
 }
 
-// By hand, so that it is dropped by a call: a derived one is written out at each such place.
+// Manual, since a derived `Drop` is expanded wherever it is dropped.
 impl Drop for Trace {
     fn drop(self) {
         let Trace {

@@ -7,7 +7,7 @@ pub(crate) struct Framing {
     frames: Reader,
 }
 
-// By hand, so that it is dropped by a call: a derived one is written out at each such place.
+// Manual, since a derived `Drop` is expanded wherever it is dropped.
 impl Drop for Framing {
     fn drop(self) {
         let Framing { frames: _frames } = self;

@@ -1,8 +1,8 @@
 //! The line of a service: a socket or a device that is read and written without waiting.
 ghost use Rattle.std.specs.Prelude.{◌≡◌, ◌≢◌, ℕ, IfErr, IfOk, MatchResult, Ok};
 ghost use Rattle.std.specs.IoError.{error_kind};
-ghost use Rattle.ddcmp_service.specs.Lines.{has_datagrams, moved_by_error};
-ghost use Rattle.ddcmp_service.specs.Lines.{received_by_error, sent_by_error};
+ghost use Rattle.ddcmp_service.specs.Inside.Lines.{has_datagrams, moved_by_error};
+ghost use Rattle.ddcmp_service.specs.Inside.Lines.{received_by_error, sent_by_error};
 ghost use Rattle.ddcmp_session.specs.declared.devices.Down.{Down as DownValue};
 
 use ddcmp_session::{Down, Moved};
@@ -31,7 +31,7 @@ pub(crate) enum Line {
     Device(File),
 }
 
-// By hand, so that a line is dropped by a call: a derived one is written out at each such place.
+// Manual, since a derived `Drop` is expanded wherever a line is dropped.
 impl Drop for Line {
     fn drop(self) {
         match self {
@@ -42,7 +42,7 @@ impl Drop for Line {
     }
 }
 
-/// What a call of the system returned.
+/// Returns what a call of the system returned.
 pub(crate) fn moved_by(answer: io::Result<usize>) -> Moved
     ensures { MatchResult answer (λ n. result ≡ Moved.Bytes n)
         (λ error. result ≡ moved_by_error (error_kind error)) }
@@ -57,7 +57,7 @@ pub(crate) fn moved_by(answer: io::Result<usize>) -> Moved
     }
 }
 
-/// What the receiving of a datagram returned. No error ends a line of datagrams.
+/// Returns what the receiving of a datagram returned. No error ends a line of datagrams.
 fn received_by(answer: io::Result<(usize, SocketAddr)>, remote: SocketAddr) -> Moved
     ensures peer { (n : ℕ) → answer ≡ Ok (n, remote) → result ≡ Moved.Bytes n }
     ensures stranger { IfOk answer (λ got. got.1 ≢ remote → result ≡ Moved.Bytes 0) }
@@ -75,7 +75,8 @@ fn received_by(answer: io::Result<(usize, SocketAddr)>, remote: SocketAddr) -> M
     }
 }
 
-/// What became of a datagram that was to be sent: what an error takes is lost, as on a line.
+/// Returns what became of a datagram that was to be sent: what an error takes is lost, as on a
+/// line.
 fn sent_by(answer: io::Result<usize>, length: usize) -> Moved
     ensures sent { IfOk answer (λ n. result ≡ Moved.Bytes length) }
     ensures error { IfErr answer (λ error. result ≡ sent_by_error length (error_kind error)) }
@@ -176,7 +177,7 @@ impl Line {
         }
     }
 
-    /// Whether what is written at once arrives at once, or not at all.
+    /// Returns whether what is written at once arrives at once, or not at all.
     pub(crate) fn has_datagrams(&self) -> bool
         ensures { result ≡ has_datagrams self.now }
     {

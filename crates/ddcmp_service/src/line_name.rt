@@ -50,8 +50,8 @@ impl<'a> LineName<'a> {
         }
     }
 
-    /// What is reported of a line that couldn't be opened. Of the two addresses of a line of
-    /// datagrams it names the one that is to blame.
+    /// Returns what is reported of a line that couldn't be opened. Of the two addresses of a line
+    /// of datagrams it names the one that is to blame.
     pub(crate) fn not_opened(self, refused: OpenRefusal) -> NotOpened<'a>
         ensures { result ≡ not_opened_of self.entry refused }
     {

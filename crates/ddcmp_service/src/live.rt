@@ -1,7 +1,7 @@
 //! The devices of a link: what the system gives a session.
 ghost use Rattle.std.specs.Prelude.{◌≡◌, ◌≤◌, ◌↔◌, length};
 ghost use Rattle.ddcmp_service.specs.Events.{Reports};
-ghost use Rattle.ddcmp_service.specs.Outlets.{at_once};
+ghost use Rattle.ddcmp_service.specs.Inside.Outlets.{at_once};
 ghost use Rattle.ddcmp_session.specs.Devices.{count_moved, count_read};
 
 use crate::datagram::Framing;
@@ -36,7 +36,7 @@ pub(crate) struct Live<'a, S, C, R, W> {
     framing: Option<Framing>,
 }
 
-// By hand, so that they are dropped by a call: a derived one is written out at each such place.
+// Manual, since a derived `Drop` is expanded wherever they are dropped.
 impl<S, C: Drop, R, W> Drop for Live<'_, S, C, R, W> {
     fn drop(self) {
         let Live {
@@ -179,7 +179,7 @@ impl<S: System, C: Clock + Drop, R: Source, W: Sink> Devices for Live<'_, S, C, 
     ghost use Rattle.std.specs.Prelude.{IfOk, OnErr, None, Some, is_some};
     ghost use Rattle.ddcmp_service.specs.Events.{Reports};
     ghost use Rattle.ddcmp_service.specs.LineNames.{line_kind, not_opened_of};
-    ghost use Rattle.ddcmp_service.specs.Opening.{SameIfNotYet, Opens, event_of, line_of};
+    ghost use Rattle.ddcmp_service.specs.Inside.Opening.{SameIfNotYet, Opens, event_of, line_of};
     ghost use Rattle.ddcmp_service.specs.declared.event.Event.TheVariants as event;
     ghost use Rattle.ddcmp_service.specs.declared.opener.Opened.{Opened};
 

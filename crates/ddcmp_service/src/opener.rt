@@ -1,7 +1,7 @@
 //! Opens the line that a name names.
 ghost use Rattle.std.specs.Prelude.{◌≡◌, ◌+◌, ◌-◌, ◌^◌, IfErr, IfOk, None, Some, false, min};
 ghost use Rattle.ddcmp_service.specs.LineNames.{line_kind, not_opened_of};
-ghost use Rattle.ddcmp_service.specs.Opening.{Begins, SameIfNotYet, Opens, event_of, line_of};
+ghost use Rattle.ddcmp_service.specs.Inside.Opening.{Begins, SameIfNotYet, Opens, event_of, line_of};
 ghost use Rattle.ddcmp_session.specs.declared.options.LineKind.TheVariants as kind;
 
 use crate::event::Event;
@@ -30,7 +30,7 @@ pub(crate) struct Opener<'a> {
     failed: Option<ErrorKind>,
 }
 
-// By hand, so that it is dropped by a call: a derived one is written out at each such place.
+// Manual, since a derived `Drop` is expanded wherever it is dropped.
 impl Drop for Opener<'_> {
     fn drop(self) {
         let Opener {
@@ -177,7 +177,7 @@ impl<'a> Opener<'a> {
         if let Some(stream) = self.connecting.take() {
             match peer_of(&stream) {
                 Ok(Some(peer)) => {
-                    self.begin_anew();
+                    self.restart();
                     return Ok(Opened::Connected(Line::Stream(stream), peer));
                 }
                 Ok(None) => {
@@ -192,7 +192,7 @@ impl<'a> Opener<'a> {
                 Ok(Some(addr)) => addr,
                 Ok(None) => break,
                 Err(cause) => {
-                    self.begin_anew();
+                    self.restart();
                     return Err(refused(cause));
                 }
             };
@@ -205,7 +205,7 @@ impl<'a> Opener<'a> {
             }
         }
         let kind = self.failed.unwrap_or(ErrorKind::InvalidInput);
-        self.begin_anew();
+        self.restart();
         Err(refused(Cause::System(kind)))
     }
 
@@ -221,7 +221,7 @@ impl<'a> Opener<'a> {
     }
 
     /// The next connection is to the first address of its name.
-    fn begin_anew(&mut self)
+    fn restart(&mut self)
         ensures { self.new ≡ record self.old { failed = None; which = 0 } }
     {
         self.failed = None;

@@ -1,6 +1,6 @@
 //! Standard output and standard error, written without waiting.
 ghost use Rattle.std.specs.Prelude.{◌≡◌, take};
-ghost use Rattle.ddcmp_service.specs.Outlets.{at_once};
+ghost use Rattle.ddcmp_service.specs.Inside.Outlets.{at_once};
 
 use crate::line::moved_by;
 use ddcmp_session::Moved;

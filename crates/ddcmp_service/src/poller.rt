@@ -1,7 +1,7 @@
 //! Waits for whichever comes first: standard input, standard output, the line, or a moment.
 ghost use Rattle.std.specs.Prelude.{◌≡◌, ◌||◌, MatchOption, false, not};
 ghost use Rattle.mio.specs.Interest.{is_readable, is_writable};
-ghost use Rattle.ddcmp_service.specs.Readiness.{is_any_ready, line_ready};
+ghost use Rattle.ddcmp_service.specs.Inside.Readiness.{is_any_ready, line_ready};
 
 use ddcmp_session::Wanted;
 use mio::event::Source;
@@ -142,8 +142,7 @@ pub(crate) struct Poller {
     pub(crate) socket: Ready,
 }
 
-// By hand, so that it is dropped by a call: a derived one is written out at
-// each such place.
+// Manual, since a derived `Drop` is expanded wherever it is dropped.
 impl Drop for Poller {
     fn drop(self) {
         let Poller {
@@ -202,7 +201,7 @@ impl Poller {
         self.device = None;
     }
 
-    /// Whether a read from the line may give something.
+    /// Returns whether a read from the line may give something.
     pub(crate) fn may_read_line(&self) -> bool
         ensures { result ≡ (line_ready self.now).to_read }
     {
@@ -212,7 +211,7 @@ impl Poller {
         }
     }
 
-    /// Whether a write to the line may take something.
+    /// Returns whether a write to the line may take something.
     pub(crate) fn may_write_line(&self) -> bool
         ensures { result ≡ (line_ready self.now).to_write }
     {
@@ -260,7 +259,8 @@ impl Poller {
         true
     }
 
-    /// Whether something that is wanted is known to be ready, so that nothing is to be waited for.
+    /// Returns whether something that is wanted is known to be ready, so that nothing is to be
+    /// waited for.
     fn is_any_ready(&self, wanted: Wanted) -> bool
         ensures { result ≡ is_any_ready wanted self.now }
     {
@@ -289,7 +289,7 @@ impl Poller {
     }
 }
 
-/// Whether standard error takes something, now or within a second.
+/// Returns whether standard error takes something, now or within a second.
 pub fn errors_take<N: Net>(net: &N, alloc: Global) -> bool {
     let Ok(mut poller) = Poller::new(net, alloc) else {
         return true;

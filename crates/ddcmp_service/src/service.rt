@@ -39,7 +39,8 @@ where
     ending_of(ended, line, reader, writer)
 }
 
-/// How a service ends over a line of this name: by a fault of the output first, then of the input.
+/// Returns how a service ends over a line of this name: by a fault of the output first, then of the
+/// input.
 fn ending_of<'a, R: Source, W: Sink>(
     ended: Result<Served, Ended>,
     line: LineName<'a>,
@@ -101,7 +102,7 @@ fn serve<S: System, R: Source, W: Sink>(
     }
 }
 
-/// Why it can't wait for several devices.
+/// Returns why it can't wait for several devices.
 fn no_poller(kind: ErrorKind) -> Ended
     ensures memory { kind ≡ ErrorKind.OutOfMemory → result ≡ Ended.Memory }
     ensures other { kind ≢ ErrorKind.OutOfMemory → result ≡ Ended.CannotWait kind }

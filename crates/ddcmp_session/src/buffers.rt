@@ -42,7 +42,7 @@ impl Model for Buffers {
     } };
 }
 
-// By hand, so that they are dropped by a call: a derived one is written out at each such place.
+// Manual, since a derived `Drop` is expanded wherever they are dropped.
 impl Drop for Buffers {
     fn drop(self) {
         let Buffers {
@@ -104,7 +104,7 @@ impl Buffers {
         }
     }
 
-    /// Whether the input is to be read.
+    /// Returns whether the input is to be read.
     fn wants_input(&self, session: &Session) -> bool
         ensures empty { result ≡ true → self.now.input ≡ [] }
         ensures goes_on { result ≡ true → self.now.is_over ≡ false }
@@ -113,7 +113,7 @@ impl Buffers {
         !self.input_is_over && self.input.is_empty() && session.wants_input()
     }
 
-    /// Whether the line is to be read.
+    /// Returns whether the line is to be read.
     fn wants_line(&self, session: &Session) -> bool
         ensures used { result ≡ true → self.now.received ≡ [] }
         ensures exact { result ≡ reads_line self.now session.now.state }

@@ -29,7 +29,7 @@ impl Model for Chunk {
         × (0 < vec_len c.bytes) };
 }
 
-// By hand, so that a chunk is dropped by a call: a derived one is written out at each such place.
+// Manual, since a derived `Drop` is expanded wherever a chunk is dropped.
 impl Drop for Chunk {
     fn drop(self) {
         let Chunk {
@@ -89,7 +89,7 @@ impl Chunk {
         got
     }
 
-    /// Takes note that the first `n` bytes were used.
+    /// Notes that the first `n` bytes were used.
     pub(crate) fn used(&mut self, n: usize)
         requires { n ≤ length self.old }
         ensures { self.new ≡ drop n self.old }

@@ -99,7 +99,7 @@ impl Course {
         }
     }
 
-    /// Takes note of the moment: returns whether a report is due. The next one is due a whole
+    /// Notes the moment: returns whether a report is due. The next one is due a whole
     /// number of periods after it.
     pub(crate) fn pass(&mut self, now: u64, report_ms: u64) -> bool
         ensures state { self.new ≡ after_moment report_ms now self.old }
@@ -184,7 +184,7 @@ impl Course {
         }
     }
 
-    /// Has messages wait if the peer refuses them again.
+    /// Lets messages wait if the peer refuses them again.
     fn note_refusal(&mut self, refusal: Option<Nak>, timer_ms: u32)
         ensures { self.new ≡ after_refusal timer_ms refusal self.old }
     {
@@ -201,7 +201,7 @@ impl Course {
         self.pause = Some(self.moment.saturating_add(timer_ms as u64));
     }
 
-    /// Takes note of the moment if the station begins to run, in maintenance mode if the peer is
+    /// Notes the moment if the station begins to run, in maintenance mode if the peer is
     /// heard first, or if a message was received.
     fn note_noise(&mut self, progress: Progress)
         ensures { self.new ≡ after_noise progress self.old }
@@ -223,7 +223,7 @@ impl Course {
         }
     }
 
-    /// Takes note of how far the startup handshake is.
+    /// Notes how far the startup handshake is.
     fn note_state(&mut self, state: State)
         ensures { self.new ≡ after_state state self.old }
     {
@@ -257,7 +257,7 @@ impl Course {
         self.retry_seconds
     }
 
-    /// Has the line opened at once.
+    /// Lets the line be opened at once.
     pub(crate) fn retry_at_once(&mut self)
         ensures { self.new ≡ record self.old { retry_seconds = 0; opens_at = 0 } }
     {
@@ -322,7 +322,7 @@ fn progress_of(link: &Link) -> Progress
     }
 }
 
-/// Whether nothing was got to since.
+/// Returns whether nothing was got to since.
 fn is_at(progress: Progress, before: Option<Progress>) -> bool
     ensures { result ≡ is_at progress before }
 {
@@ -336,7 +336,7 @@ fn is_at(progress: Progress, before: Option<Progress>) -> bool
     }
 }
 
-/// Whether a message was received since.
+/// Returns whether a message was received since.
 fn has_received(progress: Progress, before: Option<Progress>) -> bool
     ensures { result ≡ has_received progress before }
 {

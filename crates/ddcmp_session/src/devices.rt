@@ -55,7 +55,7 @@ pub trait Devices {
             (after_read result space.new) }
         ensures fits { count_read result ≤ length space.new };
 
-    /// Whether a read of the line may give something.
+    /// Returns whether a read of the line may give something.
     fn may_read_line(&self) -> bool;
 
     /// Reads the line into the front of `space`.

@@ -71,14 +71,14 @@ impl Errors {
         })
     }
 
-    /// Has each line begin with the time of day; the moment 0 is this many milliseconds after 1970.
+    /// Begins each line with the time of day; the moment 0 is this many milliseconds after 1970.
     pub(crate) fn show_time(&mut self, began: u64)
         ensures { self.new ≡ record self.old { began = Some began } }
     {
         self.began = Some(began);
     }
 
-    /// Takes note of the moment of the lines to come.
+    /// Notes the moment of the lines to come.
     pub(crate) fn pass_time(&mut self, now: u64)
         ensures { self.new ≡ record self.old { now = now } }
     {
@@ -134,7 +134,7 @@ impl Errors {
         self.queue.settle();
     }
 
-    /// Whether a line of at most `needed` bytes has room, and a note before it.
+    /// Returns whether a line of at most `needed` bytes has room, and a note before it.
     fn has_room(&self, needed: usize) -> bool
         ensures { result ≡ nat_le (needed + NOTE) self.now.queue.room }
     {
@@ -198,7 +198,7 @@ impl Errors {
         self.left_out = 0;
     }
 
-    /// Whether lines were left out, and a note of that has room.
+    /// Returns whether lines were left out, and a note of that has room.
     fn reports_left_out(&self) -> bool
         ensures { result ≡ reports_left_out self.now }
     {
@@ -255,7 +255,7 @@ impl Errors {
         self.queue.waiting()
     }
 
-    /// Takes note that the first `n` bytes were written. Once all are, left out lines are reported.
+    /// Notes that the first `n` bytes were written. Once all are, left out lines are reported.
     pub(crate) fn took(&mut self, n: usize)
         ensures { Took n self.old self.new }
     {

@@ -76,7 +76,7 @@ pub fn run_link<D: Devices>(
     }
 }
 
-/// Makes a session whose moment 0 is so many milliseconds after 1970, if that is known.
+/// Makes a session whose moment 0 is `began` milliseconds after 1970, if that is known.
 fn new_session(
     alloc: Global,
     options: Options,

@@ -24,7 +24,7 @@ pub(crate) enum Messages {
     Binary(Lengths),
 }
 
-// By hand, so that it is dropped by a call: a derived one is written out at each such place.
+// Manual, since a derived `Drop` is expanded wherever it is dropped.
 impl Drop for Messages {
     fn drop(self) {
         match self {
@@ -82,7 +82,7 @@ impl Messages {
         }
     }
 
-    /// Whether a message in binary has begun whose end is still to come.
+    /// Returns whether a message in binary has begun whose end is still to come.
     pub(crate) fn is_unfinished(&self) -> bool
         ensures { result ≡ is_message_unfinished self.now }
     {
@@ -92,7 +92,7 @@ impl Messages {
         }
     }
 
-    /// Whether the line of the input that was read last is `?`, which asks for a report.
+    /// Returns whether the line of the input that was read last is `?`, which asks for a report.
     pub(crate) fn is_question(&self) -> bool
         ensures { result ≡ is_question self.now }
     {

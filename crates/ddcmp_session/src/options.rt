@@ -54,7 +54,7 @@ impl Options {
 pub enum LineKind {
     /// A connection to a peer.
     Connect,
-    /// A connection from whoever calls.
+    /// An accepted connection.
     Listen,
     /// Datagrams, one frame each.
     Datagrams,
@@ -63,14 +63,14 @@ pub enum LineKind {
 }
 
 impl LineKind {
-    /// Whether each write is a frame of its own.
+    /// Returns whether each write is a frame of its own.
     pub(crate) fn is_of_datagrams(self) -> bool
         ensures { result ≡ is_of_datagrams self }
     {
         matches!(self, LineKind::Datagrams)
     }
 
-    /// Whether a peer is there once it is open.
+    /// Returns whether a peer is there once it is open.
     pub(crate) fn is_connection(self) -> bool
         ensures { result ≡ is_connection self }
     {

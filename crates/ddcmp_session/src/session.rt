@@ -98,7 +98,7 @@ impl Model for Session {
         × (s.link.station.core.limits.longest ≡ vec_len s.mail) × (vec_len s.mail < 65536) };
 }
 
-// By hand, so that a session is dropped by a call: a derived one is written out at each such place.
+// Manual, since a derived `Drop` is expanded wherever a session is dropped.
 impl Drop for Session {
     fn drop(self) {
         let Session {

@@ -20,7 +20,7 @@ const DEL: u8 = 0xff;
 /// This many discarded bytes are reported although no frame came after them.
 pub(crate) const MOST_DISCARDED: u64 = 256;
 
-/// Whether a byte between frames is fill, as stations send it before a frame or after it.
+/// Returns whether a byte between frames is fill, as stations send it before a frame or after it.
 fn is_fill(byte: u8) -> bool
     ensures { result ≡ fills byte }
 {
@@ -51,8 +51,7 @@ impl Model for Heard {
     ghost view = { λ h. record { frames = h.frames; reached = h.reached; junk = h.junk } };
 }
 
-// By hand, so that what was heard is dropped by a call: a derived one is written out at each
-// such place.
+// Manual, since a derived `Drop` is expanded wherever it is dropped.
 impl Drop for Heard {
     fn drop(self) {
         let Heard {
@@ -81,7 +80,7 @@ impl Heard {
     }
 
     /// Restarts on another line.
-    pub(crate) fn begin_anew(&mut self)
+    pub(crate) fn restart(&mut self)
         ensures heard { HasHeard [] 0 self.new }
         ensures max { self.new.frames.max ≡ self.old.frames.max }
         ensures lent { self.new.frames.lent ≡ [] }
@@ -112,7 +111,7 @@ impl Heard {
         }
     }
 
-    /// Takes note of the next byte, if it is the first that is no fill.
+    /// Notes the next byte, if it is the first that is no fill.
     fn note(&mut self, byte: u8)
         requires { self.old.frames.offset + 1 < 2 ^ 64 }
         ensures frames { self.new.frames ≡ self.old.frames }
@@ -169,7 +168,7 @@ impl Heard {
         skipped
     }
 
-    /// What was discarded after the last frame, if that many bytes were.
+    /// Returns what was discarded after the last frame, if that many bytes were.
     pub(crate) fn discard(&mut self, least: u64) -> Option<Skipped>
         ensures { Discards self.old least result self.new }
     {
@@ -189,7 +188,7 @@ impl Heard {
         }
     }
 
-    /// What was discarded up to an offset, if it isn't fill alone.
+    /// Returns what was discarded up to an offset, if it isn't fill alone.
     fn skipped_to(&self, to: u64) -> Option<Skipped>
         ensures { (text : List ℕ) (from : ℕ)
             → self.now.reached.offset + self.now.reached.taken ≡ from

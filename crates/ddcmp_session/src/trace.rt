@@ -34,7 +34,7 @@ pub(crate) enum Way {
 }
 
 impl Way {
-    /// What is between the moment and the line of a frame.
+    /// Returns what is between the moment and the line of a frame.
     fn mark(self) -> &'static [u8]
         ensures { result.now ≡ mark_of self }
     {
@@ -64,7 +64,7 @@ impl Model for Trace {
     ghost view = { λ t. record { spared = t.spared; sent = t.sent; came = t.came; now = t.now } };
 }
 
-// By hand, so that a trace is dropped by a call: a derived one is written out at each such place.
+// Manual, since a derived `Drop` is expanded wherever a trace is dropped.
 impl Drop for Trace {
     fn drop(self) {
         let Trace {
@@ -101,12 +101,12 @@ impl Trace {
     }
 
     /// The line is another from now on.
-    pub(crate) fn begin_anew(&mut self, errors: &mut Errors)
+    pub(crate) fn restart(&mut self, errors: &mut Errors)
         ensures { BeginsAnew self.old self.new errors.old errors.new }
     {
         self.end(errors);
-        self.sent.begin_anew();
-        self.came.begin_anew();
+        self.sent.restart();
+        self.came.restart();
     }
 
     /// The line has ended: what was discarded after the last frames is reported.
@@ -173,7 +173,7 @@ impl Trace {
         put_skipped(self.spared, self.now, way, discarded, errors);
     }
 
-    /// What was discarded after the last frame that went this way, if that many bytes were.
+    /// Returns what was discarded after the last frame that went this way, if that many bytes were.
     fn discard(&mut self, way: Way, least: u64) -> Option<Skipped>
         ensures discards { Discards (heard_of way self.old) least result (heard_of way self.new) }
         ensures stays { self.new ≡ with_heard way (heard_of way self.new) self.old }
@@ -293,7 +293,7 @@ fn write_plain(now: u64, way: Way, item: &Item, data: &[u8], text: &mut ByteQueu
     let _is_whole = page.flush(text);
 }
 
-/// Writes a reason before the end of the last line, after so many bytes; a line that was cut is
+/// Writes a reason before the end of the last line, after `before` bytes; a line that was cut is
 /// dropped.
 fn write_reason(before: usize, reason: Nak, text: &mut ByteQueue)
     ensures { (front : List ℕ) (first : QueueView) → before ≡ length first.waiting

@@ -102,7 +102,7 @@ fn write_nak_counts<W: Sink>(
     write_reason(page, out, layout, way, b"other", counts.other);
 }
 
-/// What came and went.
+/// Writes what came and went.
 fn write_traffic<W: Sink>(page: &mut Page, out: &mut W, layout: Layout, counts: &Counters)
     ensures { HandsOver (output_of W.broken W.contents out.old page.old)
         (output_of W.broken W.contents out.new page.new) (traffic_text layout counts.now) }
@@ -117,7 +117,7 @@ fn write_traffic<W: Sink>(page: &mut Page, out: &mut W, layout: Layout, counts: 
     write_counter(page, out, layout, b"bytes_up", counts.bytes_up);
 }
 
-/// What went wrong.
+/// Writes what went wrong.
 fn write_fault_counts<W: Sink>(page: &mut Page, out: &mut W, layout: Layout, counts: &Counters)
     ensures { HandsOver (output_of W.broken W.contents out.old page.old)
         (output_of W.broken W.contents out.new page.new) (fault_counts_text layout counts.now) }

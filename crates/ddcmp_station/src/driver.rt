@@ -42,10 +42,10 @@ struct Tally {
     written: u64,
 }
 
-/// Runs a station over a line for a number of turns. In a turn the timer is looked after, a message
-/// of the user is taken, a frame is written, and a read is handled: its notices and then all
-/// received messages go to the user. An idle read is no fault. After a fault of the line the
-/// station is halted.
+/// Runs a station over a line for a number of turns. In a turn the reply timer is handled, a
+/// message of the user is sent, a frame is written, and what a read yields is handled: its notices
+/// and then all received messages go to the user. An idle read is no fault. After a fault of the
+/// line the station is halted. Start the station first, and give no reader that has failed.
 pub fn drive<R: Source, W: Sink, U: User, C: Clock>(
     alloc: Global,
     station: &mut Station,
@@ -229,7 +229,7 @@ fn receive<R: Source, U: User>(
         Got::Failed => return Err(LineFault::Read),
     };
     feed_all(station, user, &piece[..came]);
-    hand_up(station, user, buffer);
+    deliver(station, user, buffer);
     Ok(came)
 }
 
@@ -256,7 +256,7 @@ fn feed_all<U: User>(station: &mut Station, user: &mut U, piece: &[u8])
 }
 
 /// Takes all received messages and passes them to the user.
-fn hand_up<U: User>(station: &mut Station, user: &mut U, buffer: &mut [u8])
+fn deliver<U: User>(station: &mut Station, user: &mut U, buffer: &mut [u8])
     requires { station.old.core.limits.longest ≤ length buffer.old }
     ensures state { station.new ≡ record station.old { core = core_after_mail station.old.core } }
     ensures seen { Calls U.becomes user.old user.new (calls_of_mail station.old.core) }

@@ -142,7 +142,7 @@ impl Link {
     /// starts; returns how many messages that weren't acknowledged were dropped. If received
     /// messages weren't taken it is refused, halted and cleared all the same: take them, then
     /// start.
-    pub fn begin_anew(&mut self) -> Result<u8, StartRefusal>
+    pub fn restart(&mut self) -> Result<u8, StartRefusal>
         ensures state { self.new ≡ anew self.new.station.line self.old }
         ensures cleared { StandsFor self.new.station.line [] }
         ensures answer { result ≡ answer_to_start (after_halt self.old.station.core.station) }
@@ -151,7 +151,7 @@ impl Link {
         self.start()
     }
 
-    /// Does the same as `begin_anew`, but enters maintenance mode, where `offer_maintenance` takes
+    /// Does the same as `restart`, but enters maintenance mode, where `offer_maintenance` takes
     /// the place of `offer`.
     pub fn begin_maintenance(&mut self) -> Result<u8, StartRefusal>
         ensures state { self.new ≡ anew_for_maintenance self.new.station.line self.old }
@@ -296,7 +296,7 @@ impl Link {
         self.outbox.waiting()
     }
 
-    /// Takes note that the line took the first `n` bytes of `unsent`.
+    /// Notes that the line took the first `n` bytes of `unsent`.
     pub fn sent(&mut self, n: usize)
         requires { n ≤ length self.old.outbox.waiting }
         ensures { self.new ≡ after_sent n self.old }
@@ -403,14 +403,14 @@ impl Link {
         self.station.state()
     }
 
-    /// What the station counted.
+    /// Returns what the station counted.
     pub fn counters(&self) -> &Counters
         ensures { result.now ≡ self.now.station.core.counters }
     {
         self.station.counters()
     }
 
-    /// What the link counted.
+    /// Returns what the link counted.
     pub fn totals(&self) -> Totals
         ensures { result ≡ self.now.totals }
     {

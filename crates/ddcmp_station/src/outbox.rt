@@ -66,7 +66,7 @@ impl Outbox {
             (bytes_of station.old.syn (next_frame (next station.old.core.station))) self.old }
         ensures answer { result ≡ is_some (next_frame (next station.old.core.station)) }
     {
-        match poll_behind(station, &mut self.bytes, self.end) {
+        match poll_after(station, &mut self.bytes, self.end) {
             None => false,
             Some(length) => {
                 self.end += length;
@@ -82,7 +82,7 @@ impl Outbox {
         &self.bytes[self.start..self.end]
     }
 
-    /// Takes note that the line took the first `n` of them. If none is pending all the room is free
+    /// Notes that the line took the first `n` of them. If none is pending all the room is free
     /// again.
     pub(crate) fn took(&mut self, n: usize)
         requires { n ≤ length self.old.waiting }
@@ -105,7 +105,7 @@ impl Outbox {
 }
 
 /// Polls a station for bytes after the first `end`; returns how many they are.
-fn poll_behind(station: &mut Station, bytes: &mut [u8], end: usize) -> Option<usize>
+fn poll_after(station: &mut Station, bytes: &mut [u8], end: usize) -> Option<usize>
     requires { end + (station.old.syn + station.old.core.limits.longest + 10) ≤ length bytes.old }
     ensures station { station.new ≡ record station.old { core = after_poll station.old.core } }
     ensures length { result ≡ option_map length

@@ -1,4 +1,4 @@
-//! Who drives a station and what comes of it.
+//! The clock and the user of a driven station.
 ghost use Rattle.std.specs.Prelude.{◌≤◌, length};
 
 use ddcmp_proto::Notice;

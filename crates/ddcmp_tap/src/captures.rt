@@ -167,7 +167,7 @@ impl<R: Source + Drop> Capture<R> {
             Some(item) => {
                 let reached = reached_by(item);
                 if self.discarded {
-                    pass_to(page, writer, self.side, &self.reached, reached.offset);
+                    write_skipped_to(page, writer, self.side, &self.reached, reached.offset);
                 }
                 write_rung(page, writer, None, self.side, item);
                 self.reached = reached;
@@ -183,7 +183,7 @@ impl<R: Source + Drop> Capture<R> {
         let left_open = self.frames.open() as u64;
         if self.discarded {
             let end = bytes.saturating_sub(left_open);
-            pass_to(page, writer, self.side, &self.reached, end);
+            write_skipped_to(page, writer, self.side, &self.reached, end);
         }
         write_plain_front(page, writer, None, self.side);
         write_last(page, writer, Notation::Plain, self.items, bytes, left_open);
@@ -191,7 +191,13 @@ impl<R: Source + Drop> Capture<R> {
 }
 
 /// Writes the line of what was skipped after an item of a side, up to an offset.
-fn pass_to<W: Sink>(page: &mut Page, writer: &mut W, side: Side, reached: &Reached, to: u64) {
+fn write_skipped_to<W: Sink>(
+    page: &mut Page,
+    writer: &mut W,
+    side: Side,
+    reached: &Reached,
+    to: u64,
+) {
     match reached.skipped_to(to) {
         Some(it) => {
             write_plain_front(page, writer, None, side);

@@ -100,7 +100,7 @@ fn not_made<N: Net>(net: &N, stage: Stage, name: &str, error: &io::Error) -> Not
     }
 }
 
-/// What a tap ends with that can't have the system report what comes of both sides.
+/// The fault of a tap that can't wait for both sides.
 fn no_waiting(error: &io::Error) -> TapFault
     ensures { (result ≡ TapFault.Memory)
         ⊎ ((why : NotMade) × (result ≡ TapFault.Carrier why)) }

@@ -137,7 +137,7 @@ impl Direction {
         self.unlogged.push(bytes);
     }
 
-    /// What is to be forwarded to the other side.
+    /// Returns what is to be forwarded to the other side.
     pub fn waiting(&self) -> &[u8]
         ensures { result.now ≡ self.now.queue.waiting }
     {

@@ -87,7 +87,7 @@ impl<R: Source, O: Outlet> Flow<R, O> {
     }
 
     /// Hands on what the other side has room for; returns whether it took anything.
-    fn hand_on(&mut self) -> Result<bool, TapFault>
+    fn forward(&mut self) -> Result<bool, TapFault>
         requires open { O.closed self.old.outlet ≡ false }
         requires ends { Ends (flow_of R.left O.contents O.closed self.old) }
         ensures moves { Moves (flow_of R.left O.contents O.closed self.old)
@@ -112,7 +112,7 @@ impl<R: Source, O: Outlet> Flow<R, O> {
     }
 
     /// Forwards the end to the other side, once all was forwarded.
-    fn hand_end_on(&mut self)
+    fn forward_end(&mut self)
         requires open { O.closed self.old.outlet ≡ false }
         requires ends { Ends (flow_of R.left O.contents O.closed self.old) }
         ensures moves { Moves (flow_of R.left O.contents O.closed self.old)
@@ -141,8 +141,8 @@ impl<R: Source, O: Outlet> Flow<R, O> {
             return Ok(false);
         }
         let came = self.take_in(buffer)?;
-        let went = self.hand_on()?;
-        self.hand_end_on();
+        let went = self.forward()?;
+        self.forward_end();
         Ok(came || went)
     }
 

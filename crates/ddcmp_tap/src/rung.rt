@@ -13,7 +13,7 @@ use ddcmp_io::{Page, Sink};
 /// other end and the blanks beside the label.
 const REACH: usize = 71;
 
-/// What an arrow is drawn with: a frame that is good of strokes, all else of waves.
+/// Returns what an arrow is drawn with: a frame that is good of strokes, all else of waves.
 fn stroke_of(item: &Item) -> u8
     ensures { result ≡ stroke_of_item item.now }
 {

@@ -27,7 +27,7 @@ impl Socket {
         }
     }
 
-    /// Takes note of an error: returns whether the socket failed. It may only have nothing to give,
+    /// Notes an error: returns whether the socket failed. It may only have nothing to give,
     /// or no room.
     fn has_failed(&self, kind: ErrorKind) -> bool {
         let failed = !matches!(kind, ErrorKind::WouldBlock | ErrorKind::Interrupted);

@@ -60,7 +60,7 @@ fn begun(rt: &(impl Abort + AllocGlobal), options: Options) -> Session {
     session
 }
 
-/// Whether a moment is a whole number of periods after the beginning.
+/// Returns whether a moment is a whole number of periods after the beginning.
 fn is_due(now: u64, period_ms: u64) -> bool {
     now > 0 && now.checked_rem(period_ms) == Some(0)
 }

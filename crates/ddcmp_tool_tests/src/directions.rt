@@ -116,7 +116,7 @@ fn ladders_of_both_sides(rt: HostRuntime) {
     assert!(&rt; down.as_slice() == DOWN);
 }
 
-/// A direction has room for so many bytes, and so many wait.
+/// A direction has room for this many bytes, and this many are queued.
 fn holds(rt: &impl Abort, made: &Direction, room: usize, waiting: usize) {
     assert!(rt; made.room() == room);
     assert!(rt; made.waiting().len() == waiting);

@@ -54,7 +54,7 @@ fn lines_that_are_none(rt: HostRuntime) {
     }
 }
 
-/// An address of so many digits, and what comes after it on its line.
+/// Returns a line of an address of this many digits, and of what comes after it.
 fn addressed(rt: &HostRuntime, digits: usize, rest: &[u8]) -> io::Result<Vec<u8>> {
     let mut line = Vec::new(rt.alloc());
     for _ in 0..digits {

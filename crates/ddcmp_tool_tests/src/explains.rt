@@ -45,16 +45,16 @@ impl<'a> Call<'a> {
 }
 
 /// What comes of it.
-struct Told {
+struct ExplainOutcome {
     answer: Result<(), ExplainFault>,
     writer: Taken<256>,
     worst: Worst,
 }
 
 // Manual, since a derived `Drop` is expanded wherever an answer is dropped.
-impl Drop for Told {
+impl Drop for ExplainOutcome {
     fn drop(self) {
-        let Told {
+        let ExplainOutcome {
             answer: _answer,
             writer: _writer,
             worst: _worst,
@@ -63,7 +63,7 @@ impl Drop for Told {
 }
 
 /// Makes a call.
-fn explains(rt: &(impl Abort + AllocGlobal), call: Call<'_>) -> Told {
+fn explains(rt: &(impl Abort + AllocGlobal), call: Call<'_>) -> ExplainOutcome {
     assert!(rt; 0 < call.max && call.max <= 16383 && 0 < call.read && 0 < call.write);
     let mut reader = Pieces::of(call.input)
         .at_most(call.read)
@@ -74,7 +74,7 @@ fn explains(rt: &(impl Abort + AllocGlobal), call: Call<'_>) -> Told {
         .failing_at(call.write_fails_at);
     let answer = explain(rt.alloc(), &mut reader, &mut writer, call.form, call.max);
     let worst = reader.worst();
-    Told {
+    ExplainOutcome {
         answer,
         writer,
         worst,
@@ -93,7 +93,7 @@ fn tells(
     is(rt, told.writer.bytes(), text);
 }
 
-/// What a call returns and writes as JSON.
+/// Returns what a call returns and writes as JSON.
 fn explains_as_json(
     rt: &(impl Abort + AllocGlobal),
     call: Call<'_>,
@@ -236,8 +236,8 @@ fn in_small_pieces() -> Call<'static> {
     Call::of(startup(), Form::Hex, 16383).in_pieces(1, 9)
 }
 
-/// Whether a call wrote the beginning of the text of the startup, of this length.
-fn has_begun(told: &Told, length: usize) -> bool {
+/// Returns whether a call wrote the beginning of the text of the startup, of this length.
+fn has_begun(told: &ExplainOutcome, length: usize) -> bool {
     startup_text().get(..length) == Some(told.writer.bytes())
 }
 

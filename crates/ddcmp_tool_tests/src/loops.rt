@@ -96,7 +96,7 @@ impl Desk {
         }
     }
 
-    /// What comes of a write of these bytes.
+    /// Returns what comes of a write of these bytes.
     fn takes(&mut self, bytes: &[u8]) -> Moved {
         let n = bytes.len().min(self.draws.below(700));
         moved(&mut self.draws, n)
@@ -276,7 +276,7 @@ fn missing(read: &[u8], written: &[u8]) -> Option<u64> {
     }
 }
 
-/// A session over one line after the other, each of which may be closed at one of so many reads:
+/// A session over one line after the other, each of which may be closed at one of n reads:
 /// what wasn't acknowledged is lost, and all else arrives. Returns how many messages didn't.
 fn exchanges_over_lines(rt: &(impl Abort + AllocGlobal), seed: u64, cuts: usize) -> u64 {
     let mut draws = Draws { state: seed };

@@ -4,7 +4,7 @@ use ddcmp_explain::{ExplainFault, Form, Notation, Style, explain, explain_dump};
 use ddcmp_frame::failing::{Pieces, Taken};
 use std::process::Abort;
 
-/// What explain returns and writes of an input in this form.
+/// Returns what explain returns and writes of an input in this form.
 fn explains(
     rt: &(impl Abort + AllocGlobal),
     input: &[u8],
@@ -25,7 +25,7 @@ fn is_zeros(digits: Option<&[u8]>) -> bool {
     }
 }
 
-/// Whether a text is these bytes, this many digits 0, and these.
+/// Returns whether a text is these bytes, this many digits 0, and these.
 fn is_text(text: &[u8], front: &[u8], zeros: usize, end: &[u8]) -> bool {
     let after = front.len().saturating_add(zeros);
     text.get(..front.len()) == Some(front)
@@ -33,7 +33,7 @@ fn is_text(text: &[u8], front: &[u8], zeros: usize, end: &[u8]) -> bool {
         && text.get(after..) == Some(end)
 }
 
-/// What explain writes of an input in this form: these bytes, this many digits 0, and these.
+/// Writes what explain writes of an input in this form: these bytes, this many digits 0, and these.
 fn writes(
     rt: &(impl Abort + AllocGlobal),
     input: &[u8],

@@ -41,7 +41,7 @@ impl Write for Faulty {
     }
 }
 
-/// What explain returns to digits in memory, and writes there.
+/// Returns what explain returns to digits in memory, and writes there.
 fn explained(alloc: Global) -> (Result<(), ExplainFault>, Vec<u8>) {
     let mut reader = FromRead::new(digits());
     let mut writer = ToWrite::new(Vec::new(alloc));
@@ -56,7 +56,7 @@ fn bytes_in_memory_are_explained(rt: HostRuntime) {
     is(&rt, written.as_slice(), text());
 }
 
-/// What explain returns and writes if a reader has this fault.
+/// Returns what explain returns and writes if a reader has this fault.
 fn read_by(alloc: Global, reader: Faulty) -> (Result<(), ExplainFault>, Taken<64>) {
     let mut reader = FromRead::new(reader);
     let mut writer = Taken::<64>::new();
@@ -64,7 +64,7 @@ fn read_by(alloc: Global, reader: Faulty) -> (Result<(), ExplainFault>, Taken<64
     (answer, writer)
 }
 
-/// What explain returns if a writer has this fault.
+/// Returns what explain returns if a writer has this fault.
 fn written_to(alloc: Global, writer: Faulty) -> Result<(), ExplainFault> {
     let mut reader = Pieces::of(digits());
     let mut writer = ToWrite::new(writer);

@@ -9,7 +9,7 @@ use std::process::Abort;
 
 /// The bytes that a device has to give, and all that moved so far. None of them ever fails.
 #[derive(Drop)]
-struct Told {
+struct KnownDevices {
     input: Vec<u8>,
     line: Vec<u8>,
     read: ByteQueue,
@@ -41,7 +41,7 @@ fn take_some(bytes: &[u8], taken: &mut ByteQueue) -> usize
     n
 }
 
-impl Devices for Told {
+impl Devices for KnownDevices {
     ghost use Rattle.std.specs.Prelude.{[], Some};
     ghost use Rattle.ddcmp_session.specs.Devices.{Traffic};
 
@@ -129,7 +129,7 @@ fn log(rt: &(impl Abort + AllocGlobal)) -> ByteQueue {
 /// All that devices gave and took, once the time of the run is over.
 #[test]
 fn devices_tell_what_moved(rt: HostRuntime) {
-    let mut told = Told {
+    let mut told = KnownDevices {
         input: bytes(&rt, b"\0\x03abc"),
         line: bytes(&rt, CAME),
         read: log(&rt),

@@ -19,7 +19,7 @@ use Rattle.clap.specs.declared.parser.matches.ArgMatches.{ArgMatches}
 use Rattle.clap.specs.declared.parser.matches.ArgMatches.TheViews.{out-ArgMatches}
 use Rattle.clap.proofs.OnLiterals.{clap_on_literals}
 use Rattle.ddcmp_words.specs.Words.{program, named_by, option_in, text_in, file_of, role_of}
-use Rattle.ddcmp_words.specs.Words.{usual_syn_of, MOST, HasFlag, HasForm, HasNotation, HasNumber}
+use Rattle.ddcmp_words.specs.Words.{default_syn_of, MOST, HasFlag, HasForm, HasNotation, HasNumber}
 use Rattle.ddcmp_words.specs.Words.{HasLinkOptions, HasMessages, HasOptions, HasScript, HasSizes}
 use Rattle.ddcmp_words.specs.Words.{HasView}
 use Rattle.ddcmp_words.specs.Words.{IsAsked}
@@ -118,7 +118,7 @@ script_as o p t u scripted e w h = record {
 link_as : (line : Text) (o p : Text → Option Text) (made : Options) → ((id : Text) → o id ≡ p id)
     → HasLinkOptions line o made → HasLinkOptions line p made
 link_as line o p made e h = record {
-  sizes = sizes_as (usual_syn_of line) o p made.config e h.sizes;
+  sizes = sizes_as (default_syn_of line) o p made.config e h.sizes;
   timer_ms = subst (λ t. HasNumber 1 MOST 3000 t made.timer_ms) (e (codes "timer-ms")) h.timer_ms;
   attempts = subst (λ t. HasNumber 0 MOST MOST t made.attempts) (e (codes "attempts")) h.attempts;
   linger_ms =

@@ -38,23 +38,23 @@ false-true : ◌≡◌ {A = Bool} false true → ⊥
 false-true e = cc
 
 -- a number in range is read
-pub in_range : (low high usual : ℕ) (text : Option (List ℕ)) (v : ℕ) → (low ≤ v) × (v ≤ high)
+pub in_range : (low high otherwise : ℕ) (text : Option (List ℕ)) (v : ℕ) → (low ≤ v) × (v ≤ high)
     → high ≤ 4294967295 → (text ≡ None → Some v ≡ None)
     → ((n : ℕ) → text ≡ Some (decimal n) → n ≤ 4294967295 → Some v ≡ Some n)
-    → HasNumber low high usual text v
-in_range low high usual text v r most none reads = record {
+    → HasNumber low high otherwise text v
+in_range low high otherwise text v r most none reads = record {
   in_range = r;
   given = λ n e h. let k = h.1 in some-inj (reads n e (omega arith));
   absent = λ e. absurd (some-none (none e));
 }
 
 -- a number out of range was never given
-pub out_of_range : (low high usual : ℕ) (text : Option (List ℕ)) (v : ℕ) {b : Bool}
-    → (low ≤ usual) × (usual ≤ high) → high ≤ 4294967295 → b ≡ false
+pub out_of_range : (low high otherwise : ℕ) (text : Option (List ℕ)) (v : ℕ) {b : Bool}
+    → (low ≤ otherwise) × (otherwise ≤ high) → high ≤ 4294967295 → b ≡ false
     → ((low ≤ v) × (v ≤ high) → b ≡ true)
     → ((n : ℕ) → text ≡ Some (decimal n) → n ≤ 4294967295 → Some v ≡ Some n)
-    → HasNumber low high usual text usual
-out_of_range low high usual text v within most f t reads = record {
+    → HasNumber low high otherwise text otherwise
+out_of_range low high otherwise text v within most f t reads = record {
   in_range = within;
   given =
       λ n e h. let l =
@@ -66,10 +66,10 @@ out_of_range low high usual text v within most f t reads = record {
 }
 
 -- no number was given
-pub left_out : (low high usual : ℕ) (text : Option (List ℕ)) → (low ≤ usual) × (usual ≤ high)
+pub left_out : (low high otherwise : ℕ) (text : Option (List ℕ)) → (low ≤ otherwise) × (otherwise ≤ high)
     → high ≤ 4294967295 → ((n : ℕ) → text ≡ Some (decimal n) → n ≤ 4294967295 → None ≡ Some n)
-    → HasNumber low high usual text usual
-left_out low high usual text within most reads = record {
+    → HasNumber low high otherwise text otherwise
+left_out low high otherwise text within most reads = record {
   in_range = within;
   given = λ n e h. let k = h.1 in absurd (none-some (reads n e (omega arith)));
   absent = λ e. refl;

@@ -255,18 +255,18 @@ abbrev pub file_of : Option Text → Option Text
 file_of None = None
 file_of (Some word) = if bytes_eq word (codes "-") then None else Some word
 
--- a number in its range: the one that was given, else the usual one
-pub record HasNumber (low high usual : ℕ) (text : Option Text) (n : ℕ) : Type 0 where
+-- a number in its range: the one that was given, else the default
+pub record HasNumber (low high otherwise : ℕ) (text : Option Text) (n : ℕ) : Type 0 where
   pub in_range : (low ≤ n) × (n ≤ high)
   pub given : (m : ℕ) → text ≡ Some (decimal m) → (low ≤ m) × (m ≤ high) → n ≡ m
-  pub absent : text ≡ None → n ≡ usual
+  pub absent : text ≡ None → n ≡ otherwise
 
 -- the options of both ends, which have so many SYN bytes before each frame where none says how many
-pub record HasSizes (usual_syn : ℕ) (option : Text → Option Text) (config : Config) : Type 0 where
+pub record HasSizes (default_syn : ℕ) (option : Text → Option Text) (config : Config) : Type 0 where
   pub window : HasNumber 1 MAX_WINDOW 7 (option (codes "window")) config.window
   pub inbox : HasNumber 1 MAX_INBOX 8 (option (codes "inbox")) config.inbox
   pub max : HasNumber 1 MAX_COUNT 1500 (option (codes "max")) config.max
-  pub syn : HasNumber 0 MAX_SYN usual_syn (option (codes "syn")) config.syn
+  pub syn : HasNumber 0 MAX_SYN default_syn (option (codes "syn")) config.syn
   pub restart : HasFlag (option (codes "restart")) config.restart
 
 -- The options of what is explained. The word for what it comes from is kept as it was written.
@@ -320,8 +320,8 @@ pub record HasTap (option text : Text → Option Text) (tapped : TapArgs) : Type
   pub max : HasNumber 1 MAX_COUNT MAX_COUNT (option (codes "max")) tapped.max
 
 -- how many SYN bytes a line has before each frame, where no option says how many
-abbrev pub usual_syn_of : Text → ℕ
-usual_syn_of line = if starts_with eqb line (codes "device:") then 4 else 0
+abbrev pub default_syn_of : Text → ℕ
+default_syn_of line = if starts_with eqb line (codes "device:") then 4 else 0
 
 -- messages as bytes after their length where `--binary` was given, else as digits
 pub record HasMessages (binary : Option Text) (form : MessageForm) : Type 0 where
@@ -332,7 +332,7 @@ pub record HasMessages (binary : Option Text) (form : MessageForm) : Type 0 wher
 -- how a link runs over a line of this name
 pub record HasLinkOptions (line : Text) (option : Text → Option Text) (options : Options)
     : Type 0 where
-  pub sizes : HasSizes (usual_syn_of line) option options.config
+  pub sizes : HasSizes (default_syn_of line) option options.config
   pub timer_ms : HasNumber 1 MOST 3000 (option (codes "timer-ms")) options.timer_ms
   pub attempts : HasNumber 0 MOST MOST (option (codes "attempts")) options.attempts
   pub linger_ms : HasNumber 0 MOST 500 (option (codes "linger-ms")) options.linger_ms

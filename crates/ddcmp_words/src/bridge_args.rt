@@ -40,15 +40,15 @@ static BRIDGE: CommandText = CommandText {
     help: "\
 LINE is one of:
   connect:HOST:PORT      a TCP connection to this address
-  listen:HOST:PORT       a TCP connection from whoever calls
+  listen:HOST:PORT       a TCP connection accepted at this address
   udp:LOCAL,REMOTE       datagrams between two addresses
   device:PATH            a serial device that is set up already, as by stty
 Only whole good frames are passed on, unchanged but for the faults that are asked for;
 it ends with one of its lines.
 Output, at the end:
   > frames=F skipped=S damaged=D lost=L altered=A
-      from the first line to the second: good frames, bytes that are in none, frames
-      and headers that came damaged; and how many good frames were lost and altered
+      from the first line to the second: good frames, bytes that are in none, damaged
+      frames and headers; and how many good frames were lost and altered
   < frames=F skipped=S damaged=D lost=L altered=A
       the same for the other direction",
 };
@@ -80,13 +80,13 @@ static BRIDGE_OPTIONS: [CommandOption; 12] = [
         name: "lose",
         takes: Takes::Number { low: 0, high: 100 },
         is_required: false,
-        help: "Lose N percent of the good frames [default: 0]",
+        help: "Lose N percent of the good frames, 0 to 100 [default: 0]",
     },
     CommandOption {
         name: "damage",
         takes: Takes::Number { low: 0, high: 100 },
         is_required: false,
-        help: "Change a byte in N percent of the others [default: 0]",
+        help: "Change a byte in N percent of the others, 0 to 100 [default: 0]",
     },
     CommandOption {
         name: "delay",
@@ -104,25 +104,25 @@ static BRIDGE_OPTIONS: [CommandOption; 12] = [
             high: u32::MAX,
         },
         is_required: false,
-        help: "Draw the faults by N, the same by the same N [default: 1]",
+        help: "Seed of the random faults; the same N repeats them [default: 1]",
     },
     CommandOption {
         name: "trace",
         takes: Takes::Nothing,
         is_required: false,
-        help: "Print each frame that comes on standard error",
+        help: "Log received frames on standard error",
     },
     CommandOption {
         name: "ladder",
         takes: Takes::Nothing,
         is_required: false,
-        help: "Draw each frame that comes, as a ladder on standard error",
+        help: "Draw received frames as a ladder on standard error",
     },
     CommandOption {
         name: "json",
         takes: Takes::Nothing,
         is_required: false,
-        help: "Print each frame that comes as a JSON object on standard error",
+        help: "Log received frames as JSON objects on standard error",
     },
     CommandOption {
         name: "save-first",

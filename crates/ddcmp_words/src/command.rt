@@ -55,7 +55,7 @@ static EXPLAIN: CommandText = CommandText {
     help: "\
 With --ladder FILE and SECOND are the two directions of one line, drawn as arrows to the
 right and to the left. Captures have no times: the directions take turns, but a frame waits
-until what it answers is drawn; if both wait for data, these are missing.",
+until what it replies to is drawn; if both wait for data, these are missing.",
 };
 
 /// The options of `explain`.
@@ -379,7 +379,7 @@ pub(crate) fn notation_given(options: &ArgMatches<'_>) -> Notation
     }
 }
 
-/// How lines are written, and of what.
+/// Returns how lines are written, and of what.
 fn style_given(options: &ArgMatches<'_>) -> Style
     ensures { HasStyle (one_text (found_of options.now)) result }
 {
@@ -389,34 +389,34 @@ fn style_given(options: &ArgMatches<'_>) -> Style
     }
 }
 
-/// Whether an option that stands alone was given.
+/// Returns whether an option that stands alone was given.
 pub(crate) fn flag_given(options: &ArgMatches<'_>, name: &str) -> bool
     ensures { HasFlag (one_text (found_of options.now) name.now) result }
 {
     options.get_flag(name)
 }
 
-/// A number that was given, or the usual one. The parser of the words has tested the range.
+/// A number that was given, or the default. The parser of the words has tested the range.
 pub(crate) fn number_given(
     options: &ArgMatches<'_>,
     name: &str,
     low: u32,
     high: u32,
-    usual: u32,
+    otherwise: u32,
 ) -> u32
-    requires usual { (low ≤ usual) × (usual ≤ high) }
+    requires otherwise { (low ≤ otherwise) × (otherwise ≤ high) }
     requires most { high ≤ 4294967295 }
-    ensures { HasNumber low high usual (one_text (found_of options.now) name.now) result }
+    ensures { HasNumber low high otherwise (one_text (found_of options.now) name.now) result }
 {
     match options.get_one::<u32>(name) {
         Some(number) => {
             if is_within(low, number, high) {
                 number
             } else {
-                usual
+                otherwise
             }
         }
-        None => usual,
+        None => otherwise,
     }
 }
 
@@ -453,28 +453,28 @@ fn file_given<'a>(options: &ArgMatches<'a>, place: &str) -> Option<&'a str>
     }
 }
 
-/// The sizes of both ends, as they were given or as they are without; `usual_syn` SYN bytes stand
+/// The sizes of both ends, as they were given or as they are without; `default_syn` SYN bytes stand
 /// before each frame then.
-pub(crate) fn sizes_given(options: &ArgMatches<'_>, usual_syn: u8) -> Config
-    requires { usual_syn ≤ MAX_SYN }
-    ensures { HasSizes usual_syn (one_text (found_of options.now)) result }
+pub(crate) fn sizes_given(options: &ArgMatches<'_>, default_syn: u8) -> Config
+    requires { default_syn ≤ MAX_SYN }
+    ensures { HasSizes default_syn (one_text (found_of options.now)) result }
 {
     let Config {
         window,
         inbox,
         max,
         ..
-    } = Config::USUAL;
+    } = Config::DEFAULT;
     Config {
         window: number_given(options, "window", 1, MAX_WINDOW as u32, window as u32) as u16,
         inbox: number_given(options, "inbox", 1, MAX_INBOX as u32, inbox as u32) as u16,
         max: number_given(options, "max", 1, MAX_COUNT as u32, max as u32) as u16,
-        syn: number_given(options, "syn", 0, MAX_SYN as u32, usual_syn as u32) as u8,
+        syn: number_given(options, "syn", 0, MAX_SYN as u32, default_syn as u32) as u8,
         restart: flag_given(options, "restart"),
     }
 }
 
-/// How the run is to be shown.
+/// Returns how the run is to be shown.
 fn view_given(options: &ArgMatches<'_>) -> View
     ensures { HasView (one_text (found_of options.now)) result }
 {

@@ -2,7 +2,7 @@
 ghost use Rattle.std.specs.Prelude.{◌≡◌, ◌≤◌, codes};
 ghost use Rattle.clap.specs.Words.{first_value, found_of, one_text};
 ghost use Rattle.ddcmp_words.specs.Inside.Making.{Makes};
-ghost use Rattle.ddcmp_words.specs.Words.{HasLink, HasMessages, link_app, usual_syn_of};
+ghost use Rattle.ddcmp_words.specs.Words.{HasLink, HasMessages, link_app, default_syn_of};
 ghost use Rattle.ddcmp_proto.specs.declared.config.TheConstants.{MAX_SYN};
 
 use crate::command::{SIZE_OPTIONS, flag_given, number_given, sizes_given, text_given};
@@ -13,10 +13,10 @@ use ddcmp_session::{Form, Options};
 use std::alloc::Global;
 
 /// The `timer_ms` of a link if no option sets it.
-pub const USUAL_TIMER_MS: u32 = 3000;
+pub const DEFAULT_TIMER_MS: u32 = 3000;
 
 /// The `attempts` of a link if no option sets them.
-pub const USUAL_ATTEMPTS: u32 = u32::MAX;
+pub const DEFAULT_ATTEMPTS: u32 = u32::MAX;
 
 /// A link, as the arguments give it.
 #[derive(Clone, Copy, Debug)]
@@ -33,7 +33,7 @@ static LINK: CommandText = CommandText {
     help: "\
 LINE is one of:
   connect:HOST:PORT      a TCP connection to this address
-  listen:HOST:PORT       a TCP connection from whoever calls
+  listen:HOST:PORT       a TCP connection accepted at this address
   udp:LOCAL,REMOTE       datagrams between two addresses
   device:PATH            a serial device that is set up already, as by stty;
                          the default of --syn is 4
@@ -47,7 +47,7 @@ Output, as it happens:
 With --binary each message is preceded by its length in two bytes, high byte first,
 and all else goes to standard error.
 With --maintenance, as for MOP, each message goes once: it may be lost, and is
-never damaged. Delivered is what the line has taken.",
+never damaged. A message counts as delivered once it is written.",
 };
 
 /// The line of a link, which can't be left out.
@@ -165,10 +165,10 @@ pub(crate) fn link_parser<'a>(alloc: Global) -> Parser<'a>
         .with(&LINK_OPTIONS)
 }
 
-/// How many SYN bytes a line has before each frame, if no option sets that: a serial line
+/// Returns how many SYN bytes a line has before each frame, if no option sets that: a serial line
 /// finds its synchronism by them.
-fn usual_syn(line: &str) -> u8
-    ensures value { result ≡ usual_syn_of line.now }
+fn default_syn(line: &str) -> u8
+    ensures value { result ≡ default_syn_of line.now }
     ensures most { result ≤ MAX_SYN }
 {
     if line.starts_with("device:") { 4 } else { 0 }
@@ -192,9 +192,9 @@ pub(crate) fn link_given<'a>(options: &ArgMatches<'a>) -> LinkArgs<'a>
 {
     let line = text_given(options, "line");
     let options = Options {
-        config: sizes_given(options, usual_syn(line)),
-        timer_ms: number_given(options, "timer-ms", 1, u32::MAX, USUAL_TIMER_MS),
-        attempts: number_given(options, "attempts", 0, u32::MAX, USUAL_ATTEMPTS),
+        config: sizes_given(options, default_syn(line)),
+        timer_ms: number_given(options, "timer-ms", 1, u32::MAX, DEFAULT_TIMER_MS),
+        attempts: number_given(options, "attempts", 0, u32::MAX, DEFAULT_ATTEMPTS),
         linger_ms: number_given(options, "linger-ms", 0, u32::MAX, 500),
         seconds: number_given(options, "seconds", 1, u32::MAX, u32::MAX),
         report: number_given(options, "report", 0, u32::MAX, 0),

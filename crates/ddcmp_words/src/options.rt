@@ -33,7 +33,7 @@ pub(crate) enum Takes {
     Number { low: u32, high: u32 },
     /// A text, which help calls so.
     Text(&'static str),
-    /// It is a word that stands for itself, which help calls so.
+    /// It is a positional argument, which help calls so.
     Place(&'static str),
 }
 
@@ -91,7 +91,7 @@ fn text<'a>(alloc: Global, name: &'a str, value: &'a str, help: &'a str) -> Arg<
         .help(help)
 }
 
-/// A word that stands for itself, and may be left out.
+/// A positional argument, which may be left out.
 fn place<'a>(alloc: Global, name: &'a str, value: &'a str, help: &'a str) -> Arg<'a>
     ensures rule { rule_of result ≡ place_rule name.entry.now }
     ensures local { result.global ≡ false }

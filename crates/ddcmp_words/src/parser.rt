@@ -101,7 +101,7 @@ impl<'a> Parser<'a> {
         }
     }
 
-    /// What was made.
+    /// Returns what was made.
     pub(crate) fn made(self) -> Result<clap::Command<'a>, AllocError>
         ensures { result ≡ self.entry.made }
     {

@@ -6,7 +6,7 @@ use std::io;
 
 const SIZES: Config = Config {
     max: 64,
-    ..Config::USUAL
+    ..Config::DEFAULT
 };
 /// What the peer sends: STACK; nothing; ACK 1 and its own message `abc`; nothing.
 const LINE: [&[u8]; 4] = [

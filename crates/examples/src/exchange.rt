@@ -7,7 +7,7 @@ use std::io;
 
 const SIZES: Config = Config {
     max: 64,
-    ..Config::USUAL
+    ..Config::DEFAULT
 };
 
 /// One end of the line.

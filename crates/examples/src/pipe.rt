@@ -8,7 +8,7 @@ use std::io;
 const OPTIONS: Options = Options {
     config: Config {
         max: 64,
-        ..Config::USUAL
+        ..Config::DEFAULT
     },
     timer_ms: 1000,
     attempts: 0,

@@ -17,7 +17,7 @@ struct End<'a, R> {
 
 impl<'a, R: Print + AllocGlobal> End<'a, R> {
     fn started(rt: &'a R, name: &'static str, messages: &'a [&'a [u8]]) -> Option<Self> {
-        let mut site = Site::new(rt, name, Config::USUAL, messages)?;
+        let mut site = Site::new(rt, name, Config::DEFAULT, messages)?;
         let _number = site.start();
         Some(End { site, read: 0 })
     }

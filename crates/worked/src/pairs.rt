@@ -25,7 +25,7 @@ fn end_of(word: &str) -> Option<End> {
     }
 }
 
-/// What happens at an end, by its word.
+/// Returns what happens at an end, by its word.
 fn event_at(alloc: Global, word: &str, end: End, bytes: &str) -> Option<Event> {
     match word {
         "start" => Some(Event::Start(end)),
@@ -39,7 +39,7 @@ fn event_at(alloc: Global, word: &str, end: End, bytes: &str) -> Option<Event> {
     }
 }
 
-/// Does what a line says, and returns what is answered.
+/// Runs a line, and returns the answer.
 fn perform(rt: &HostRuntime, table: &mut Table, line: &str) -> io::Result<()> {
     let mut words = line.split(' ');
     let word = words.next().unwrap_or("");
@@ -57,7 +57,7 @@ fn perform(rt: &HostRuntime, table: &mut Table, line: &str) -> io::Result<()> {
     }
 }
 
-/// Does what the lines say between two new ends.
+/// Runs the lines between two new ends.
 pub fn run(rt: &HostRuntime, head: &str, lines: &str) -> io::Result<()> {
     let Some((first, second)) = configs_of(head) else {
         return println!(rt; "no sizes");

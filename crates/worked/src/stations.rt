@@ -8,7 +8,7 @@ use ddcmp_station::Station;
 use std::io;
 use test_kit::config_of;
 
-/// Does what a line says.
+/// Runs a line.
 fn perform(rt: &HostRuntime, station: &mut Station, line: &str) -> io::Result<()> {
     let (word, rest) = match line.split_once(' ') {
         Some(parts) => parts,
@@ -21,7 +21,7 @@ fn perform(rt: &HostRuntime, station: &mut Station, line: &str) -> io::Result<()
     }
 }
 
-/// Does what the lines say with a new station.
+/// Runs the lines with a new station.
 pub fn run(rt: &HostRuntime, head: &str, lines: &str) -> io::Result<()> {
     let Some(config) = config_of(head) else {
         return println!(rt; "no sizes");

@@ -15,7 +15,7 @@ fn startup_text() -> &'static [u8] {
     items=2 bytes=19 open=0\n"
 }
 
-/// What explain returns and writes.
+/// Returns what explain returns and writes.
 fn explains(alloc: Global) -> (Result<(), ExplainFault>, Taken<256>) {
     let mut reader = Pieces::of(startup());
     let mut writer = Taken::<256>::new();
@@ -23,7 +23,7 @@ fn explains(alloc: Global) -> (Result<(), ExplainFault>, Taken<256>) {
     (answer, writer)
 }
 
-/// Whether memory is refused to a call: nothing is written then, and else all is.
+/// Returns whether memory is refused to a call: nothing is written then, and else all is.
 fn is_refused(rt: &(impl Abort + AllocGlobal)) -> bool {
     let (answer, writer) = explains(rt.alloc());
     if answer == Err(ExplainFault::Memory) {

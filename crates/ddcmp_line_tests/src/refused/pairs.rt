@@ -1,6 +1,6 @@
 //! A pair with refused memory.
 use crate::bench::{
-    ACK_2, Action, Answer, Bench, DATA_1, DATA_2, HANDED_UP, Step, USUAL, event_of, is_answer,
+    ACK_2, Action, Answer, Bench, DATA_1, DATA_2, DEFAULT, HANDED_UP, Step, event_of, is_answer,
     path, startup,
 };
 use crate::calls::events_of;
@@ -12,7 +12,7 @@ use std::process::Abort;
 
 /// What an end of a pair reports.
 #[derive(Clone, Copy, PartialEq, Eq)]
-struct ToldByEnd {
+struct EndReport {
     given: usize,
     handed_up: usize,
     acknowledged: u64,
@@ -30,16 +30,16 @@ struct ToldByEnd {
 
 /// What a pair reports.
 #[derive(Clone, Copy, PartialEq, Eq)]
-struct Told {
+struct PairReport {
     honest: bool,
     clean: bool,
-    a: ToldByEnd,
-    b: ToldByEnd,
+    a: EndReport,
+    b: EndReport,
 }
 
-fn told_by(pair: &Pair, end: End) -> ToldByEnd {
+fn told_by(pair: &Pair, end: End) -> EndReport {
     let station = pair.station(end);
-    ToldByEnd {
+    EndReport {
         given: pair.given(end),
         handed_up: pair.handed_up(end),
         acknowledged: pair.acknowledged(end),
@@ -56,8 +56,8 @@ fn told_by(pair: &Pair, end: End) -> ToldByEnd {
     }
 }
 
-fn tells(pair: &Pair) -> Told {
-    Told {
+fn tells(pair: &Pair) -> PairReport {
+    PairReport {
         honest: pair.honest(),
         clean: pair.clean(),
         a: told_by(pair, End::A),
@@ -75,7 +75,7 @@ fn to_settle() -> [Step; 4] {
     ]
 }
 
-/// What a settle does then.
+/// Returns what a settle does then.
 fn settling() -> [Step; 8] {
     [
         (Action::Take(End::B), Answer::Took(b"abc")),
@@ -92,7 +92,7 @@ fn settling() -> [Step; 8] {
     ]
 }
 
-/// What each round does after it.
+/// Returns what each round does after it.
 fn round() -> [Step; 4] {
     [
         (Action::Expire(End::A), Answer::Expired(false)),
@@ -102,8 +102,8 @@ fn round() -> [Step; 4] {
     ]
 }
 
-/// Whether a pair reports this.
-fn is_told(pair: &Pair, seen: &Told) -> bool {
+/// Returns whether a pair reports this.
+fn is_told(pair: &Pair, seen: &PairReport) -> bool {
     tells(pair) == *seen
 }
 
@@ -125,7 +125,7 @@ impl Drop for Patient {
 
 impl Patient {
     fn new(rt: &(impl Abort + AllocGlobal)) -> Patient {
-        match Bench::new(rt, USUAL, USUAL) {
+        match Bench::new(rt, DEFAULT, DEFAULT) {
             Ok(bench) => Patient {
                 bench,
                 refused: false,
@@ -133,7 +133,7 @@ impl Patient {
             Err(PairRefusal::First(refusal)) | Err(PairRefusal::Second(refusal)) => {
                 assert!(rt; refusal == ConfigRefusal::Memory);
                 Patient {
-                    bench: Bench::ample(rt, USUAL, USUAL),
+                    bench: Bench::ample(rt, DEFAULT, DEFAULT),
                     refused: true,
                 }
             }
@@ -223,7 +223,7 @@ impl Patient {
     }
 }
 
-/// Whether a settle had one exchange, and the line is quiet then.
+/// Returns whether a settle had one exchange, and the line is quiet then.
 fn is_settled_at_once(settled: Settled) -> bool {
     let exchanges = 1;
     settled
@@ -233,8 +233,8 @@ fn is_settled_at_once(settled: Settled) -> bool {
         }
 }
 
-/// Whether the first settle of a recovery had one exchange and the others none, and the line is
-/// quiet then.
+/// Returns whether the first settle of a recovery had one exchange and the others none, and the
+/// line is quiet then.
 fn is_recovered_at_once(recovered: Recovered) -> bool {
     let exchanges = [1, 0, 0];
     recovered
@@ -244,12 +244,12 @@ fn is_recovered_at_once(recovered: Recovered) -> bool {
         }
 }
 
-/// Whether a pair reports this before one of these steps, which it does until then.
+/// Returns whether a pair reports this before one of these steps, which it does until then.
 fn is_before(
     rt: &(impl Abort + AllocGlobal),
     bench: &mut Bench,
     steps: &[Step],
-    seen: &Told,
+    seen: &PairReport,
 ) -> bool {
     for (action, answer) in steps {
         if is_told(bench.pair(), seen) {
@@ -260,9 +260,9 @@ fn is_before(
     false
 }
 
-/// Whether a pair that was to do these steps reports this between two of them.
-fn is_among(rt: &(impl Abort + AllocGlobal), parts: &[&[Step]], seen: &Told) -> bool {
-    let mut bench = Bench::running(rt, USUAL);
+/// Returns whether a pair that was to do these steps reports this between two of them.
+fn is_among(rt: &(impl Abort + AllocGlobal), parts: &[&[Step]], seen: &PairReport) -> bool {
+    let mut bench = Bench::running(rt, DEFAULT);
     bench.plays(rt, &to_settle());
     for steps in parts {
         if is_before(rt, &mut bench, steps, seen) {
@@ -272,7 +272,7 @@ fn is_among(rt: &(impl Abort + AllocGlobal), parts: &[&[Step]], seen: &Told) -> 
     is_told(bench.pair(), seen)
 }
 
-/// Whether memory is refused on the path of one message.
+/// Returns whether memory is refused on the path of one message.
 fn is_refused_to_steps(rt: &(impl Abort + AllocGlobal)) -> bool {
     let mut patient = Patient::new(rt);
     patient.plays(rt, path());
@@ -280,7 +280,7 @@ fn is_refused_to_steps(rt: &(impl Abort + AllocGlobal)) -> bool {
     patient.refused
 }
 
-/// Whether memory is refused on the way to a settle, or to it.
+/// Returns whether memory is refused on the way to a settle, or to it.
 fn is_refused_to_a_settle(rt: &(impl Abort + AllocGlobal)) -> bool {
     let mut patient = Patient::new(rt);
     patient.plays(rt, startup());
@@ -290,7 +290,7 @@ fn is_refused_to_a_settle(rt: &(impl Abort + AllocGlobal)) -> bool {
     patient.refused
 }
 
-/// Whether memory is refused on the way to a recovery, or to it.
+/// Returns whether memory is refused on the way to a recovery, or to it.
 fn is_refused_to_a_recovery(rt: &(impl Abort + AllocGlobal)) -> bool {
     let mut patient = Patient::new(rt);
     patient.plays(rt, startup());
@@ -302,12 +302,12 @@ fn is_refused_to_a_recovery(rt: &(impl Abort + AllocGlobal)) -> bool {
 
 /// The pair reports what one reports after these steps.
 fn is_after(rt: &(impl Abort + AllocGlobal), pair: &Pair, steps: &[Step]) {
-    let mut bench = Bench::ample(rt, USUAL, USUAL);
+    let mut bench = Bench::ample(rt, DEFAULT, DEFAULT);
     bench.plays(rt, steps);
     assert!(rt; is_told(pair, &tells(bench.pair())));
 }
 
-/// Whether memory is refused to a run, or to its events.
+/// Returns whether memory is refused to a run, or to its events.
 fn is_refused_to_a_run(rt: &(impl Abort + AllocGlobal)) -> bool {
     let Ok(events) = events_of(rt.alloc(), path()) else {
         return true;

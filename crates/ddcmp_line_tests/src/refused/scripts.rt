@@ -12,7 +12,7 @@ fn lines() -> &'static [u8] {
     send A 616263\npoll A\npass A\ntake B\npoll B\npass B\n"
 }
 
-/// What it writes.
+/// Returns what it writes.
 fn text() -> &'static [u8] {
     b"A started dropped=0\nB started dropped=0\n\
     A wrote 0506c00000017595\nA passed 8\n\
@@ -23,7 +23,7 @@ fn text() -> &'static [u8] {
     honest yes clean yes up A=0 B=1 acked A=1 B=0\n"
 }
 
-const USUAL: Config = Config {
+const DEFAULT: Config = Config {
     window: 7,
     inbox: 8,
     max: 1500,
@@ -33,34 +33,34 @@ const USUAL: Config = Config {
 
 /// What came of a script.
 #[derive(Drop)]
-struct Told {
+struct ScriptOutcome {
     answer: Result<(), ScriptFault>,
     writer: Taken<512>,
 }
 
 /// The script, with a pair that memory allows.
-fn plays(alloc: Global, pair: &mut Pair) -> Told {
+fn plays(alloc: Global, pair: &mut Pair) -> ScriptOutcome {
     let mut reader = Pieces::of(lines());
     let mut writer = Taken::<512>::new();
     let answer = script(alloc, pair, &mut reader, &mut writer, &mut Direct);
-    Told { answer, writer }
+    ScriptOutcome { answer, writer }
 }
 
 fn pair_of(alloc: Global) -> Option<Pair> {
-    Pair::new(alloc, USUAL, USUAL).ok()
+    Pair::new(alloc, DEFAULT, DEFAULT).ok()
 }
 
 fn premises(pair: &Pair) -> (bool, bool) {
     (pair.honest(), pair.clean())
 }
 
-/// Whether a text is a prefix of the whole, and not all of it.
+/// Returns whether a text is a prefix of the whole, and not all of it.
 fn is_beginning(text: &[u8], whole: &[u8]) -> bool {
     text.len() < whole.len() && whole.get(..text.len()) == Some(text)
 }
 
-/// Whether memory is refused to a script that has its pair: a beginning of its text is written
-/// then, and no last line; and else all of it.
+/// Returns whether memory is refused to a script that has its pair: a beginning of its text is
+/// written then, and no last line; and else all of it.
 fn is_refused_then(rt: &(impl Abort + AllocGlobal), pair: &mut Pair) -> bool {
     let told = plays(rt.alloc(), pair);
     is(rt, premises(pair), (true, true));
@@ -73,7 +73,7 @@ fn is_refused_then(rt: &(impl Abort + AllocGlobal), pair: &mut Pair) -> bool {
     false
 }
 
-/// Whether memory is refused to a script, or to its pair.
+/// Returns whether memory is refused to a script, or to its pair.
 fn is_refused(rt: &(impl Abort + AllocGlobal)) -> bool {
     match pair_of(rt.alloc()) {
         Some(mut pair) => is_refused_then(rt, &mut pair),

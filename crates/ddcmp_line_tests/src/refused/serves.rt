@@ -30,13 +30,13 @@ fn reported() -> &'static [u8] {
 
 /// What came of a call.
 #[derive(Drop)]
-struct Told {
+struct ServeOutcome {
     answer: Result<(), ServeFault>,
     writer: Taken<256>,
     report: Taken<256>,
 }
 
-fn serves(alloc: Global) -> Told {
+fn serves(alloc: Global) -> ServeOutcome {
     let mut reader = Pieces::of(stack_and_data());
     let mut writer = Taken::<256>::new();
     let mut report = Taken::<256>::new();
@@ -52,19 +52,20 @@ fn serves(alloc: Global) -> Told {
         false,
         false,
     );
-    Told {
+    ServeOutcome {
         answer,
         writer,
         report,
     }
 }
 
-/// Whether it is the answer to an allocation failure.
+/// Returns whether it is the answer to an allocation failure.
 fn is_want(answer: &Result<(), ServeFault>) -> bool {
     *answer == Err(ServeFault::Config) || *answer == Err(ServeFault::Line(LineFault::Memory))
 }
 
-/// Whether memory is refused to a call: nothing is read, written or reported then, and else all is.
+/// Returns whether memory is refused to a call: nothing is read, written or reported then, and else
+/// all is.
 fn is_refused(rt: &(impl Abort + AllocGlobal)) -> bool {
     let told = serves(rt.alloc());
     if is_want(&told.answer) {

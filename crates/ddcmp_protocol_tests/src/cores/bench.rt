@@ -120,7 +120,7 @@ fn header_of(frame: Frame) -> Option<Header> {
     Some(header)
 }
 
-/// Whether this is the header of the frame, or neither is there.
+/// Returns whether this is the header of the frame, or neither is there.
 fn is_header(header: Option<Header>, frame: Option<Frame>) -> bool {
     match (header, frame) {
         (Some(header), Some(frame)) => header_of(frame) == Some(header),
@@ -254,7 +254,7 @@ impl Bench {
         self.core.numbers() == numbers
     }
 
-    /// Whether the counters has what the row has.
+    /// Returns whether the counters has what the row has.
     fn is_counted(&self, row: Row) -> bool {
         let counters = self.counters();
         match row {
@@ -265,7 +265,7 @@ impl Bench {
         }
     }
 
-    /// Whether the core, or the buffer, has what the row has.
+    /// Returns whether the core, or the buffer, has what the row has.
     fn is_told(&self, row: Row) -> bool {
         match row {
             Row::NextHeader(frame) => is_header(self.next_header(), frame),
@@ -283,7 +283,7 @@ impl Bench {
         }
     }
 
-    /// Whether the core does what the row has.
+    /// Returns whether the core does what the row has.
     pub fn is_right(&mut self, row: Row) -> bool {
         match row {
             Row::Start(answer) => self.starts() == answer,

@@ -267,7 +267,7 @@ fn carries(rt: &impl Abort, bench: &mut Bench, number: u8) {
     bench.plays(rt, &rows);
 }
 
-/// Whether an acknowledgement reports nothing and isn't counted.
+/// Returns whether an acknowledgement reports nothing and isn't counted.
 fn is_passed_over(bench: &mut Bench, resp: u8) -> bool {
     let before = bench.counters();
     bench.is_right(Row::Receive(Frame::Ack(resp), None)) && bench.counters() == before

@@ -14,7 +14,7 @@ pub const STACK: [u8; 8] = [0x05, 0x07, 0xC0, 0x00, 0x00, 0x01, 0x48, 0x55];
 pub const SILENCE: &[u8] = &[];
 
 /// The usual sizes.
-pub const USUAL: Config = Config {
+pub const DEFAULT: Config = Config {
     window: 7,
     inbox: 8,
     max: 1500,
@@ -102,7 +102,7 @@ pub fn is_told(rt: &impl Abort, outcome: &Outcome<64>, answer: Driven, written: 
     is(rt, outcome.writer.bytes(), written);
 }
 
-/// What the user of a station sees that is answered.
+/// Returns what the user of a station sees that is answered.
 fn running() -> &'static [Seen] {
     &[Seen::Told(Notice::Running)]
 }
@@ -114,7 +114,7 @@ fn is_nothing(rt: &impl Abort, outcome: &Outcome<64>) {
     is(rt, outcome.moments, 0);
 }
 
-/// Whether memory is refused to a station or a call: then the station stays as it was.
+/// Returns whether memory is refused to a station or a call: then the station stays as it was.
 fn is_refused(rt: &(impl Abort + AllocGlobal)) -> bool {
     match Station::new(rt.alloc(), LEAST) {
         Ok(mut station) => {
@@ -177,7 +177,7 @@ fn sees_nothing(rt: &impl Abort, user: &Recorder<'_>) {
 
 /// A call of a started station finds memory and sends STRT once.
 fn starts_once(rt: &(impl Abort + AllocGlobal), turns: u32) {
-    let mut station = started(rt, rt.alloc(), USUAL);
+    let mut station = started(rt, rt.alloc(), DEFAULT);
     sends_strt(rt, &mut station, turns);
     is(rt, station.state(), State::IStart);
 }

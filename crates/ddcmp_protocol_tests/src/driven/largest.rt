@@ -1,7 +1,7 @@
 //! Stations of the largest sizes, a message of the most bytes, and many turns.
 ghost use Rattle.std.specs.Prelude.{◌≡◌};
 
-use crate::driven::driver::{SILENCE, STACK, STRT, USUAL, driven, drives, is_told, started};
+use crate::driven::driver::{DEFAULT, SILENCE, STACK, STRT, driven, drives, is_told, started};
 use crate::same::is;
 use ddcmp_station::{Config, Fed, Notice, StartRefusal, Station};
 use std::alloc::Global;
@@ -35,7 +35,7 @@ const LONGEST_SEEN: &[Seen] = &[
 #[test]
 fn five_thousand_turns(rt: HostRuntime) {
     let fill = [0x96; 5000];
-    let mut station = started(&rt, rt.alloc(), USUAL);
+    let mut station = started(&rt, rt.alloc(), DEFAULT);
     let mut user = Recorder::offering(&[]);
     let outcome = drives::<64>(&rt, &mut station, &[&fill], 1, &mut user, 5000);
     is_told(&rt, &outcome, driven(5000, 5000, 8), &STRT);
@@ -49,7 +49,7 @@ fn is_zeros(bytes: Option<&[u8]>) -> bool {
     }
 }
 
-/// Whether STRT was written, the message, and ACK 1 when the message of the peer was whole.
+/// Returns whether STRT was written, the message, and ACK 1 when the message of the peer was whole.
 fn is_message_and_answer(written: &[u8]) -> bool {
     written.len() == 16409
         && written.get(..8) == Some(STRT.as_slice())
@@ -63,7 +63,7 @@ fn is_message_and_answer(written: &[u8]) -> bool {
 fn the_longest_message(rt: HostRuntime) {
     let zeros = [0; 16385];
     let max = 16383;
-    let mut station = started(&rt, rt.alloc(), Config { max, ..USUAL });
+    let mut station = started(&rt, rt.alloc(), Config { max, ..DEFAULT });
     let offers: [&[u8]; 1] = [&zeros[..16383]];
     let mut user = Recorder::offering(&offers);
     let pieces: [&[u8]; 3] = [&FRONT, &zeros, SILENCE];
@@ -99,7 +99,7 @@ impl End {
         self.station.feed(frame)
     }
 
-    /// Whether it takes a message.
+    /// Returns whether it takes a message.
     fn takes(&mut self, message: &[u8]) -> bool {
         self.station.send(message).is_ok()
     }

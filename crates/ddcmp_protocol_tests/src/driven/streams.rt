@@ -44,7 +44,7 @@ impl Watcher {
     }
 }
 
-/// Whether a message was kept after the others.
+/// Returns whether a message was kept after the others.
 fn keeps(alloc: Global, kept: &mut Vec<Vec<u8>>, message: &[u8]) -> bool {
     match Vec::from_slice(alloc, message) {
         Ok(copied) => kept.push(copied).is_ok(),

@@ -40,7 +40,7 @@ pub fn push_all(rt: &impl Abort, reader: &mut Reader, piece: &[u8]) -> (usize, O
     (taken.used, taken.item)
 }
 
-/// How many bytes are open and kept, and the offset.
+/// Returns how many bytes are open and kept, and the offset.
 pub fn counts(reader: &Reader) -> (usize, usize, u64) {
     (reader.open(), reader.kept(), reader.offset())
 }

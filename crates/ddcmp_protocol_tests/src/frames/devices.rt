@@ -95,8 +95,8 @@ impl Write for Counting {
     }
 }
 
-/// What one read into this buffer returns, and how often the reader was called; no fault came
-/// before.
+/// Returns what one read into this buffer returns, and how often the reader was called; no fault
+/// came before.
 fn read_once(
     rt: &impl Abort,
     answer: Result<usize, ErrorKind>,
@@ -154,7 +154,7 @@ fn is_all(bytes: Option<&[u8]>, wanted: u8) -> bool {
     }
 }
 
-/// Whether a buffer has this many sevens, and zeros after them.
+/// Returns whether a buffer has this many sevens, and zeros after them.
 fn is_filled(buf: &[u8], n: usize) -> bool {
     is_all(buf.get(..n), 7) && is_all(buf.get(n..), 0)
 }
@@ -208,8 +208,8 @@ fn in_turn() -> FromRead<InTurn> {
     FromRead::new(InTurn(0))
 }
 
-/// What one write of these bytes returns, whether the sink has failed then, and how often the
-/// writer was called; no fault came before.
+/// Returns what one write of these bytes returns, whether the sink has failed then, and how often
+/// the writer was called; no fault came before.
 fn write_once(
     rt: &impl Abort,
     answer: Result<usize, ErrorKind>,

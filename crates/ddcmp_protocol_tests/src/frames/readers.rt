@@ -148,7 +148,7 @@ fn start_bytes_alone(rt: HostRuntime) -> Result<(), Fail> {
     same(&rt, rt.alloc(), &[0x05; 300])
 }
 
-/// Whether an item is a good frame at the beginning.
+/// Returns whether an item is a good frame at the beginning.
 fn is_first(item: Option<Item>) -> bool {
     matches!(item, Some(Item::Good(0, _)))
 }

@@ -70,7 +70,7 @@ fn ack_0() -> &'static [u8] {
     &[0x05, 0x01, 0x00, 0x00, 0x00, 0x01, 0xFC, 0x55]
 }
 
-/// What a reader gives for a text, byte by byte: the items, and all data that it lends.
+/// Returns what a reader gives for a text, byte by byte: the items, and all data that it lends.
 fn given(
     rt: &(impl Abort + AllocGlobal),
     reader: &mut Reader,
@@ -427,7 +427,7 @@ fn too_long(rt: HostRuntime) -> Result<(), Fail> {
     Ok(())
 }
 
-/// Why no reader has this maximum, and how many bytes are open in a new one.
+/// Returns why no reader has this maximum, and how many bytes are open in a new one.
 fn made(alloc: Global, max: u16) -> Result<(usize, u64), ReaderRefusal> {
     match Reader::new(alloc, max) {
         Ok(reader) => Ok((reader.open(), reader.offset())),
@@ -435,7 +435,7 @@ fn made(alloc: Global, max: u16) -> Result<(usize, u64), ReaderRefusal> {
     }
 }
 
-/// Whether memory is refused to a reader.
+/// Returns whether memory is refused to a reader.
 fn is_refused(rt: &(impl Abort + AllocGlobal)) -> bool {
     let alloc = rt.alloc();
     is(rt, made(alloc, 0), Err(ReaderRefusal::MaxZero));

@@ -16,7 +16,7 @@ fn lengths(rt: &(impl Abort + AllocGlobal)) -> Lengths {
     }
 }
 
-/// What one line is.
+/// Returns what one line is.
 fn entry_of(rt: &(impl Abort + AllocGlobal), line: &[u8]) -> Option<Entry> {
     let mut lines = lines(rt);
     let pushed = lines.push_all(line);

@@ -23,7 +23,7 @@ impl End {
             window,
             inbox,
             max: 40,
-            ..Config::USUAL
+            ..Config::DEFAULT
         };
         match Link::new(rt.alloc(), config, 30) {
             Ok(link) => End {
@@ -142,7 +142,7 @@ fn begins_anew(rt: HostRuntime) {
     assert!(&rt; a.link.unsent().len() == 8);
     a.link.sent(3);
     assert!(&rt; a.link.unsent().len() == 5);
-    assert!(&rt; a.link.begin_anew().is_ok());
+    assert!(&rt; a.link.restart().is_ok());
     assert!(&rt; a.link.unsent().is_empty());
     assert!(&rt; a.link.state() == State::IStart);
     a.link.fill();

@@ -122,16 +122,16 @@ impl<'a> Call<'a> {
 }
 
 /// What came of a call.
-struct Told {
+struct ServeOutcome {
     answer: Result<(), ServeFault>,
     writer: Taken<256>,
     report: Taken<256>,
 }
 
 // Manual, since a derived `Drop` is expanded wherever an answer is dropped.
-impl Drop for Told {
+impl Drop for ServeOutcome {
     fn drop(self) {
-        let Told {
+        let ServeOutcome {
             answer: _answer,
             writer: _writer,
             report: _report,
@@ -140,7 +140,7 @@ impl Drop for Told {
 }
 
 /// Makes a call.
-fn serves(rt: &(impl Abort + AllocGlobal), call: Call<'_>) -> Told {
+fn serves(rt: &(impl Abort + AllocGlobal), call: Call<'_>) -> ServeOutcome {
     assert!(rt; 0 < call.most && call.send.len() <= 1500);
     let mut reader = Pieces::new(call.came)
         .at_most(256)
@@ -163,7 +163,7 @@ fn serves(rt: &(impl Abort + AllocGlobal), call: Call<'_>) -> Told {
         call.restart,
         false,
     );
-    Told {
+    ServeOutcome {
         answer,
         writer,
         report,

@@ -14,7 +14,7 @@ fn stack() -> &'static [u8] {
     &[0x05, 0x07, 0xC0, 0x00, 0x00, 0x01, 0x48, 0x55]
 }
 
-/// What a station returns and reports over a connection.
+/// Returns what a station returns and reports over a connection.
 fn serves(alloc: Global, stream: &TcpStream) -> (Result<(), ServeFault>, Taken<256>) {
     let mut reader = FromRead::new(stream);
     let mut writer = ToWrite::new(stream);

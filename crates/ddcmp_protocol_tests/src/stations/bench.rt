@@ -59,12 +59,12 @@ fn header() -> Header {
     })
 }
 
-/// Whether these bytes are at the front, and what was after them stays.
+/// Returns whether these bytes are at the front, and what was after them stays.
 fn begins(out: &[u8], bytes: &[u8]) -> bool {
     out.starts_with(bytes) && out.get(bytes.len()) == Some(&0xAA)
 }
 
-/// A station of the usual sizes.
+/// A station of the default sizes.
 pub struct Bench {
     station: Station,
     ghost longest: { station.core.limits.longest ≡ 1500 },
@@ -117,7 +117,7 @@ impl Bench {
         self.station.offset()
     }
 
-    /// How many bytes are held and open.
+    /// Returns how many bytes are held and open.
     fn bytes(&self) -> (usize, usize) {
         (self.station.held(), self.station.open())
     }
@@ -154,7 +154,7 @@ impl Bench {
         self.station.clear_line()
     }
 
-    /// What it makes of a piece; None if that is too long, or too much came before.
+    /// Returns what it makes of a piece; None if that is too long, or too much came before.
     fn feed(&mut self, piece: &[u8]) -> Option<Fed> {
         if self.station.offset() >= 1000 || piece.len() >= 1000 {
             return None;
@@ -184,33 +184,33 @@ impl Bench {
 }
 
 impl Bench {
-    /// Whether it makes this of a piece.
+    /// Returns whether it makes this of a piece.
     fn is_fed(&mut self, piece: &[u8], used: usize, notice: Option<Notice>) -> bool {
         let offset = self.offset();
         self.feed(piece) == Some(Fed { used, notice })
             && self.offset().checked_sub(offset) == Some(used as u64)
     }
 
-    /// Whether its next frame is this one.
+    /// Returns whether its next frame is this one.
     fn is_written(&mut self, bytes: &[u8]) -> bool {
         let mut out = [0xAA; 1526];
         self.poll(&mut out).unwrap_or(0) == bytes.len() && begins(&out, bytes)
     }
 
-    /// Whether the first message of its inbox is this one, which leaves it.
+    /// Returns whether the first message of its inbox is this one, which leaves it.
     fn is_taken(&mut self, message: &[u8]) -> bool {
         let mut out = [0xAA; 1500];
         self.take(&mut out) == Some(message.len()) && begins(&out, message)
     }
 
-    /// Whether the first message of its inbox is this one, which stays there.
+    /// Returns whether the first message of its inbox is this one, which stays there.
     fn is_shown(&self, message: &[u8]) -> bool {
         let mut out = [0xAA; 1500];
         let length = message.len();
         self.copy_first(&mut out) == Some((length, length)) && begins(&out, message)
     }
 
-    /// Whether the station has what the row has.
+    /// Returns whether the station has what the row has.
     fn is_told(&self, row: Row) -> bool {
         match row {
             Row::Shows(message) => self.is_shown(message),
@@ -232,7 +232,7 @@ impl Bench {
         }
     }
 
-    /// Whether the station does what the row has.
+    /// Returns whether the station does what the row has.
     fn is_right(&mut self, row: Row) -> bool {
         match row {
             Row::Start(answer) => self.start() == answer,

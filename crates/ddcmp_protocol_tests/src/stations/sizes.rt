@@ -13,7 +13,7 @@ fn config_of(window: u16, inbox: u16, max: u16, syn: u8) -> Config {
     }
 }
 
-/// Why no station has these sizes, and the state of one that has.
+/// Returns why no station has these sizes, and the state of one that has.
 fn made(alloc: Global, config: Config) -> Result<State, ConfigRefusal> {
     match Station::new(alloc, config) {
         Ok(station) => Ok(station.state()),
@@ -28,7 +28,7 @@ fn makes(rt: &(impl Abort + AllocGlobal), config: Config) {
 /// Window, inbox, longest message and fill, and why no station has these sizes.
 type Sizes = (u16, u16, u16, u8, Option<ConfigRefusal>);
 
-/// What is reported of sizes that are wrong in several ways, and stations of unusual sizes.
+/// What is reported of sizes that are wrong in several ways, and stations of other sizes.
 const TESTED_IN_ORDER: &[Sizes] = &[
     (0, 0, 0, 17, Some(ConfigRefusal::Window)),
     (7, 0, 0, 17, Some(ConfigRefusal::Inbox)),
@@ -66,7 +66,7 @@ fn many() -> &'static [(u16, u16, u16, u8)] {
     MANY
 }
 
-/// Whether a halted station is made, or none for this reason.
+/// Returns whether a halted station is made, or none for this reason.
 fn is_answered(alloc: Global, config: Config, refusal: Option<ConfigRefusal>) -> bool {
     match (made(alloc, config), refusal) {
         (Ok(state), None) => state == State::Halted,
@@ -97,7 +97,7 @@ fn stations_of_many_sizes(rt: HostRuntime) {
     }
 }
 
-/// Whether memory is refused to a station.
+/// Returns whether memory is refused to a station.
 fn is_refused(rt: &(impl Abort + AllocGlobal)) -> bool {
     match made(rt.alloc(), config_of(2, 2, 8, 0)) {
         Ok(state) => {

@@ -55,7 +55,7 @@ fn in_sequence() -> &'static [Row] {
     IN_SEQUENCE
 }
 
-/// Whether an inbox, or the buffer, has what the row has.
+/// Returns whether an inbox, or the buffer, has what the row has.
 fn is_told<S: Store>(inbox: &Inbox<S>, out: &[u8; 4], row: Row) -> bool {
     match row {
         Row::Last(answer) => inbox.last() == answer,
@@ -67,12 +67,12 @@ fn is_told<S: Store>(inbox: &Inbox<S>, out: &[u8; 4], row: Row) -> bool {
     }
 }
 
-/// Whether message `i` is there, has this length and goes to the buffer.
+/// Returns whether message `i` is there, has this length and goes to the buffer.
 fn is_copied<S: Store>(inbox: &Inbox<S>, out: &mut [u8; 4], i: u8, length: usize) -> bool {
     i < inbox.len() && inbox.length(i) <= 4 && inbox.copy(i, out) == length
 }
 
-/// Whether an inbox does what the row has.
+/// Returns whether an inbox does what the row has.
 fn is_done<S: Store>(inbox: &mut Inbox<S>, out: &mut [u8; 4], row: Row) -> bool
     requires { inbox.old.longest ≡ 4 }
     ensures { inbox.new.longest ≡ inbox.old.longest }

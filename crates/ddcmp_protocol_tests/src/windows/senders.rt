@@ -112,7 +112,7 @@ fn full() -> &'static [Row] {
     FULL
 }
 
-/// Whether a sender, or the buffer, has what the row has.
+/// Returns whether a sender, or the buffer, has what the row has.
 fn is_told<S: Store>(sender: &Sender<S>, out: &[u8; 4], row: Row) -> bool {
     match row {
         Row::Refusal(message, answer) => sender.refusal(message) == answer,
@@ -130,7 +130,7 @@ fn is_told<S: Store>(sender: &Sender<S>, out: &[u8; 4], row: Row) -> bool {
     }
 }
 
-/// Whether a sender does what the row has.
+/// Returns whether a sender does what the row has.
 fn is_done<S: Store>(sender: &mut Sender<S>, out: &mut [u8; 4], row: Row) -> bool
     requires { sender.old.longest ≡ 4 }
     ensures { sender.new.longest ≡ sender.old.longest }
@@ -201,7 +201,7 @@ fn sends_one<S: Store>(sender: &mut Sender<S>) -> Option<Seq>
     }
 }
 
-/// Whether a message is kept, sent and acknowledged.
+/// Returns whether a message is kept, sent and acknowledged.
 fn is_carried<S: Store>(sender: &mut Sender<S>) -> bool
     requires { sender.old.longest ≡ 4 }
     ensures { sender.new.longest ≡ sender.old.longest }

@@ -54,7 +54,7 @@ fn in_order() -> &'static [Row] {
     IN_ORDER
 }
 
-/// Whether a store, or the buffer, has what the row has.
+/// Returns whether a store, or the buffer, has what the row has.
 fn is_told<S: Store>(store: &S, out: &[u8; 4], row: Row) -> bool {
     match row {
         Row::Limit(answer) => store.limit() == answer,
@@ -68,7 +68,7 @@ fn is_told<S: Store>(store: &S, out: &[u8; 4], row: Row) -> bool {
     }
 }
 
-/// Whether a message of at least one byte fits, and is appended.
+/// Returns whether a message of at least one byte fits, and is appended.
 fn is_pushed<S: Store>(store: &mut S, message: &[u8]) -> bool {
     if !store.room() || message.is_empty() || message.len() > store.longest() as usize {
         return false;
@@ -77,7 +77,7 @@ fn is_pushed<S: Store>(store: &mut S, message: &[u8]) -> bool {
     true
 }
 
-/// Whether there are this many messages, which are removed.
+/// Returns whether there are this many messages, which are removed.
 fn is_dropped<S: Store>(store: &mut S, count: u8) -> bool {
     if store.len() < count {
         return false;
@@ -86,12 +86,12 @@ fn is_dropped<S: Store>(store: &mut S, count: u8) -> bool {
     true
 }
 
-/// Whether message `i` is there, has this length and goes to the buffer.
+/// Returns whether message `i` is there, has this length and goes to the buffer.
 fn is_copied<S: Store>(store: &S, out: &mut [u8; 4], i: u8, length: usize) -> bool {
     i < store.len() && store.length(i) <= 4 && store.copy(i, out) == length
 }
 
-/// Whether a store does what the row has.
+/// Returns whether a store does what the row has.
 fn is_done<S: Store>(store: &mut S, out: &mut [u8; 4], row: Row) -> bool {
     match row {
         Row::Push(message) => is_pushed(store, message),
@@ -135,7 +135,7 @@ fn a_ring_serves_a_window(rt: HostRuntime) -> Result<(), Fail> {
     Ok(())
 }
 
-/// Whether a ring of these sizes is made, each of which is in its range.
+/// Returns whether a ring of these sizes is made, each of which is in its range.
 fn is_made(alloc: Global, limit: u8, longest: u16) -> bool {
     if limit == 0 || longest == 0 || longest > 16383 {
         return false;

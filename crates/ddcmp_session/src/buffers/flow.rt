@@ -277,8 +277,8 @@ impl Buffers {
         }
     }
 
-    /// Whether a read of the line gave anything. What the line has is read to its end before the
-    /// fault of a write is reported.
+    /// Returns whether a read of the line gave anything. What the line has is read to its end
+    /// before the fault of a write is reported.
     fn after_read(&self, got: Moved) -> Result<bool, Fault>
         ensures idle { result ≡ Ok false → got ≡ Moved.Nothing }
         ensures fault { (fault : FaultValue) → result ≡ Err fault → (why : DownValue)

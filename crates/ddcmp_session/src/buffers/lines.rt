@@ -264,7 +264,7 @@ impl Buffers {
     }
 }
 
-/// Whether lines ended so that all may be delivered nevertheless.
+/// Returns whether lines ended so that all may be delivered nevertheless.
 fn is_over<R>(ran: &Result<(), Stop<R>>) -> bool
     ensures device { (fault : FaultValue) → fault ≢ Fault.Time
         → ran.now ≡ Err (Stop.Device fault) → result ≡ false }
@@ -275,7 +275,7 @@ fn is_over<R>(ran: &Result<(), Stop<R>>) -> bool
     matches!(ran, Err(Stop::Left | Stop::Device(Fault::Time)))
 }
 
-/// Returns how a run ended whose lines ended so, and in which so many messages were lost.
+/// Returns how a run ended whose lines ended so, and in which `lost` messages were lost.
 fn verdict<R: Copy>(ran: Result<(), Stop<R>>, has_run: bool, lost: u64) -> Result<(), Stop<R>>
     requires unjudged { (count : ℕ) → ran ≢ Err (Stop.Lost count) }
     ensures whole { result ≡ Ok tt → lost ≡ 0 }
@@ -349,7 +349,7 @@ fn note_time(session: &mut Session, fault: Fault)
     }
 }
 
-/// Has the time of the run pass: so many lines, or calls, take longer than any run.
+/// Passes the time of the run: this many lines, or calls, take longer than any run.
 fn pass_run(session: &mut Session)
     ensures over { (held : BuffersView) (known : Option Traffic)
         → StaysOver held session.old.state known held session.new.state known }

@@ -123,14 +123,14 @@ impl Session {
         }
     }
 
-    /// Whether the station has run over some line.
+    /// Returns whether the station has run over some line.
     pub fn has_run(&self) -> bool
         ensures { result ≡ self.now.state.course.has_run }
     {
         self.course.has_run
     }
 
-    /// Whether a part of the input was no message.
+    /// Returns whether a part of the input was no message.
     pub fn was_refused(&self) -> bool
         ensures { result ≡ self.now.state.was_refused }
     {

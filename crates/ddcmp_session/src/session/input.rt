@@ -6,7 +6,7 @@ use crate::session::Session;
 use ddcmp_input::Entry;
 use ddcmp_station::State;
 
-/// What is wrong with a part of the input that is no message.
+/// Returns what is wrong with a part of the input that is no message.
 fn reason_of(entry: Entry) -> &'static [u8]
     ensures { result.now ≡ reason_text entry }
 {
@@ -38,14 +38,14 @@ impl Session {
     ghost use Rattle.ddcmp_session.specs.Session.{form_of, takes_in};
     ghost use Rattle.ddcmp_session.specs.Session.{lost_among, lost_at_end, lost_with_last};
 
-    /// Whether bytes of the input are wanted: the station takes a message.
+    /// Returns whether bytes of the input are wanted: the station takes a message.
     pub fn wants_input(&self) -> bool
         ensures { result ≡ wants_input self.now.state }
     {
         !self.input_is_read && self.takes()
     }
 
-    /// Whether the link takes a message: one of maintenance once the last has gone.
+    /// Returns whether the link takes a message: one of maintenance once the last has gone.
     fn takes(&self) -> bool
         ensures { result ≡ takes_in self.now.state.options.maintenance self.now.state.link }
     {

@@ -58,7 +58,7 @@ impl Session {
             enters
         } else {
             self.course.connect();
-            self.link.begin_anew().is_ok()
+            self.link.restart().is_ok()
         };
         self.course.lose(if starts { lost as u64 } else { 0 });
         self.has_line |= starts;
@@ -90,7 +90,7 @@ impl Session {
     {
         let has_room = self.lose_line();
         if let Some(trace) = &mut self.trace {
-            trace.begin_anew(&mut self.errors);
+            trace.restart(&mut self.errors);
         }
         has_room
     }
@@ -120,7 +120,7 @@ impl Session {
         has_room
     }
 
-    /// Whether the line has taken all that was accepted.
+    /// Returns whether the line has taken all that was accepted.
     pub(super) fn has_gone(&self) -> bool
         ensures { result ≡ has_gone self.now.state.link }
     {
@@ -140,8 +140,8 @@ impl Session {
         }
     }
 
-    /// Whether bytes of the line are wanted: there is one, and a received message and its notice
-    /// have room.
+    /// Returns whether bytes of the line are wanted: there is one, and a received message and its
+    /// notice have room.
     pub fn wants_line(&self) -> bool
         ensures { result ≡ wants_line self.now.state }
     {
@@ -287,7 +287,7 @@ impl Session {
         self.link.unsent()
     }
 
-    /// Takes note that the line took the first `n` bytes of `to_line`.
+    /// Notes that the line took the first `n` bytes of `to_line`.
     pub fn line_took(&mut self, n: usize)
         ensures state { self.new.state ≡ record self.old.state {
           link = after_sent

@@ -65,7 +65,7 @@ impl Session {
         self.output.waiting()
     }
 
-    /// Takes note that standard output took the first `n` bytes of `to_output`.
+    /// Notes that standard output took the first `n` bytes of `to_output`.
     pub fn output_took(&mut self, n: usize)
         ensures state { self.new.state ≡ record self.old.state {
           output = after_taken
@@ -84,7 +84,7 @@ impl Session {
         self.errors.waiting()
     }
 
-    /// Takes note that standard error took the first `n` bytes of `to_errors`.
+    /// Notes that standard error took the first `n` bytes of `to_errors`.
     pub fn errors_took(&mut self, n: usize)
         ensures state { self.new.state ≡ self.old.state }
         ensures took { Took n self.old.log.errors self.new.log.errors }

@@ -27,7 +27,7 @@ impl Session {
         1000 * self.options.seconds as u64
     }
 
-    /// Has each line for standard error begin with the time of day, if that is asked for. The
+    /// Begins each line for standard error with the time of day, if that is asked for. The
     /// moment 0 is this many milliseconds after 1970.
     pub fn began_at(&mut self, milliseconds: u64)
         ensures state { self.new.state ≡ self.old.state }
@@ -43,7 +43,7 @@ impl Session {
         }
     }
 
-    /// Takes note of the moment, and writes a report if one is due. Call it while there is no line.
+    /// Notes the moment, and writes a report if one is due. Call it while there is no line.
     pub fn pass_time(&mut self, now: u64)
         ensures state { self.new.state ≡ after_time now self.old.state }
         ensures errors { PassesMoment now self.old.state self.old.log self.new.log.errors }
@@ -97,7 +97,7 @@ impl Session {
         }
     }
 
-    /// Takes note that a peer isn't heard, as bytes of the line have no room.
+    /// Notes that a peer isn't heard, as bytes of the line have no room.
     fn note_unheard(&mut self)
         ensures { self.new ≡ record self.old { state = after_unheard self.old.state } }
     {
@@ -173,7 +173,8 @@ impl Session {
         self.course.quiet_since.saturating_add(linger)
     }
 
-    /// Whether a peer isn't there yet: on a line that is no connection it may begin at any time.
+    /// Returns whether a peer isn't there yet: on a line that is no connection it may begin at any
+    /// time.
     fn awaits_peer(&self) -> bool
         ensures { result ≡ awaits_peer self.now.state }
     {
@@ -206,8 +207,8 @@ impl Session {
         self.input_is_read && self.link.is_delivered()
     }
 
-    /// Whether it goes on once all of the input was delivered: so does whoever listens and has no
-    /// input.
+    /// Returns whether it goes on once all of the input was delivered: so does whoever listens and
+    /// has no input.
     pub(super) fn stays(&self) -> bool
         ensures { result ≡ stays self.now.state }
     {
@@ -215,14 +216,14 @@ impl Session {
         self.options.stay || self.kind == LineKind::Listen && !had_input
     }
 
-    /// Whether a line that has ended is opened again.
+    /// Returns whether a line that has ended is opened again.
     pub fn reopens(&self) -> bool
         ensures { result ≡ reopens self.now.state }
     {
         self.options.again || self.kind == LineKind::Listen && !self.course.peer_has_started
     }
 
-    /// Whether a line that can't be opened is tried again.
+    /// Returns whether a line that can't be opened is tried again.
     pub fn retries(&self) -> bool
         ensures { result ≡ self.now.state.options.again }
     {
@@ -236,7 +237,7 @@ impl Session {
         self.course.opens_at
     }
 
-    /// Takes note that the line couldn't be opened: returns after how many seconds it is tried
+    /// Notes that the line couldn't be opened: returns after how many seconds it is tried
     /// again.
     pub fn open_failed(&mut self, now: u64) -> u64
         ensures state { self.new.state ≡ record (after_time now self.old.state) {

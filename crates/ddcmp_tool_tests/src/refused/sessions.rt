@@ -129,12 +129,12 @@ fn ends(rt: &impl Abort, a: &mut Session, b: &mut Session) {
     assert!(rt; (a.lost(), a.has_run()) == (0, true));
 }
 
-/// Whether memory is refused to two ends of a connection with messages of digits.
+/// Returns whether memory is refused to two ends of a connection with messages of digits.
 fn is_refused_digits(rt: &(impl Abort + AllocGlobal)) -> bool {
     is_refused(rt, Form::Digits, LineKind::Connect)
 }
 
-/// Whether memory is refused to two ends of a line of datagrams with messages in binary.
+/// Returns whether memory is refused to two ends of a line of datagrams with messages in binary.
 fn is_refused_binary(rt: &(impl Abort + AllocGlobal)) -> bool {
     is_refused(rt, Form::Binary, LineKind::Datagrams)
 }

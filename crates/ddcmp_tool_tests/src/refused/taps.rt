@@ -73,7 +73,7 @@ impl Clock for Beginning {
     }
 }
 
-/// How a tap over memory ends that writes to this log.
+/// Returns how a tap over memory ends that writes to this log.
 fn tapped(
     rt: &impl AllocGlobal,
     notation: Notation,
@@ -99,7 +99,7 @@ fn tapped(
     )
 }
 
-/// Whether memory is refused to a tap that logs like this.
+/// Returns whether memory is refused to a tap that logs like this.
 fn is_refused(rt: &(impl Abort + AllocGlobal), notation: Notation) -> bool {
     let ways = [Cell::new(BYTES), Cell::new(BYTES)];
     let mut log = Taken::new();

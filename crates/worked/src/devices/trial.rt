@@ -22,22 +22,22 @@ struct Trial {
 }
 
 /// What came of it.
-struct Told {
+struct ScriptOutcome {
     answer: Result<(), ScriptFault>,
     writer: Taken<512>,
 }
 
 // Manual, since a derived `Drop` is expanded wherever an answer is dropped.
-impl Drop for Told {
+impl Drop for ScriptOutcome {
     fn drop(self) {
-        let Told {
+        let ScriptOutcome {
             answer: _answer,
             writer: _writer,
         } = self;
     }
 }
 
-const USUAL: Config = Config {
+const DEFAULT: Config = Config {
     window: 7,
     inbox: 8,
     max: 1500,
@@ -61,7 +61,7 @@ fn trial_of(line: &str) -> Option<Trial> {
 }
 
 /// The script, between two new ends.
-fn plays(alloc: Global, pair: &mut Pair, lines: &str, trial: Trial) -> Option<Told> {
+fn plays(alloc: Global, pair: &mut Pair, lines: &str, trial: Trial) -> Option<ScriptOutcome> {
     if trial.read == 0 || trial.write == 0 {
         return None;
     }
@@ -74,7 +74,7 @@ fn plays(alloc: Global, pair: &mut Pair, lines: &str, trial: Trial) -> Option<To
         .failing_at(trial.write_fails_at);
     let mut carrier = Bad::new(trial.given, trial.by, trial.carry_fails_at);
     let answer = script(alloc, pair, &mut reader, &mut writer, &mut carrier);
-    Some(Told { answer, writer })
+    Some(ScriptOutcome { answer, writer })
 }
 
 /// Tries the script as a line says, and returns what it wrote and its answer.
@@ -82,7 +82,7 @@ pub fn perform(rt: &HostRuntime, lines: &str, line: &str) -> io::Result<()> {
     let Some(trial) = trial_of(line) else {
         return println!(rt; "no trial");
     };
-    let Ok(mut pair) = Pair::new(rt.alloc(), USUAL, USUAL) else {
+    let Ok(mut pair) = Pair::new(rt.alloc(), DEFAULT, DEFAULT) else {
         return println!(rt; "no pair");
     };
     match plays(rt.alloc(), &mut pair, lines, trial) {

@@ -4,7 +4,7 @@ use crate::pairs::table::{LONGEST, Table};
 use ddcmp_pair::{End, Event};
 use std::io;
 
-/// Does what a word says, and returns what is answered.
+/// Runs a word, and returns the answer.
 pub fn perform(rt: &HostRuntime, table: &mut Table, word: &str) -> io::Result<()> {
     match word {
         "clear" => answers::replied(rt, table.step(Event::Clear)),

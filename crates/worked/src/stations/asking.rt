@@ -3,7 +3,7 @@ use ddcmp_station::Station;
 use std::io;
 use test_kit::bytes_of;
 
-/// Does what a word says.
+/// Runs a word.
 pub fn perform(rt: &HostRuntime, station: &mut Station, word: &str) -> io::Result<()> {
     match word {
         "start" => println!(rt; "{:?}", station.start()),

@@ -21,7 +21,7 @@ struct Call<'a> {
 
 /// What came of it.
 #[derive(Drop)]
-struct Told<'a> {
+struct DriveOutcome<'a> {
     answer: Result<Driven, LineFault>,
     writer: Taken<64>,
     user: Recorder<'a>,
@@ -49,7 +49,7 @@ fn drives<'a>(
     came: &[&[u8]],
     moments: &[u64],
     offers: &'a [&'a [u8]],
-) -> Option<Told<'a>> {
+) -> Option<DriveOutcome<'a>> {
     if station.offset() >= 1_000_000 || call.most > 64 {
         return None;
     }
@@ -69,7 +69,7 @@ fn drives<'a>(
         1000,
         call.turns,
     );
-    Some(Told {
+    Some(DriveOutcome {
         answer,
         writer,
         user,
@@ -109,7 +109,7 @@ fn performed(rt: &HostRuntime, station: &mut Station, rest: &str) -> io::Result<
     }
 }
 
-fn tell(rt: &HostRuntime, told: &Told<'_>) -> io::Result<()> {
+fn tell(rt: &HostRuntime, told: &DriveOutcome<'_>) -> io::Result<()> {
     println!(rt; "{:?}", told.answer)?;
     println!(rt; "wrote {}", hex::encode(rt.alloc(), told.writer.bytes())?)?;
     println!(rt; "saw {:?}", told.user.seen())?;

@@ -8,7 +8,7 @@ pub returns-clause-puts : goal.returns-clause-puts
 returns-clause-puts c =
     puts-as (ap (λ h. json_header (Control h)) c.h.view_is)
     (puts-then (puts-then
-    (puts-then (puts-as c.kind_value.ensures.value c.put_slice-behind_kind.ensures)
-    c.put_member-behind_sub.ensures.puts)
-    c.put_reason-behind_reason.ensures.puts)
+    (puts-then (puts-as c.kind_value.ensures.value c.put_slice-after_kind.ensures)
+    c.put_member-after_sub.ensures.puts)
+    c.put_reason-after_reason.ensures.puts)
     c.put_fields.ensures.puts)

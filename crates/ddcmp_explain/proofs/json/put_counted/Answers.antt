@@ -6,6 +6,6 @@ use Rattle.ddcmp_explain.proofs.json.put_counted.Goals as goal
 pub returns-clause-puts : goal.returns-clause-puts
 returns-clause-puts g c =
     puts-as (ap (λ fields. c.args.name.now ++ json_counted fields) c.h.view_is)
-    (puts-then c.put-behind_name.ensures
-    (puts-then (puts-then c.put-at_count.ensures c.put_number-behind_count.ensures.puts)
+    (puts-then c.put-after_name.ensures
+    (puts-then (puts-then c.put-at_count.ensures c.put_number-after_count.ensures.puts)
     c.put_fields.ensures.puts))

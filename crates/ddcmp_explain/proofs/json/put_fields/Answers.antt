@@ -4,7 +4,7 @@ use Rattle.ddcmp_explain.proofs.json.put_fields.Goals as goal
 pub returns-clause-puts : goal.returns-clause-puts
 returns-clause-puts c =
     puts-then (puts-then
-    (puts-then (puts-as c.flag_members.ensures c.put-behind_flags.ensures)
-    c.put_member-behind_resp.ensures.puts)
-    c.put_member-behind_num.ensures.puts)
+    (puts-then (puts-as c.flag_members.ensures c.put-after_flags.ensures)
+    c.put_member-after_resp.ensures.puts)
+    c.put_member-after_num.ensures.puts)
     c.put_member.ensures.puts

@@ -3,5 +3,5 @@ use Rattle.ddcmp_explain.proofs.json.put_json_front.Goals as goal
 
 pub returns-clause-puts : goal.returns-clause-puts
 returns-clause-puts c =
-    puts-then c.put_item-behind_item.ensures.puts
+    puts-then c.put_item-after_item.ensures.puts
     (puts-as c.item_end.ensures.value c.put_slice.ensures)

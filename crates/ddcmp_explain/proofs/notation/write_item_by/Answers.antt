@@ -10,7 +10,7 @@ returns-then-lends g c =
     (sends-then (sends-then
     (sends-as (puts-whole c.put_front-end.ensures.puts) c.write.ensures.sends)
     c.write_hex.ensures)
-    c.write_behind.ensures)
+    c.write_after.ensures)
 
 pub returns-else-lends : goal.returns-else-lends
 returns-else-lends g c =

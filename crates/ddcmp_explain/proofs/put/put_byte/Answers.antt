@@ -7,4 +7,4 @@ returns-clause-puts c =
     let text = c.byte_text-length in
     puts-as text.ensures.digits
     (puts-front text.result.1 (omega arith) (omega (arith, text.ensures.within))
-    c.put-behind_three.ensures)
+    c.put-after_three.ensures)

@@ -7,5 +7,5 @@ use Rattle.ddcmp_explain.proofs.text.put_control.Goals as goal
 pub returns-clause-puts : goal.returns-clause-puts
 returns-clause-puts c =
     puts-as (ap (λ h. header_text (Control h)) c.h.view_is)
-    (puts-then (puts-then c.put_kind-at_sub.ensures.puts c.put_byte-behind_sub.ensures.puts)
+    (puts-then (puts-then c.put_kind-at_sub.ensures.puts c.put_byte-after_sub.ensures.puts)
     c.put_fields.ensures.puts)

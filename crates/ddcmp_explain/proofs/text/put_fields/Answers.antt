@@ -6,8 +6,8 @@ returns-clause-puts c =
     puts-then (puts-then
     (puts-then (puts-then
     (puts-then (puts-as c.flags_name.ensures c.put-at_resp.ensures)
-    c.put_byte-behind_resp.ensures.puts)
+    c.put_byte-after_resp.ensures.puts)
     c.put-at_num.ensures)
-    c.put_byte-behind_num.ensures.puts)
+    c.put_byte-after_num.ensures.puts)
     c.put-at_addr.ensures)
     c.put_byte.ensures.puts

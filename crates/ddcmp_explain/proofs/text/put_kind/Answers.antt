@@ -7,4 +7,4 @@ returns-clause-puts c =
     let name = c.kind_name-length.ensures in
     puts-as name.name
     (puts-front c.kind_name-length.result.1 (omega arith)
-    (omega (arith, name.within, name.long)) c.put-behind_ten.ensures)
+    (omega (arith, name.within, name.long)) c.put-after_ten.ensures)

@@ -5,9 +5,9 @@ pub returns-clause-puts : goal.returns-clause-puts
 returns-clause-puts c =
     puts-then (puts-then
     (puts-then (puts-then
-    (puts-then (puts-then c.put-at_items.ensures c.put_number-behind_items.ensures.puts)
+    (puts-then (puts-then c.put-at_items.ensures c.put_number-after_items.ensures.puts)
     c.put-at_bytes.ensures)
-    c.put_number-behind_bytes.ensures.puts)
+    c.put_number-after_bytes.ensures.puts)
     c.put-at_open.ensures)
-    c.put_number-behind_open.ensures.puts)
+    c.put_number-after_open.ensures.puts)
     c.put.ensures

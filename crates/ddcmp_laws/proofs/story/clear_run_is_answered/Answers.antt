@@ -10,7 +10,7 @@ use Rattle.ddcmp_core.specs.Counting.{counters_on, counters_after_next}
 use Rattle.ddcmp_proto.specs.Bytes.{after_items, notices_of_items}
 use Rattle.ddcmp_pair.specs.Place.{first_index, place_from}
 use Rattle.ddcmp_pair.specs.Run.{after_event, reply_to, run, new_pair}
-use Rattle.ddcmp_laws.specs.Story.{usual, tight, clear_run, event_in, replies_to}
+use Rattle.ddcmp_laws.specs.Story.{default_sizes, tight, clear_run, event_in, replies_to}
 use Rattle.ddcmp_laws.specs.Faithful.{bytes_of}
 use Rattle.ddcmp_laws.proofs.ClearRuns.{begins, find_room, finds_room, is_faithful}
 use Rattle.ddcmp_laws.proofs.ClearRuns.{stays_clear, stays_by}
@@ -21,7 +21,7 @@ unfolding low_bits bits add divisor_rest remainder number check_of xor six_bytes
     parsed read_for read_rows is_data_right row read items good_frames_in on notice_of next
     counters_on counters_after_next after_items notices_of_items first_index place_from after_event
     reply_to run replies_to bytes_of begins find_room finds_room is_faithful stays_clear
-returns-clause-clear c = stays_by (map event_in clear_run) (new_pair usual usual) refl
+returns-clause-clear c = stays_by (map event_in clear_run) (new_pair default_sizes default_sizes) refl
 
 pub returns-clause-one : goal.returns-clause-one
 unfolding low_bits bits add divisor_rest remainder number check_of xor six_bytes wire is_check_right

@@ -6,13 +6,13 @@ use Rattle.ddcmp_net.specs.declared.serve_fault.ServeFault.TheVariants.{Report}
 use Rattle.ddcmp_net.proofs.AnswerLaws.{done_has_memory, done_is_no_line, ends_line, off_line}
 use Rattle.ddcmp_net.proofs.AnswerLaws.{on_line, report_has_memory, report_is_no_line}
 use Rattle.ddcmp_net.proofs.AnswerLaws.{told_broken, told_line, told_whole}
-use Rattle.ddcmp_net.proofs.ServingLaws.{begun-of, drives-as, comes-to, comes-to-all, usual-room}
+use Rattle.ddcmp_net.proofs.ServingLaws.{begun-of, drives-as, comes-to, comes-to-all, default-room}
 use Rattle.ddcmp_net.proofs.server.serve.Goals as goal
 
 pub returns-in-Ok-write_end-clause-serves : goal.returns-in-Ok-write_end-clause-serves
 returns-in-Ok-write_end-clause-serves g c = λ _.
     let begun =
-    begun-of _ _ _ _ c.usual_config.ensures c.in-Ok.ensures.made.0 c.in-Ok.ensures.made.1
+    begun-of _ _ _ _ c.default_config.ensures c.in-Ok.ensures.made.0 c.in-Ok.ensures.made.1
     c.in-Ok.ensures.stands c.start-dropped.ensures.state in
     record {
       old = c.start-dropped.new.self;
@@ -22,7 +22,7 @@ returns-in-Ok-write_end-clause-serves g c = λ _.
       drives =
           drives-as 1500 _ _ _ _ _
           (Calls (Reports g.P.Sink.broken g.P.Sink.contents) c.new-user.result c.drive.new.user) _
-          (Ok c.in-Ok-drive.driven) begun.line (usual-room _ _ begun)
+          (Ok c.in-Ok-drive.driven) begun.line (default-room _ _ begun)
           (λ calls asked h. comes-to g.P.Sink.broken g.P.Sink.contents c.new-user.result
           c.drive.new.user c.args.report.now _ c.write_end.new.report c.args.send.now
           (closing_text c.args.counted c.in-Ok-drive.driven c.drive.new.station.core) calls
@@ -35,7 +35,7 @@ returns-in-Ok-write_end-clause-serves g c = λ _.
 pub returns-in-Ok-drive-clause-serves : goal.returns-in-Ok-drive-clause-serves
 returns-in-Ok-drive-clause-serves g c = λ _.
     let begun =
-    begun-of _ _ _ _ c.usual_config.ensures c.in-Ok.ensures.made.0 c.in-Ok.ensures.made.1
+    begun-of _ _ _ _ c.default_config.ensures c.in-Ok.ensures.made.0 c.in-Ok.ensures.made.1
     c.in-Ok.ensures.stands c.start-dropped.ensures.state in
     record {
       old = c.start-dropped.new.self;
@@ -45,7 +45,7 @@ returns-in-Ok-drive-clause-serves g c = λ _.
       drives =
           drives-as 1500 _ _ _ _ _
           (Calls (Reports g.P.Sink.broken g.P.Sink.contents) c.new-user.result c.drive.new.user) _
-          (Ok c.in-Ok-drive.driven) begun.line (usual-room _ _ begun)
+          (Ok c.in-Ok-drive.driven) begun.line (default-room _ _ begun)
           (λ calls asked h. comes-to g.P.Sink.broken g.P.Sink.contents c.new-user.result
           c.drive.new.user c.args.report.now _ c.write_end.new.report c.args.send.now
           (closing_text c.args.counted c.in-Ok-drive.driven c.drive.new.station.core) calls
@@ -59,7 +59,7 @@ returns-in-Ok-drive-clause-serves g c = λ _.
 pub returns-clause-serves : goal.returns-clause-serves
 returns-clause-serves g c = λ _.
     let begun =
-    begun-of _ _ _ _ c.usual_config.ensures c.in-Ok.ensures.made.0 c.in-Ok.ensures.made.1
+    begun-of _ _ _ _ c.default_config.ensures c.in-Ok.ensures.made.0 c.in-Ok.ensures.made.1
     c.in-Ok.ensures.stands c.start-dropped.ensures.state in
     record {
       old = c.start-dropped.new.self;
@@ -69,7 +69,7 @@ returns-clause-serves g c = λ _.
       drives =
           drives-as 1500 _ _ _ _ _
           (Calls (Reports g.P.Sink.broken g.P.Sink.contents) c.new-user.result c.drive.new.user) _
-          (Err c.in-Err.fault) begun.line (usual-room _ _ begun)
+          (Err c.in-Err.fault) begun.line (default-room _ _ begun)
           (λ calls asked h. comes-to-all g.P.Sink.broken g.P.Sink.contents c.new-user.result
           c.drive.new.user c.args.report.now _ c.args.send.now calls
           c.new-user.ensures.report c.new-user.ensures.send c.requires.short c.requires.report

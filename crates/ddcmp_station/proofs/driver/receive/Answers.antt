@@ -6,7 +6,7 @@ pub returns-clause-seen : goal.returns-clause-seen
 returns-clause-seen g c =
     receives-all g.U.User.becomes c.args.station.now c.feed_all.new.station
     (take c.match-read.came c.read.new.buf)
-    _ _ _ c.feed_all.ensures.seen c.hand_up.ensures.seen c.feed_all.ensures.state
+    _ _ _ c.feed_all.ensures.seen c.deliver.ensures.seen c.feed_all.ensures.state
 
 pub returns-in-Bytes-eq0 : goal.returns-in-Bytes-eq0
 returns-in-Bytes-eq0 g c = record {

@@ -14,7 +14,7 @@ returns-then-is_within c =
 
 pub returns-else-is_within : goal.returns-else-is_within
 returns-else-is_within c =
-    out_of_range _ _ _ _ c.in-Some.number c.requires.usual c.requires.most c.if-is_within.false
+    out_of_range _ _ _ _ c.in-Some.number c.requires.otherwise c.requires.most c.if-is_within.false
     c.is_within.ensures.1
     (number_read
     (λ bs r. ParsesUnsigned 32 10 bs r × ExplainsUnsignedError 10 bs r
@@ -23,7 +23,7 @@ returns-else-is_within c =
 
 pub returns-in-None : goal.returns-in-None
 returns-in-None c =
-    left_out _ _ _ _ c.requires.usual c.requires.most
+    left_out _ _ _ _ c.requires.otherwise c.requires.most
     (number_read
     (λ bs r. ParsesUnsigned 32 10 bs r × ExplainsUnsignedError 10 bs r
     × HasUnsignedDigitsIfOk bs r) (λ bs r g. g.0) _ None c.in-None.ensures.value)

@@ -106,11 +106,11 @@ returns-clause-relays c = λ start came taken r.
     (c.write_frame-length.auto.out ∙ c.as_mut_slice.ensures.len) in
     let left =
     with_items_is (with_items c.self.inside.frame c.write_frame-length.new.out)
-    c.suffer-self-inside.new.space
-    (c.suffer-self-inside.auto.space ∙ c.as_mut_slice-2.ensures.len) in
+    c.apply_fault-self-inside.new.space
+    (c.apply_fault-self-inside.auto.space ∙ c.as_mut_slice-2.ensures.len) in
     let fate = c.draw_fate-fate.result in
     let waits =
-    ap (take c.suffer-self-inside.result) left ∙ c.suffer-self-inside.ensures.left
+    ap (take c.apply_fault-self-inside.result) left ∙ c.apply_fault-self-inside.ensures.left
     ∙ ap (after_fate fate)
     (ap (take c.write_frame-length.result) (c.as_mut_slice-2.ensures.value ∙ out) ∙ front) in
     let drawn =
@@ -138,11 +138,11 @@ returns-clause-one c =
     (c.write_frame-length.auto.out ∙ c.as_mut_slice.ensures.len) in
     let left =
     with_items_is (with_items c.self.inside.frame c.write_frame-length.new.out)
-    c.suffer-self-inside.new.space
-    (c.suffer-self-inside.auto.space ∙ c.as_mut_slice-2.ensures.len) in
+    c.apply_fault-self-inside.new.space
+    (c.apply_fault-self-inside.auto.space ∙ c.as_mut_slice-2.ensures.len) in
     let fate = c.draw_fate-fate.result in
     let waits =
-    ap (take c.suffer-self-inside.result) left ∙ c.suffer-self-inside.ensures.left
+    ap (take c.apply_fault-self-inside.result) left ∙ c.apply_fault-self-inside.ensures.left
     ∙ ap (after_fate fate)
     (ap (take c.write_frame-length.result) (c.as_mut_slice-2.ensures.value ∙ out) ∙ front) in
     inr (record {
@@ -177,11 +177,11 @@ returns-clause-fate c = λ start came taken r.
     (c.write_frame-length.auto.out ∙ c.as_mut_slice.ensures.len) in
     let left =
     with_items_is (with_items c.self.inside.frame c.write_frame-length.new.out)
-    c.suffer-self-inside.new.space
-    (c.suffer-self-inside.auto.space ∙ c.as_mut_slice-2.ensures.len) in
+    c.apply_fault-self-inside.new.space
+    (c.apply_fault-self-inside.auto.space ∙ c.as_mut_slice-2.ensures.len) in
     let fate = c.draw_fate-fate.result in
     let waits =
-    ap (take c.suffer-self-inside.result) left ∙ c.suffer-self-inside.ensures.left
+    ap (take c.apply_fault-self-inside.result) left ∙ c.apply_fault-self-inside.ensures.left
     ∙ ap (after_fate fate)
     (ap (take c.write_frame-length.result) (c.as_mut_slice-2.ensures.value ∙ out) ∙ front) in
     let drawn =

@@ -12,10 +12,10 @@ returns-then-left_open-gt0-clause-told g c = λ p h o n.
     let was = c.args.self.now in
     let notation = was.style.notation in
     let head =
-    c.header.ensures p.rest (subst (λ x. Heads x p.rest) (sym c.pass_to.ensures.head) h) in
+    c.header.ensures p.rest (subst (λ x. Heads x p.rest) (sym c.write_skipped_to.ensures.head) h) in
     let told =
     ap (λ s. open_text s.notation c.args.end c.header.result c.args.left_open)
-    c.pass_to.ensures.style
+    c.write_skipped_to.ensures.style
     ∙ ap (λ x. open_text notation c.args.end x c.args.left_open) head
     ∙ ap (λ x. open_text notation x (open_header p.rest) c.args.left_open) (sym o)
     ∙ ap (λ x. open_text notation p.offset (open_header p.rest) x) (sym n)
@@ -23,7 +23,7 @@ returns-then-left_open-gt0-clause-told g c = λ p h o n.
     sends-as (sym
     (lines-append notation (passed (was.reached.offset + was.reached.taken) c.args.end)
     (opened p)))
-    (sends-then c.pass_to.ensures.passed (sends-as told c.write_open.ensures))
+    (sends-then c.write_skipped_to.ensures.passed (sends-as told c.write_open.ensures))
 
 pub returns-else-left_open-gt0-clause-told : goal.returns-else-left_open-gt0-clause-told
 returns-else-left_open-gt0-clause-told g c = λ p h o n.
@@ -34,4 +34,4 @@ returns-else-left_open-gt0-clause-told g c = λ p h o n.
     ∙ ap (λ t. part_lines was.style.notation from ++ t)
     (opened-none was.style.notation p (omega (arith, n, c.if-left_open-gt0.false)))
     ∙ append-nil (part_lines was.style.notation from)))
-    c.pass_to.ensures.passed
+    c.write_skipped_to.ensures.passed

@@ -17,12 +17,12 @@ returns-in-Some-clause-bytes c =
     let is = c.in-Some.ensures.length in
     let within : e ≤ length held = omega (arith, ap length c.deref_mut.ensures.value) in
     let items =
-    with_items_is c.self.inside.bytes c.poll_behind.new.bytes
-    (c.poll_behind.auto.bytes ∙ c.deref_mut.ensures.len) in
+    with_items_is c.self.inside.bytes c.poll_after.new.bytes
+    (c.poll_after.auto.bytes ∙ c.deref_mut.ensures.len) in
     let room : ROOM - (e + k) ≡ (ROOM - e) - length (bytes_of syn f) =
     omega (arith, framed_length syn f k is) in
     rw (sym c.self.view_is) (λ i. record {
-      waiting = (ap (λ ys. drop s (take (e + k) ys)) (items ∙ c.poll_behind.ensures.bytes)
+      waiting = (ap (λ ys. drop s (take (e + k) ys)) (items ∙ c.poll_after.ensures.bytes)
           ∙ framed syn f s e k held (drop e held) (omega arith) within is
           ∙ ap (λ ys. drop s (take e ys) ++ bytes_of syn f) c.deref_mut.ensures.value) i;
       room = room i;

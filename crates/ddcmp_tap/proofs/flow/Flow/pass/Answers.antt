@@ -6,14 +6,14 @@ pub returns-then-is_closed-clause-moves : goal.returns-then-is_closed-clause-mov
 returns-then-is_closed-clause-moves g c = unmoved _ _ _ _ _ _ _ (Keeps-refl _) (Keeps-refl _)
 
 pub returns-in_err-went-clause-moves : goal.returns-in_err-went-clause-moves
-returns-in_err-went-clause-moves g c = then _ _ _ c.take_in.ensures.moves c.hand_on.ensures.moves
+returns-in_err-went-clause-moves g c = then _ _ _ c.take_in.ensures.moves c.forward.ensures.moves
 
 pub returns-then-came-clause-moves : goal.returns-then-came-clause-moves
 returns-then-came-clause-moves g c =
-    then _ _ _ (then _ _ _ c.take_in.ensures.moves c.hand_on.ensures.moves)
-    c.hand_end_on.ensures.moves
+    then _ _ _ (then _ _ _ c.take_in.ensures.moves c.forward.ensures.moves)
+    c.forward_end.ensures.moves
 
 pub returns-else-came-clause-moves : goal.returns-else-came-clause-moves
 returns-else-came-clause-moves g c =
-    then _ _ _ (then _ _ _ c.take_in.ensures.moves c.hand_on.ensures.moves)
-    c.hand_end_on.ensures.moves
+    then _ _ _ (then _ _ _ c.take_in.ensures.moves c.forward.ensures.moves)
+    c.forward_end.ensures.moves

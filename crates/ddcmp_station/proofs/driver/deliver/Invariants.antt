@@ -1,7 +1,7 @@
 use Rattle.std.proofs.Common.{◌≡◌, ◌≤◌, List, ◌++◌, length}
 use Rattle.ddcmp_station.specs.Driving.{core_after_mail}
 use Rattle.ddcmp_station.specs.UserCalls.{UserCall, Calls, calls_of_mail}
-use Rattle.ddcmp_station.proofs.driver.hand_up.Given as goal
+use Rattle.ddcmp_station.proofs.driver.deliver.Given as goal
 
 abbrev pub invariant-loop-length : goal.invariant-loop-length
 invariant-loop-length g l = record {

@@ -2,7 +2,7 @@ use Rattle.std.proofs.Common.{arith, ◌≡◌, subst, take}
 use Rattle.std.specs.Io.KnownBytes.{Appends}
 use Rattle.std.proofs.KnownBytes.{Consumes-nil, Keeps-refl}
 use Rattle.ddcmp_tap.proofs.MoveLaws.{still, unmoved, went-out}
-use Rattle.ddcmp_tap.proofs.flow.Flow.hand_on.Goals as goal
+use Rattle.ddcmp_tap.proofs.flow.Flow.forward.Goals as goal
 
 pub returns-then-is_empty-clause-moves : goal.returns-then-is_empty-clause-moves
 returns-then-is_empty-clause-moves g c = unmoved _ _ _ _ _ _ _ (Keeps-refl _) (Keeps-refl _)

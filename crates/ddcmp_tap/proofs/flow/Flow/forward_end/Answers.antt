@@ -1,6 +1,6 @@
 use Rattle.std.proofs.KnownBytes.{Keeps-refl}
 use Rattle.ddcmp_tap.proofs.MoveLaws.{unmoved}
-use Rattle.ddcmp_tap.proofs.flow.Flow.hand_end_on.Goals as goal
+use Rattle.ddcmp_tap.proofs.flow.Flow.forward_end.Goals as goal
 
 pub returns-then-is_empty-clause-moves : goal.returns-then-is_empty-clause-moves
 returns-then-is_empty-clause-moves g c = unmoved _ _ _ _ _ _ _ (Keeps-refl _) c.close.ensures.kept

@@ -2,7 +2,7 @@ use Rattle.std.proofs.Common.{◌∙◌, ap, sym}
 use Rattle.ddcmp_io.proofs.TextLaws.{sends-as, sends-nothing}
 use Rattle.ddcmp_explain.specs.Discarded.{part_lines, skipped_parts}
 use Rattle.ddcmp_explain.proofs.PartLaws.{skipped-some, skipped-none}
-use Rattle.ddcmp_explain.proofs.lines.Lines.pass_to.Goals as goal
+use Rattle.ddcmp_explain.proofs.lines.Lines.write_skipped_to.Goals as goal
 
 pub returns-in-Some-clause-passed : goal.returns-in-Some-clause-passed
 returns-in-Some-clause-passed g c =

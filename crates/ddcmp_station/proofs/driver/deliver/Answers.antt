@@ -1,7 +1,7 @@
 use Rattle.std.proofs.Common.{[], refl, sym, ◌∙◌, arith}
 use Rattle.ddcmp_station.proofs.SeenLaws.{hands-one}
 use Rattle.ddcmp_station.proofs.DriveLaws.{Calls-none}
-use Rattle.ddcmp_station.proofs.driver.hand_up.Goals as goal
+use Rattle.ddcmp_station.proofs.driver.deliver.Goals as goal
 
 pub loop-length-init : goal.loop-length-init
 loop-length-init g c = record {
