@@ -109,7 +109,7 @@ fn files(rt: HostRuntime) -> Result<(), Fail> {
     Ok(())
 }
 
-/// Returns what is reported of an attempt at a line of the name `it` that failed so.
+/// Checks what is reported of an attempt at a line of the name `it` that failed so.
 fn tells(
     rt: &(impl Abort + AllocGlobal),
     attempt: Attempt,

@@ -261,7 +261,7 @@ fn pieces_cross(rt: HostRuntime) -> Result<(), Fail> {
     cross(&rt, End::B, 16393)
 }
 
-/// Returns what comes out is what came over the connection, and not what went in.
+/// What comes out is what came over the connection, and not what went in.
 #[test]
 fn nothing_is_copied(rt: HostRuntime) -> Result<(), Fail> {
     let other = TcpListener::bind(&rt, "127.0.0.1:0")?;

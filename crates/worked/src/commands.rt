@@ -17,7 +17,7 @@ fn words_of<'a>(rt: &HostRuntime, line: &'a str) -> io::Result<Vec<&'a str>> {
     Ok(words)
 }
 
-/// Returns what words ask for.
+/// Prints what words ask for.
 fn tell(rt: &HostRuntime, line: &str) -> io::Result<()> {
     let words = words_of(rt, line)?;
     match read_words(rt.alloc(), words.as_slice()) {
@@ -29,7 +29,7 @@ fn tell(rt: &HostRuntime, line: &str) -> io::Result<()> {
     }
 }
 
-/// Returns what the program writes, and how it ends.
+/// Prints what the program writes, and how it ends.
 fn play(rt: &HostRuntime, line: &str, input: &str) -> io::Result<()> {
     let words = words_of(rt, line)?;
     let mut reader = FromRead::new(input.as_bytes());

@@ -12,7 +12,7 @@ pub fn perform(rt: &HostRuntime, station: &mut Station, word: &str) -> io::Resul
     }
 }
 
-/// Returns what a word asks for, and changes nothing.
+/// Prints what a word asks for, and changes nothing.
 fn tell(rt: &HostRuntime, station: &Station, word: &str) -> io::Result<()> {
     match word {
         "outgoing" => println!(rt; "{}", station.outgoing()),
@@ -22,7 +22,7 @@ fn tell(rt: &HostRuntime, station: &Station, word: &str) -> io::Result<()> {
     }
 }
 
-/// Returns what was counted.
+/// Prints what was counted.
 fn count(rt: &HostRuntime, station: &Station, word: &str) -> io::Result<()> {
     let counters = *station.counters();
     match word {
@@ -50,7 +50,7 @@ pub fn with_bytes(
     }
 }
 
-/// Returns how many bytes it used.
+/// Prints how many bytes it used.
 fn feed(rt: &HostRuntime, station: &mut Station, piece: &[u8]) -> io::Result<()> {
     if station.offset() >= 1_000_000 || piece.len() >= 1_000_000 {
         return println!(rt; "too many bytes");
