@@ -1,4 +1,5 @@
 """When a link leaves a line: a peer that doesn't answer or refuses is given up, and one that has more to send is heard."""
+import contextlib
 import os
 import socket
 import subprocess
@@ -7,7 +8,7 @@ import time
 from links.carrying import Bad
 from links.kit import (Link, binary, connected, free_port, listening, messages_of, server, tcp_pair, unpacked, wants, wrong)
 from links.lines import Refusing, datagram_peer
-from links.peer import Peer, ack, data, good, no_ack, silent
+from links.peer import STACK, Peer, ack, data, good, no_ack, rep, silent
 from trials import drawn
 
 QUICK = ("--timer-ms", "50")
@@ -215,7 +216,7 @@ def lingers_at_a_slow_reader():
 
 
 def lingers_so_long():
-    """For as long as is asked for since the last message, and with 0 not at all."""
+    """For as long as is asked for since the last reply, and with 0 not at all."""
     for linger, least, most in (("0", 0, 0.4), ("300", 0.3, 1), ("1200", 1.2, 2)):
         with server() as it:
             link = Link(f"connect:127.0.0.1:{it.getsockname()[1]}", "--linger-ms", linger, stdin=subprocess.DEVNULL)
@@ -226,6 +227,26 @@ def lingers_so_long():
             wrong(f"--linger-ms {linger}: {time.monotonic() - begun:.2f} s, status {link.run.returncode}")
 
 
-TRIALS = [absent_again, late_start, refused_then_silent, no_handshake, silent_caller, gone, absent, refused, slow_progress, lingers, lingers_on_a_bad_line,
-          lingers_at_a_slow_reader, lingers_so_long]
+def lingers_while_asked():
+    """A peer that asks again is heard out, however it asks; one that only acknowledges, and junk, aren't waited for."""
+    for name, asks, stays in (("REP", rep(1), True), ("DATA", data(b"a", 1), True), ("damage", data(b"b", 2)[:-1] + b"?", True),
+                              ("STACK", STACK, True), ("ACK", ack(0), False), ("junk", b"\x01\x02", False)):
+        with server() as it:
+            link = Link(f"connect:127.0.0.1:{it.getsockname()[1]}", "--linger-ms", "800", stdin=subprocess.DEVNULL)
+            peer = Peer(it.accept()[0])
+        peer.runs()
+        peer.send(data(b"a", 1))
+        begun = time.monotonic()
+        with contextlib.suppress(OSError):
+            while not link.has_ended() and time.monotonic() - begun < 3:
+                peer.send(asks)
+                time.sleep(0.2)
+        if (link.run.returncode is None) != stays:
+            wrong(f"{name}: status {link.run.returncode} after {time.monotonic() - begun:.2f} s")
+        if link.ended(5) != 0 or link.mails() != [b"a"]:
+            wrong(f"{name}: status {link.run.returncode}, {link.mails()}")
+
+
+TRIALS = [absent_again, late_start, refused_then_silent, no_handshake, silent_caller, gone, absent, refused, slow_progress,
+          lingers, lingers_on_a_bad_line, lingers_at_a_slow_reader, lingers_so_long, lingers_while_asked]
 LONG_TRIALS = []

@@ -72,9 +72,9 @@ use Rattle.ddcmp_tap.specs.declared.tap_fault.TapFault.{TapFault}
 use Rattle.ddcmp_cli.specs.LinkEndings.{LinesKnown, Links}
 use Rattle.ddcmp_cli.specs.BridgeEndings.{Bridges}
 use Rattle.ddcmp_cli.specs.Origins.{origin_of, written as written_of}
-use Rattle.ddcmp_explain.specs.declared.input_bytes.Written.{Written}
-use Rattle.ddcmp_explain.specs.declared.input_bytes.Written.TheVariants.{As, Detected}
-use Rattle.ddcmp_explain.specs.declared.input_bytes.Written.TheVariants as written
+use Rattle.ddcmp_explain.specs.declared.input_bytes.InputForm.{InputForm}
+use Rattle.ddcmp_explain.specs.declared.input_bytes.InputForm.TheVariants.{As, Detected}
+use Rattle.ddcmp_explain.specs.declared.input_bytes.InputForm.TheVariants as written
 use Rattle.hex.specs.Hex.{decode_of}
 use Rattle.hex.specs.declared.error.FromHexError.{FromHexError}
 
@@ -199,7 +199,7 @@ ExplainsDetectedTo e s ending =
     × ExplainsDetected e.style e.max s.input s.left s.before s.after result
 
 -- an input that is so written was explained
-abbrev pub ExplainsBy : Written → ExplainArgs → Streams → Ending → Type 0
+abbrev pub ExplainsBy : InputForm → ExplainArgs → Streams → Ending → Type 0
 ExplainsBy (As by) e s ending = ExplainsTo by e s ending
 ExplainsBy written.Dump e s ending = ExplainsDumpTo e s ending
 ExplainsBy Detected e s ending = ExplainsDetectedTo e s ending

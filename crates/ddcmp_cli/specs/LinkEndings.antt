@@ -6,8 +6,8 @@ use Rattle.ddcmp_service.specs.LineNames.{word_of}
 use Rattle.ddcmp_service.specs.declared.fault.ServiceFault.{ServiceFault}
 use Rattle.ddcmp_service.specs.declared.fault.ServiceFault.TheVariants as service
 use Rattle.ddcmp_service.specs.declared.line_name.LineName.{LineName}
-use Rattle.ddcmp_session.specs.declared.link.Served.{Served}
-use Rattle.ddcmp_session.specs.declared.link.Served.TheVariants as served
+use Rattle.ddcmp_session.specs.declared.link.LinkOutcome.{LinkOutcome}
+use Rattle.ddcmp_session.specs.declared.link.LinkOutcome.TheVariants as served
 use Rattle.ddcmp_words.specs.declared.link_args.LinkArgs.{LinkArgs}
 use Rattle.ddcmp_cli.specs.declared.fault.Fault.TheVariants.{Read, Write, Memory, Ended, Lost}
 use Rattle.ddcmp_cli.specs.declared.ending.Ending.{Ending}
@@ -19,14 +19,14 @@ use Rattle.ddcmp_cli.specs.TapEndings.{IsUnopened}
 -- What is known of the lines of a system: how a link over the line of this word, with these
 -- options, comes to its end.
 pub record LinesKnown : Type 0 where
-  pub links : List ℕ → Options → Option (Result Served ServiceFault)
+  pub links : List ℕ → Options → Option (Result LinkOutcome ServiceFault)
 
 -- a system of whose lines nothing is known
 abbrev pub no_lines_known : LinesKnown
 no_lines_known = record { links = λ word options. None }
 
 -- how a link ends that was served so
-abbrev pub LinkEnds : Result Served ServiceFault → Ending → Type 0
+abbrev pub LinkEnds : Result LinkOutcome ServiceFault → Ending → Type 0
 LinkEnds (Ok served.Delivered) ending = ending ≡ Done
 LinkEnds (Ok served.SomeRefused) ending = ending ≡ SomeRefused
 LinkEnds (Err (service.Open why)) ending = IsUnopened ending
@@ -52,7 +52,7 @@ Links lines linked ending =
     ⊎ ((means_nothing linked.options ≡ true) × IsNoLine ending)
     ⊎ ((line : LineName) × (word_of line ≡ linked.line.now)
     × (means_nothing linked.options ≡ false)
-    × (ended : Result Served ServiceFault)
-    × ((known : Result Served ServiceFault)
+    × (ended : Result LinkOutcome ServiceFault)
+    × ((known : Result LinkOutcome ServiceFault)
     → lines.links (word_of line) linked.options ≡ Some known → ended ≡ known)
     × LinkEnds ended ending)

@@ -5,12 +5,12 @@ use Rattle.std.specs.Option.{option_and_then}
 use Rattle.std.specs.Str.{bytes_eq}
 use Rattle.clap.specs.Words.{Text}
 use Rattle.ddcmp_explain.specs.declared.form.Form.TheVariants as form
-use Rattle.ddcmp_explain.specs.declared.input_bytes.Written.{Written}
-use Rattle.ddcmp_explain.specs.declared.input_bytes.Written.TheVariants.{As, Dump, Detected}
+use Rattle.ddcmp_explain.specs.declared.input_bytes.InputForm.{InputForm}
+use Rattle.ddcmp_explain.specs.declared.input_bytes.InputForm.TheVariants.{As, Dump, Detected}
 use Rattle.ddcmp_words.specs.declared.explain_args.ExplainArgs.{ExplainArgs}
 
 -- one reader takes the dumps of three programs
-abbrev pub origin_of : Text → Option Written
+abbrev pub origin_of : Text → Option InputForm
 origin_of word =
     if bytes_eq word (codes "hexdump") || bytes_eq word (codes "xxd") || bytes_eq word (codes "od")
     then Some Dump
@@ -18,9 +18,9 @@ origin_of word =
     else if bytes_eq word (codes "auto") then Some Detected
     else None
 
-abbrev pub named_by : Option (Bor (List ℕ)) → Option Written
+abbrev pub named_by : Option (Bor (List ℕ)) → Option InputForm
 named_by from = option_and_then (λ word. origin_of word.now) from
 
 -- as a word names it, else in the form that is asked for
-abbrev pub written : ExplainArgs → Written
+abbrev pub written : ExplainArgs → InputForm
 written e = unwrap_or (named_by e.from) (As e.form)

@@ -17,7 +17,7 @@ use crate::ladder_command::draw_files;
 use crate::origin::{origin_of, written};
 use crate::tap_command::{TWO_NOTATIONS, is_json};
 use crate::usage::usage;
-use ddcmp_explain::{DetectedFault, Form, Written, explain_detected, explain_dump, explain_with};
+use ddcmp_explain::{DetectedFault, Form, InputForm, explain_detected, explain_dump, explain_with};
 use ddcmp_io::{Sink, Source, Worst};
 use ddcmp_words::ExplainArgs;
 use std::alloc::Global;
@@ -37,10 +37,10 @@ const NO_LADDER: &str = "SECOND is for '--ladder'";
 /// Returns what is typed at a terminal.
 fn typed(args: &ExplainArgs<'_>) -> &'static str {
     match written(args) {
-        Written::Dump => "a dump",
-        Written::Detected => "hexadecimal digits, a dump or bytes",
-        Written::As(Form::Hex | Form::Text) => "hexadecimal digits",
-        Written::As(Form::Raw) => "bytes",
+        InputForm::Dump => "a dump",
+        InputForm::Detected => "hexadecimal digits, a dump or bytes",
+        InputForm::As(Form::Hex | Form::Text) => "hexadecimal digits",
+        InputForm::As(Form::Raw) => "bytes",
     }
 }
 
@@ -62,15 +62,15 @@ fn explain_source<R: Source, W: Sink>(
 {
     let ExplainArgs { style, max, .. } = *args;
     match written(args) {
-        Written::As(form) => match explain_with(alloc, reader, writer, form, style, max) {
+        InputForm::As(form) => match explain_with(alloc, reader, writer, form, style, max) {
             Ok(()) => Ending::Done,
             Err(fault) => Ending::Fault(Fault::from(DetectedFault::from(fault))),
         },
-        Written::Dump => match explain_dump(alloc, reader, writer, style, max) {
+        InputForm::Dump => match explain_dump(alloc, reader, writer, style, max) {
             Ok(()) => Ending::Done,
             Err(fault) => Ending::Fault(Fault::from(DetectedFault::from(fault))),
         },
-        Written::Detected => match explain_detected(alloc, reader, writer, style, max) {
+        InputForm::Detected => match explain_detected(alloc, reader, writer, style, max) {
             Ok(()) => Ending::Done,
             Err(fault) => Ending::Fault(Fault::from(fault)),
         },

@@ -24,7 +24,7 @@ pub use ddcmp_explain::{
 };
 pub use ddcmp_net::{SERVED_MAX, ServeFault, serve, serve_fault, server};
 pub use ddcmp_service::{
-    BridgeEnd, BridgeFault, BridgeOptions, LineName, Options, Served as LinkServed, ServiceFault,
+    BridgeEnd, BridgeFault, BridgeOptions, LineName, LinkOutcome, Options, ServiceFault,
 };
 pub use ddcmp_tap::{TapFault, tap_fault};
 pub use ddcmp_words::{

@@ -9,7 +9,7 @@ use crate::usage::usage;
 use ddcmp_io::{Sink, Source};
 use ddcmp_proto::Config;
 use ddcmp_service::{
-    BridgeEnd, BridgeFault, BridgeOptions, LineName, NotOpened, Options, Served, ServiceFault,
+    BridgeEnd, BridgeFault, BridgeOptions, LineName, LinkOutcome, NotOpened, Options, ServiceFault,
     bridge_lines, serve_link,
 };
 use ddcmp_words::link_args::{DEFAULT_ATTEMPTS, DEFAULT_TIMER_MS, LinkArgs};
@@ -51,7 +51,7 @@ pub trait Lines {
     ghost use Rattle.ddcmp_service.specs.LineNames.{word_of};
     ghost use Rattle.ddcmp_service.specs.declared.fault.ServiceFault.{ServiceFault as FaultValue};
     ghost use Rattle.ddcmp_service.specs.declared.fault.ServiceFault.TheVariants.{Write};
-    ghost use Rattle.ddcmp_session.specs.declared.link.Served.{Served as ServedValue};
+    ghost use Rattle.ddcmp_session.specs.declared.link.LinkOutcome.{LinkOutcome as LinkOutcomeValue};
     ghost use Rattle.ddcmp_cli.specs.LinkEndings.{LinesKnown};
 
     // What is known of its lines.
@@ -66,9 +66,9 @@ pub trait Lines {
         options: Options,
         reader: &mut R,
         writer: &mut W,
-    ) -> Result<Served, ServiceFault<'a>>
+    ) -> Result<LinkOutcome, ServiceFault<'a>>
         ensures broken { (result ≡ Err Write) ↔ IsTrue (W.broken writer.new) }
-        ensures known { (ended : Result ServedValue FaultValue)
+        ensures known { (ended : Result LinkOutcomeValue FaultValue)
             → (lines self.now).links (word_of line.entry) options ≡ Some ended
             → result ≡ ended };
 
@@ -94,7 +94,7 @@ impl Lines for HostRuntime {
         options: Options,
         reader: &mut R,
         writer: &mut W,
-    ) -> Result<Served, ServiceFault<'a>> {
+    ) -> Result<LinkOutcome, ServiceFault<'a>> {
         serve_link(self, alloc, line, options, reader, writer)
     }
 
@@ -132,13 +132,13 @@ pub(crate) fn link<S: Lines, R: Source, W: Sink>(
 }
 
 /// Returns how the program ends if a link ended so.
-fn ending_of(alloc: Global, ended: Result<Served, ServiceFault<'_>>) -> Ending
+fn ending_of(alloc: Global, ended: Result<LinkOutcome, ServiceFault<'_>>) -> Ending
     ensures ends { LinkEnds ended.entry result }
     ensures write { (result ≡ Ending.Fault Fault.Write) ↔ (ended.entry ≡ Err ServiceFault.Write) }
 {
     match ended {
-        Ok(Served::Delivered) => Ending::Done,
-        Ok(Served::SomeRefused) => Ending::SomeRefused,
+        Ok(LinkOutcome::Delivered) => Ending::Done,
+        Ok(LinkOutcome::SomeRefused) => Ending::SomeRefused,
         Err(ServiceFault::Open(fault)) => no_line(alloc, &fault),
         Err(ServiceFault::Ended) => Ending::Fault(Fault::Ended),
         Err(ServiceFault::Lost(count)) => Ending::Fault(Fault::Lost(count)),

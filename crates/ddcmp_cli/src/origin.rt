@@ -3,31 +3,31 @@ ghost use Rattle.std.specs.Prelude.{◌≡◌};
 ghost use Rattle.ddcmp_cli.specs.Origins.{named_by, origin_of as origin_of_word};
 ghost use Rattle.ddcmp_cli.specs.Origins.{written as written_of};
 
-use ddcmp_explain::{Form, Written};
+use ddcmp_explain::{Form, InputForm};
 use ddcmp_words::ExplainArgs;
 
 /// Returns what a word of `--from` names.
-pub(crate) fn origin_of(word: &str) -> Option<Written>
+pub(crate) fn origin_of(word: &str) -> Option<InputForm>
     ensures { result ≡ origin_of_word word.now }
 {
     if word == "hexdump" || word == "xxd" || word == "od" {
-        Some(Written::Dump)
+        Some(InputForm::Dump)
     } else if word == "text" {
-        Some(Written::As(Form::Text))
+        Some(InputForm::As(Form::Text))
     } else if word == "auto" {
-        Some(Written::Detected)
+        Some(InputForm::Detected)
     } else {
         None
     }
 }
 
 /// Returns how the input is written: as `--from` names it, else in its form.
-pub(crate) fn written(args: &ExplainArgs<'_>) -> Written
+pub(crate) fn written(args: &ExplainArgs<'_>) -> InputForm
     ensures { result ≡ written_of args.now }
 {
     let named = match args.from {
         Some(word) => origin_of(word),
         None => None,
     };
-    named.unwrap_or(Written::As(args.form))
+    named.unwrap_or(InputForm::As(args.form))
 }

@@ -3,7 +3,7 @@
 use crate::same::is;
 use ddcmp_cli::{
     BridgeEnd, BridgeFault, BridgeOptions, Connection, Connections, Ending, Fault, Inputs,
-    LineName, Lines, LinkServed, Options, Role, ServiceFault, run,
+    LineName, Lines, LinkOutcome, Options, Role, ServiceFault, run,
 };
 use ddcmp_frame::failing::{Pieces, Taken};
 use ddcmp_frame::{Sink, Source};
@@ -138,7 +138,7 @@ impl<S: Lines> Lines for Poor<'_, S> {
         options: Options,
         reader: &mut R,
         writer: &mut W,
-    ) -> Result<LinkServed, ServiceFault<'a>> {
+    ) -> Result<LinkOutcome, ServiceFault<'a>> {
         self.system.serve_line(alloc, line, options, reader, writer)
     }
 

@@ -1,6 +1,5 @@
 //! The lines of bytes that no item takes.
 ghost use Rattle.std.specs.Prelude.{◌≡◌, ◌+◌, ◌≤◌, Option};
-ghost use Rattle.ddcmp_frame.specs.Reader.{frame_length as length_of};
 ghost use Rattle.ddcmp_io.specs.Written.{HandsOver, output_of};
 ghost use Rattle.ddcmp_explain.specs.Discarded.{open_end, open_front};
 ghost use Rattle.ddcmp_explain.specs.Discarded.{open_length as length_of_open, open_text};
@@ -116,23 +115,12 @@ fn put_open_end(line: &mut [u8; LINE], notation: Notation, have: u64, whole: u64
     }
 }
 
-/// Returns the number of bytes of a frame on the line.
-pub(crate) fn frame_length(header: &Header) -> u64
-    ensures value { result ≡ length_of header.now }
-    ensures most { result ≤ 16393 }
-{
-    match header {
-        Header::Data(h) | Header::Maint(h) => h.count as u64 + 10,
-        Header::Control(_) => 8,
-    }
-}
-
 fn open_length(header: &Option<Header>) -> u64
     ensures { result ≡ length_of_open header.now }
 {
     match header {
         None => 8,
-        Some(header) => frame_length(header),
+        Some(header) => header.frame_length() as u64,
     }
 }
 

@@ -13,7 +13,7 @@ use ddcmp_io::{Got, Source, Worst};
 
 /// How an input is written.
 #[derive(Clone, Copy, PartialEq, Eq)]
-pub enum Written {
+pub enum InputForm {
     /// In one of the forms.
     As(Form),
     /// As a dump of `hexdump -C`, `xxd` or `od -A x -t x1`.
@@ -25,7 +25,7 @@ pub enum Written {
 /// An input, and how far its bytes were read.
 pub struct InputBytes<R> {
     reader: R,
-    written: Written,
+    written: InputForm,
     decoder: Decoder,
     dump: Dump,
     /// How many bytes were read.
@@ -51,16 +51,16 @@ impl<R: Drop> Drop for InputBytes<R> {
 }
 
 /// Returns how a dump or digits are decoded, of an input that is written so.
-fn form_of(written: Written) -> Form {
+fn form_of(written: InputForm) -> Form {
     match written {
-        Written::As(form) => form,
-        Written::Dump | Written::Detected => Form::Hex,
+        InputForm::As(form) => form,
+        InputForm::Dump | InputForm::Detected => Form::Hex,
     }
 }
 
 impl<R: Source> InputBytes<R> {
     /// Nothing was read.
-    pub fn new(reader: R, written: Written) -> InputBytes<R> {
+    pub fn new(reader: R, written: InputForm) -> InputBytes<R> {
         InputBytes {
             reader,
             written,
@@ -108,7 +108,7 @@ impl<R: Source> InputBytes<R> {
         if room == 0 || self.reader.worst() != Worst::Fine {
             return Err(DetectedFault::Read);
         }
-        if self.written == Written::Detected {
+        if self.written == InputForm::Detected {
             return self.open(piece);
         }
         match read_within(&mut self.reader, piece, room) {
@@ -135,9 +135,9 @@ impl<R: Source> InputBytes<R> {
             Opening::Failed => return Err(DetectedFault::Read),
         };
         self.written = match detect(&first[..count]) {
-            Detected::Raw => Written::As(Form::Raw),
-            Detected::Text => Written::As(Form::Text),
-            Detected::Dump => Written::Dump,
+            Detected::Raw => InputForm::As(Form::Raw),
+            Detected::Text => InputForm::As(Form::Text),
+            Detected::Dump => InputForm::Dump,
         };
         self.decoder = Decoder::new(form_of(self.written));
         piece[..count].copy_from_slice(&first[..count]);
@@ -150,9 +150,9 @@ impl<R: Source> InputBytes<R> {
         ensures within { result ≤ PIECE }
     {
         match self.written {
-            Written::Dump => self.dump.blank(piece),
-            Written::As(Form::Raw) => bytes[..piece.len()].copy_from_slice(piece),
-            Written::As(Form::Hex | Form::Text) | Written::Detected => {}
+            InputForm::Dump => self.dump.blank(piece),
+            InputForm::As(Form::Raw) => bytes[..piece.len()].copy_from_slice(piece),
+            InputForm::As(Form::Hex | Form::Text) | InputForm::Detected => {}
         }
         let decoded = self.decoder.decode(piece, bytes);
         if let Some(index) = decoded.unexpected {
@@ -165,7 +165,7 @@ impl<R: Source> InputBytes<R> {
     /// Returns why the input isn't read on.
     fn wrong(&self) -> DetectedFault {
         match (self.written, self.unexpected) {
-            (Written::Dump, _) => DetectedFault::Line(self.dump.not_dumped()),
+            (InputForm::Dump, _) => DetectedFault::Line(self.dump.not_dumped()),
             (_, Some(index)) => DetectedFault::NotHex(index),
             (_, None) => DetectedFault::Read,
         }
@@ -177,7 +177,7 @@ impl<R: Source> InputBytes<R> {
     {
         match (self.decoder.high, self.written) {
             (None, _) => Ok(0),
-            (Some(_), Written::Dump) => Err(DetectedFault::Line(self.dump.not_dumped())),
+            (Some(_), InputForm::Dump) => Err(DetectedFault::Line(self.dump.not_dumped())),
             (Some(_), _) => Err(DetectedFault::Odd),
         }
     }

@@ -42,7 +42,7 @@ pub use explain_fault::ExplainFault;
 pub use explainer::PIECE;
 pub use explanation::{explain, explain_as, explain_with};
 pub use form::Form;
-pub use input_bytes::{InputBytes, Written};
+pub use input_bytes::{InputBytes, InputForm};
 pub use label::{LABEL_ROOM, label_frame, label_item};
 pub use notation::{Notation, write_item, write_last};
 pub use reasons::reason_name;

@@ -5,7 +5,6 @@ ghost use Rattle.ddcmp_frame.specs.Reading.{good_frame_of};
 ghost use Rattle.ddcmp_frame.specs.Step.{item_offset};
 ghost use Rattle.ddcmp_explain.specs.Discarded.{has_frame, passed, skipped_parts, taken_by};
 
-use crate::discards::frame_length;
 use ddcmp_frame::Item;
 
 /// An item: its offset, and how many bytes it takes.
@@ -24,7 +23,7 @@ pub fn reached_by(item: &Item) -> Reached
     let (offset, taken) = match item {
         Item::Good(offset, header)
         | Item::DataCheck(offset, header)
-        | Item::TooLong(offset, header) => (*offset, frame_length(header)),
+        | Item::TooLong(offset, header) => (*offset, header.frame_length() as u64),
         Item::HeaderCheck(offset) => (*offset, 0),
         Item::Format(offset, _) => (*offset, 8),
     };

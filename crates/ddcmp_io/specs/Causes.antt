@@ -21,3 +21,14 @@ cause_words kind.TimedOut = codes "timed out"
 cause_words kind.InvalidInput = codes "not an address"
 cause_words kind.OutOfMemory = codes "out of memory"
 cause_words _ = codes "it can't be opened"
+
+-- why a line that was open has failed; a device that is gone fails by a code of its own
+abbrev pub failure_words : ErrorKind → List ℕ
+failure_words kind.BrokenPipe = codes "broken pipe"
+failure_words kind.ConnectionRefused = cause_words kind.ConnectionRefused
+failure_words kind.ConnectionReset = cause_words kind.ConnectionReset
+failure_words kind.HostUnreachable = cause_words kind.HostUnreachable
+failure_words kind.NetworkUnreachable = cause_words kind.NetworkUnreachable
+failure_words kind.TimedOut = cause_words kind.TimedOut
+failure_words kind.OutOfMemory = cause_words kind.OutOfMemory
+failure_words _ = codes "input or output error"

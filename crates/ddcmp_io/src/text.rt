@@ -63,7 +63,7 @@ fn put_sixteen(bytes: &[u8], at: usize, digits: &mut [u8])
 }
 
 /// Puts the digits of bytes at the front of an array.
-pub(crate) fn put_digits(bytes: &[u8], digits: &mut [u8])
+pub fn put_digits(bytes: &[u8], digits: &mut [u8])
     requires { 2 * length bytes.now ≤ length digits.old }
     ensures { take (2 * length bytes.now) digits.new ≡ encode_lower bytes.now }
 {

@@ -9,7 +9,8 @@ ghost use Rattle.ddcmp_laws.specs.Connected.{IsKeptOverOneConnection, IsOneHisto
 ghost use Rattle.ddcmp_laws.specs.Connections.{first_connection};
 ghost use Rattle.ddcmp_laws.specs.LastConnection.{IsKeptOverLastConnection};
 ghost use Rattle.ddcmp_laws.specs.Pipe.{AreConnectedOnce, Made, SessionsOverStreams, new_sessions};
-ghost use Rattle.ddcmp_laws.specs.SessionRuns.{DeliversAll, DeliversFirst, FilesBegin, FilesPass, Ran};
+ghost use Rattle.ddcmp_laws.specs.SessionRuns.{DeliversAll, DeliversFirst, FilesBegin, FilesPass};
+ghost use Rattle.ddcmp_laws.specs.SessionRuns.{Ran};
 
 /// The calls of a new session that is connected at most once, on any line, are a history as in the
 /// laws of sessions, in which that line was clear: before, the session has used no bytes of a line,

@@ -21,12 +21,12 @@ use Rattle.ddcmp_proto.specs.Bytes.{received_of, after_item, after_items, notice
 use Rattle.ddcmp_proto.specs.Bytes.{notices_of_items, items_added, after_piece, notices_of_piece}
 use Rattle.ddcmp_proto.proofs.FeedLaws.{after_piece-append, notices_of_piece-append}
 use Rattle.ddcmp_proto.proofs.FeedLaws.{after_piece-none, notices_of_piece-none}
-use Rattle.ddcmp_pair.specs.declared.side.receiver.Heard.{Heard}
+use Rattle.ddcmp_pair.specs.declared.side.receiver.NoticeTally.{NoticeTally}
 use Rattle.ddcmp_pair.specs.Run.{acknowledged_in, restarts_by, restarts_in}
 
 -- what is to be done from `at` on is what was to be done from `from` on
-pub record LeftToFeed (arrived : List ℕ) (from : ℕ) (k0 : CoreView) (h0 : Heard) (at : ℕ)
-    (k : CoreView) (h : Heard) : Type 0 where
+pub record LeftToFeed (arrived : List ℕ) (from : ℕ) (k0 : CoreView) (h0 : NoticeTally) (at : ℕ)
+    (k : CoreView) (h : NoticeTally) : Type 0 where
   pub state : after_piece (take at arrived) (drop at arrived) k
       ≡ after_piece (take from arrived) (drop from arrived) k0
   pub notices : h.notices.items ++ notices_of_piece (take at arrived) (drop at arrived) k
@@ -68,8 +68,8 @@ rest-notices arrived at u k l e =
     (sym (notices_of_piece-append t (take u d) (drop u d) k)
     ∙ ap (λ p. notices_of_piece t p k) (take-append-drop u d))
 
-pub left-more : (arrived : List ℕ) (from : ℕ) (k0 : CoreView) (h0 : Heard) (at u : ℕ)
-    (k l : CoreView) (h i : Heard)
+pub left-more : (arrived : List ℕ) (from : ℕ) (k0 : CoreView) (h0 : NoticeTally) (at u : ℕ)
+    (k l : CoreView) (h i : NoticeTally)
     (given : List Notice) → LeftToFeed arrived from k0 h0 at k h
     → l ≡ after_piece (take at arrived) (take u (drop at arrived)) k
     → notices_of_piece (take at arrived) (take u (drop at arrived)) k ≡ given
@@ -98,8 +98,8 @@ left-more arrived from k0 h0 at u k l h i given left state told notices acknowle
 
 -- ---- all is fed
 
-pub record AllFed (arrived : List ℕ) (from : ℕ) (k0 : CoreView) (h0 : Heard) (k : CoreView)
-    (h : Heard) : Type 0 where
+pub record AllFed (arrived : List ℕ) (from : ℕ) (k0 : CoreView) (h0 : NoticeTally) (k : CoreView)
+    (h : NoticeTally) : Type 0 where
   pub state : k ≡ after_piece (take from arrived) (drop from arrived) k0
   pub notices : h.notices.items
       ≡ h0.notices.items ++ notices_of_piece (take from arrived) (drop from arrived) k0
@@ -110,8 +110,8 @@ pub record AllFed (arrived : List ℕ) (from : ℕ) (k0 : CoreView) (h0 : Heard)
       ≡ count_plus h0.starts
       (restarts_in (notices_of_piece (take from arrived) (drop from arrived) k0))
 
-pub left-none : (arrived : List ℕ) (from : ℕ) (k0 : CoreView) (h0 : Heard) (at : ℕ) (k : CoreView)
-    (h : Heard)
+pub left-none : (arrived : List ℕ) (from : ℕ) (k0 : CoreView) (h0 : NoticeTally) (at : ℕ) (k : CoreView)
+    (h : NoticeTally)
     → LeftToFeed arrived from k0 h0 at k h → at ≡ length arrived → AllFed arrived from k0 h0 k h
 left-none arrived from k0 h0 at k h left e =
     let d : drop at arrived ≡ [] = ap (λ n. drop n arrived) e ∙ drop-length arrived in

@@ -1,8 +1,7 @@
 -- Short texts, one text after another.
-use Rattle.std.proofs.Common.{◌≡◌, ◌<◌, ◌≤◌, ◌/◌, ◌%◌, ℕ, List, [], ◌∷◌, ◌++◌, refl, ap}
+use Rattle.std.proofs.Common.{◌≡◌, ◌<◌, ◌≤◌, ℕ, List, [], ◌∷◌, ◌++◌, refl, ap}
 use Rattle.std.proofs.Common.{drop, length, slice_index, ◌+◌, add-one, drop-cons}
 use Rattle.std.proofs.lemmas.List.{drop_all}
-use Rattle.hex.specs.Hex.{encode_lower, encode_with, lower_digits}
 use Rattle.ddcmp_picture.specs.declared.short_text.ShortText.{ShortText}
 use Rattle.ddcmp_picture.specs.ShortTexts.{with_byte, with_text}
 
@@ -25,16 +24,3 @@ pub with_none : (t : ShortText) (text : List ℕ) (i : ℕ) → length text ≤ 
     → with_text t (drop i text) ≡ t
 unfolding with_text
 with_none t text i k = ap (with_text t) (drop_all i text k)
-
--- and in digits
-pub hex_step : (t : ShortText) (bytes : List ℕ) (i : ℕ) → i < length bytes
-    → with_text t (encode_lower (drop i bytes))
-    ≡ with_text (with_byte (with_byte t (slice_index lower_digits (slice_index bytes i / 16)))
-    (slice_index lower_digits (slice_index bytes i % 16))) (encode_lower (drop (i + 1) bytes))
-unfolding with_text encode_with
-hex_step t bytes i k = ap (λ x. with_text t (encode_lower x)) (drop-one bytes i k)
-
-pub hex_none : (t : ShortText) (bytes : List ℕ) (i : ℕ) → length bytes ≤ i
-    → with_text t (encode_lower (drop i bytes)) ≡ t
-unfolding with_text encode_with
-hex_none t bytes i k = ap (λ x. with_text t (encode_lower x)) (drop_all i bytes k)

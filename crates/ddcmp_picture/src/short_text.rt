@@ -1,6 +1,7 @@
 //! Short texts: labels and notes.
-ghost use Rattle.std.specs.Prelude.{◌≡◌, ◌<◌, decimal, slice_index};
-ghost use Rattle.hex.specs.Hex.{encode_lower, lower_digits};
+ghost use Rattle.std.specs.Prelude.{◌≡◌, ◌≤◌, decimal, length};
+ghost use Rattle.hex.specs.Hex.{encode_lower};
+ghost use Rattle.ddcmp_picture.specs.declared.short_text.TheConstants.{SHOWN};
 ghost use Rattle.ddcmp_picture.specs.ShortTexts.{no_text, text_in, with_byte, with_text};
 ghost use Rattle.ddcmp_picture.specs.ShortTexts.{bytes_shown, is_blank};
 
@@ -9,23 +10,14 @@ use itoa::Buffer;
 /// The most bytes that a short text has; what comes after them is left out.
 const ROOM: usize = 96;
 
+/// The most bytes that are shown whole.
+const SHOWN: usize = 10;
+
 /// A text of ASCII that is short.
 #[derive(Clone, Copy, Drop)]
 pub struct ShortText {
     bytes: [u8; ROOM],
     len: usize,
-}
-
-/// The digit of a number below 16.
-fn digit(nibble: u8) -> u8
-    requires { nibble < 16 }
-    ensures { result ≡ slice_index lower_digits nibble }
-{
-    if nibble < 10 {
-        b'0' + nibble
-    } else {
-        b'a' + (nibble - 10)
-    }
 }
 
 impl ShortText {
@@ -78,16 +70,17 @@ impl ShortText {
         self.with(buffer.format(number).as_bytes())
     }
 
-    /// The same, followed by bytes in hexadecimal digits.
-    #[tactic(auto, using(crate::proofs::TextLaws::hex_step, crate::proofs::TextLaws::hex_none))]
-    fn with_hex(mut self, bytes: &[u8]) -> Self
+    /// The same, followed by a few bytes in hexadecimal digits.
+    fn with_hex(self, bytes: &[u8]) -> Self
+        requires { length bytes.now ≤ SHOWN }
         ensures { result ≡ with_text self (encode_lower bytes.now) }
     {
-        for byte in bytes {
-            self.push(digit(*byte / 16));
-            self.push(digit(*byte % 16));
+        let mut room = [0; 2 * SHOWN];
+        let digits = &mut room[..2 * bytes.len()];
+        match hex::encode_to_slice(bytes, digits) {
+            Ok(()) => self.with(digits),
+            Err(_other_length) => unreachable!(),
         }
-        self
     }
 
     /// The same, followed by bytes in hexadecimal digits; of many the first alone.
@@ -95,7 +88,7 @@ impl ShortText {
     pub(crate) fn with_bytes(self, bytes: &[u8]) -> Self
         ensures { result ≡ with_text self (bytes_shown bytes.now) }
     {
-        let is_long = bytes.len() > 10;
+        let is_long = bytes.len() > SHOWN;
         if is_long {
             return self
                 .with_hex(&bytes[..6])

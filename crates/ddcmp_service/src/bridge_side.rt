@@ -6,7 +6,7 @@ ghost use Rattle.ddcmp_service.specs.Inside.Lines.{has_datagrams};
 use crate::line::Line;
 use crate::poller::{Descriptor, Ready};
 use ddcmp_bridge::Needs;
-use ddcmp_session::{Down, Moved};
+use ddcmp_session::{Down, Transfer};
 use ddcmp_station::Clock;
 use mio::{Events, Interest, Poll, Token};
 use std::alloc::Global;
@@ -52,14 +52,14 @@ impl Side {
             return None;
         }
         match self.line.read(space) {
-            Moved::Bytes(n) => Some(n.min(space.len())),
-            Moved::Interrupted => Some(0),
-            Moved::Nothing => {
+            Transfer::Bytes(n) => Some(n.min(space.len())),
+            Transfer::Interrupted => Some(0),
+            Transfer::Nothing => {
                 self.ready.has_read();
                 self.down = self.refuses;
                 None
             }
-            Moved::Ended(why) => {
+            Transfer::Ended(why) => {
                 self.down = Some(self.refuses.unwrap_or(why));
                 None
             }
@@ -81,13 +81,13 @@ impl Side {
             return None;
         }
         match self.line.write(bytes) {
-            Moved::Bytes(n) => Some(n.min(bytes.len())),
-            Moved::Interrupted => Some(0),
-            Moved::Nothing => {
+            Transfer::Bytes(n) => Some(n.min(bytes.len())),
+            Transfer::Interrupted => Some(0),
+            Transfer::Nothing => {
                 self.ready.has_written();
                 None
             }
-            Moved::Ended(why) => {
+            Transfer::Ended(why) => {
                 self.refuses = Some(why);
                 // A read finds at once whether it has something left.
                 self.ready.ready.to_read = true;

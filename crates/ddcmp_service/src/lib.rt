@@ -24,7 +24,7 @@ mod system;
 
 pub use bridge::{BridgeEnd, BridgeFault, BridgeOptions, bridge_lines};
 pub use ddcmp_bridge::Counts;
-pub use ddcmp_session::{Form, Options, Served};
+pub use ddcmp_session::{Form, LinkOutcome, Options};
 pub use fault::{Attempt, Cause, NotOpened, ServiceFault};
 pub use line_name::LineName;
 pub use poller::errors_take;

@@ -5,7 +5,7 @@ ghost use Rattle.ddcmp_service.specs.Inside.Lines.{has_datagrams, moved_by_error
 ghost use Rattle.ddcmp_service.specs.Inside.Lines.{received_by_error, sent_by_error};
 ghost use Rattle.ddcmp_session.specs.declared.devices.Down.{Down as DownValue};
 
-use ddcmp_session::{Down, Moved};
+use ddcmp_session::{Down, Transfer};
 use ddcmp_station::Clock;
 use mio::net::{TcpStream, UdpSocket};
 use std::fs::File;
@@ -43,63 +43,63 @@ impl Drop for Line {
 }
 
 /// Returns what a call of the system returned.
-pub(crate) fn moved_by(answer: io::Result<usize>) -> Moved
-    ensures { MatchResult answer (λ n. result ≡ Moved.Bytes n)
+pub(crate) fn moved_by(answer: io::Result<usize>) -> Transfer
+    ensures { MatchResult answer (λ n. result ≡ Transfer.Bytes n)
         (λ error. result ≡ moved_by_error (error_kind error)) }
 {
     match answer {
-        Ok(n) => Moved::Bytes(n),
+        Ok(n) => Transfer::Bytes(n),
         Err(error) => match error.kind() {
-            ErrorKind::WouldBlock => Moved::Nothing,
-            ErrorKind::Interrupted => Moved::Interrupted,
-            kind => Moved::Ended(Down::Failed(kind)),
+            ErrorKind::WouldBlock => Transfer::Nothing,
+            ErrorKind::Interrupted => Transfer::Interrupted,
+            kind => Transfer::Ended(Down::Failed(kind)),
         },
     }
 }
 
 /// Returns what the receiving of a datagram returned. No error ends a line of datagrams.
-fn received_by(answer: io::Result<(usize, SocketAddr)>, remote: SocketAddr) -> Moved
-    ensures peer { (n : ℕ) → answer ≡ Ok (n, remote) → result ≡ Moved.Bytes n }
-    ensures stranger { IfOk answer (λ got. got.1 ≢ remote → result ≡ Moved.Bytes 0) }
+fn received_by(answer: io::Result<(usize, SocketAddr)>, remote: SocketAddr) -> Transfer
+    ensures peer { (n : ℕ) → answer ≡ Ok (n, remote) → result ≡ Transfer.Bytes n }
+    ensures stranger { IfOk answer (λ got. got.1 ≢ remote → result ≡ Transfer.Bytes 0) }
     ensures error { IfErr answer (λ error. result ≡ received_by_error (error_kind error)) }
-    ensures up { (why : DownValue) → result ≢ Moved.Ended why }
+    ensures up { (why : DownValue) → result ≢ Transfer.Ended why }
 {
     match answer {
-        Ok((n, sender)) => Moved::Bytes(if sender == remote { n } else { 0 }),
+        Ok((n, sender)) => Transfer::Bytes(if sender == remote { n } else { 0 }),
         Err(error) => match error.kind() {
             // The peer isn't there yet, as an earlier datagram has found.
-            ErrorKind::ConnectionRefused => Moved::Bytes(0),
-            ErrorKind::Interrupted => Moved::Interrupted,
-            _ => Moved::Nothing,
+            ErrorKind::ConnectionRefused => Transfer::Bytes(0),
+            ErrorKind::Interrupted => Transfer::Interrupted,
+            _ => Transfer::Nothing,
         },
     }
 }
 
 /// Returns what became of a datagram that was to be sent: what an error takes is lost, as on a
 /// line.
-fn sent_by(answer: io::Result<usize>, length: usize) -> Moved
-    ensures sent { IfOk answer (λ n. result ≡ Moved.Bytes length) }
+fn sent_by(answer: io::Result<usize>, length: usize) -> Transfer
+    ensures sent { IfOk answer (λ n. result ≡ Transfer.Bytes length) }
     ensures error { IfErr answer (λ error. result ≡ sent_by_error length (error_kind error)) }
-    ensures up { (why : DownValue) → result ≢ Moved.Ended why }
+    ensures up { (why : DownValue) → result ≢ Transfer.Ended why }
 {
     match answer {
-        Ok(_) => Moved::Bytes(length),
+        Ok(_) => Transfer::Bytes(length),
         Err(error) => match error.kind() {
-            ErrorKind::WouldBlock => Moved::Nothing,
-            ErrorKind::Interrupted => Moved::Interrupted,
-            _ => Moved::Bytes(length),
+            ErrorKind::WouldBlock => Transfer::Nothing,
+            ErrorKind::Interrupted => Transfer::Interrupted,
+            _ => Transfer::Bytes(length),
         },
     }
 }
 
 /// Reads a stream, of which no bytes are the end.
-fn read_by(answer: io::Result<usize>) -> Moved
-    ensures end { answer ≡ Ok 0 → result ≡ Moved.Ended Down.Closed }
-    ensures bytes { IfOk answer (λ n. n ≢ 0 → result ≡ Moved.Bytes n) }
+fn read_by(answer: io::Result<usize>) -> Transfer
+    ensures end { answer ≡ Ok 0 → result ≡ Transfer.Ended Down.Closed }
+    ensures bytes { IfOk answer (λ n. n ≢ 0 → result ≡ Transfer.Bytes n) }
     ensures error { IfErr answer (λ error. result ≡ moved_by_error (error_kind error)) }
 {
     match moved_by(answer) {
-        Moved::Bytes(0) => Moved::Ended(Down::Closed),
+        Transfer::Bytes(0) => Transfer::Ended(Down::Closed),
         got => got,
     }
 }
@@ -116,8 +116,8 @@ fn drain<C: Clock>(mut stream: net::TcpStream, clock: &mut C) {
             return;
         }
         match read_by(stream.read(&mut space)) {
-            Moved::Bytes(_) | Moved::Interrupted => {}
-            Moved::Nothing | Moved::Ended(_) => return,
+            Transfer::Bytes(_) | Transfer::Interrupted => {}
+            Transfer::Nothing | Transfer::Ended(_) => return,
         }
     }
 }
@@ -149,7 +149,7 @@ impl Line {
     }
 
     /// Reads what has come.
-    pub(crate) fn read(&mut self, space: &mut [u8]) -> Moved {
+    pub(crate) fn read(&mut self, space: &mut [u8]) -> Transfer {
         match self {
             Line::Stream(stream) => read_by(stream.read(space)),
             Line::Datagrams(socket, remote) => received_by(socket.recv_from(space), *remote),
@@ -158,7 +158,7 @@ impl Line {
     }
 
     /// Writes bytes from the front of `bytes`, as far as there is room.
-    pub(crate) fn write(&mut self, bytes: &[u8]) -> Moved {
+    pub(crate) fn write(&mut self, bytes: &[u8]) -> Transfer {
         match self {
             Line::Stream(stream) => moved_by(stream.write(bytes)),
             Line::Datagrams(socket, remote) => {

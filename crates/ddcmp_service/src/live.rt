@@ -14,7 +14,7 @@ use crate::poller::{Descriptor, Poller};
 use crate::system::System;
 use ddcmp_frame::ReaderRefusal;
 use ddcmp_io::{Got, Sink, Source, Worst};
-use ddcmp_session::{Buffers, Devices, Down, Moved, Session, Wanted};
+use ddcmp_session::{Buffers, Devices, Down, Session, Transfer, Wanted};
 use ddcmp_station::Clock;
 use std::alloc::Global;
 use std::fmt::InlineText;
@@ -101,36 +101,36 @@ impl<'a, S: System, C: Clock + Drop, R: Source, W: Sink> Live<'a, S, C, R, W> {
     }
 
     /// Has the owner of standard output write some of what waits.
-    fn write_by_owner(&mut self, bytes: &[u8]) -> Moved
+    fn write_by_owner(&mut self, bytes: &[u8]) -> Transfer
         ensures { count_moved result ≤ length (at_once self.old.output bytes.now) }
     {
         let bytes = self.output.piece(bytes);
         if bytes.is_empty() {
-            return Moved::Nothing;
+            return Transfer::Nothing;
         }
         if self.writer.failed() {
             return FAILED;
         }
         match self.writer.write(bytes) {
-            Some(n) => Moved::Bytes(n),
+            Some(n) => Transfer::Bytes(n),
             None => FAILED,
         }
     }
 
     /// Prints some of what waits: whatever becomes of that, it was taken.
-    fn print_some(&mut self, bytes: &[u8]) -> Moved
-        ensures { result ≡ Moved.Bytes (length (at_once self.old.errors bytes.now)) }
+    fn print_some(&mut self, bytes: &[u8]) -> Transfer
+        ensures { result ≡ Transfer.Bytes (length (at_once self.old.errors bytes.now)) }
     {
         let bytes = self.errors.piece(bytes);
         if let Ok(text) = str::from_utf8(bytes) {
             let _ = self.system.eprint(text);
         }
-        Moved::Bytes(bytes.len())
+        Transfer::Bytes(bytes.len())
     }
 }
 
 /// A write by the owner of an output failed.
-const FAILED: Moved = Moved::Ended(Down::Failed(ErrorKind::Other));
+const FAILED: Transfer = Transfer::Ended(Down::Failed(ErrorKind::Other));
 
 /// Reads an input, if it has something. One that has failed stays so.
 fn read_ready<R: Source>(reader: &mut R, there: &mut Descriptor, space: &mut [u8]) -> Got
@@ -149,15 +149,15 @@ fn read_ready<R: Source>(reader: &mut R, there: &mut Descriptor, space: &mut [u8
 
 /// Writes to an outlet that was opened again; none if its owner is to write, who learns of a
 /// failure.
-fn written(outlet: &mut Outlet, there: &mut Descriptor, bytes: &[u8]) -> Option<Moved> {
+fn written(outlet: &mut Outlet, there: &mut Descriptor, bytes: &[u8]) -> Option<Transfer> {
     let moved = outlet.write(bytes);
     match moved {
-        Some(Moved::Bytes(_) | Moved::Interrupted) => moved,
-        Some(Moved::Nothing) => {
+        Some(Transfer::Bytes(_) | Transfer::Interrupted) => moved,
+        Some(Transfer::Nothing) => {
             there.has_written();
             moved
         }
-        Some(Moved::Ended(_)) | None => {
+        Some(Transfer::Ended(_)) | None => {
             there.has_written();
             None
         }
@@ -232,39 +232,39 @@ impl<S: System, C: Clock + Drop, R: Source, W: Sink> Devices for Live<'_, S, C, 
         self.poller.may_read_line()
     }
 
-    fn read_line(&mut self, space: &mut [u8]) -> Moved {
+    fn read_line(&mut self, space: &mut [u8]) -> Transfer {
         let Some(line) = &mut self.line else {
-            return Moved::Ended(Down::Closed);
+            return Transfer::Ended(Down::Closed);
         };
         let got = line.read(space);
-        self.poller.line_was_read(got == Moved::Nothing);
+        self.poller.line_was_read(got == Transfer::Nothing);
         match (got, &mut self.framing) {
             // No frame goes on in the next datagram, so an unfinished one is dropped.
-            (Moved::Bytes(n), Some(framing)) => {
+            (Transfer::Bytes(n), Some(framing)) => {
                 let n = n.min(space.len());
                 let unfinished = framing.unfinished(&space[..n]);
-                Moved::Bytes(n.saturating_sub(unfinished))
+                Transfer::Bytes(n.saturating_sub(unfinished))
             }
-            (Moved::Bytes(n), None) => Moved::Bytes(n.min(space.len())),
+            (Transfer::Bytes(n), None) => Transfer::Bytes(n.min(space.len())),
             (got, _) => got,
         }
     }
 
-    fn write_line(&mut self, bytes: &[u8]) -> Moved {
+    fn write_line(&mut self, bytes: &[u8]) -> Transfer {
         let Some(line) = &mut self.line else {
-            return Moved::Ended(Down::Closed);
+            return Transfer::Ended(Down::Closed);
         };
         if !self.poller.may_write_line() {
-            return Moved::Nothing;
+            return Transfer::Nothing;
         }
         let took = line.write(bytes);
-        self.poller.line_was_written(took == Moved::Nothing);
+        self.poller.line_was_written(took == Transfer::Nothing);
         took
     }
 
-    fn write_output(&mut self, bytes: &[u8]) -> Moved {
+    fn write_output(&mut self, bytes: &[u8]) -> Transfer {
         if !self.poller.output.ready.to_write {
-            return Moved::Nothing;
+            return Transfer::Nothing;
         }
         match written(&mut self.output, &mut self.poller.output, bytes) {
             Some(moved) => moved,
@@ -272,9 +272,9 @@ impl<S: System, C: Clock + Drop, R: Source, W: Sink> Devices for Live<'_, S, C, 
         }
     }
 
-    fn write_errors(&mut self, bytes: &[u8]) -> Moved {
+    fn write_errors(&mut self, bytes: &[u8]) -> Transfer {
         if !self.poller.errors.ready.to_write {
-            return Moved::Nothing;
+            return Transfer::Nothing;
         }
         match written(&mut self.errors, &mut self.poller.errors, bytes) {
             Some(moved) => moved,

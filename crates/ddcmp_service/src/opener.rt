@@ -1,7 +1,8 @@
 //! Opens the line that a name names.
 ghost use Rattle.std.specs.Prelude.{◌≡◌, ◌+◌, ◌-◌, ◌^◌, IfErr, IfOk, None, Some, false, min};
 ghost use Rattle.ddcmp_service.specs.LineNames.{line_kind, not_opened_of};
-ghost use Rattle.ddcmp_service.specs.Inside.Opening.{Begins, SameIfNotYet, Opens, event_of, line_of};
+ghost use Rattle.ddcmp_service.specs.Inside.Opening.{Begins, SameIfNotYet, Opens, event_of};
+ghost use Rattle.ddcmp_service.specs.Inside.Opening.{line_of};
 ghost use Rattle.ddcmp_session.specs.declared.options.LineKind.TheVariants as kind;
 
 use crate::event::Event;

@@ -3,7 +3,7 @@ ghost use Rattle.std.specs.Prelude.{◌≡◌, take};
 ghost use Rattle.ddcmp_service.specs.Inside.Outlets.{at_once};
 
 use crate::line::moved_by;
-use ddcmp_session::Moved;
+use ddcmp_session::Transfer;
 use std::fs::{self, File, Files, OpenOptions};
 use std::io::{IsTerminal, Write};
 use std::os::fd::AsRawFd;
@@ -45,7 +45,7 @@ impl Outlet {
     }
 
     /// Writes bytes if the outlet was opened again; else none, and whoever owns it writes.
-    pub(crate) fn write(&mut self, bytes: &[u8]) -> Option<Moved> {
+    pub(crate) fn write(&mut self, bytes: &[u8]) -> Option<Transfer> {
         match self {
             Outlet::Again(file) => Some(moved_by(file.write(bytes))),
             Outlet::File | Outlet::Other => None,

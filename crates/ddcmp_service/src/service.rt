@@ -8,7 +8,7 @@ use crate::live::{Live, Parts};
 use crate::poller::Poller;
 use crate::system::System;
 use ddcmp_io::{Sink, Source, Worst};
-use ddcmp_session::{LineKind, LinkFault, Options, Served, run_link};
+use ddcmp_session::{LineKind, LinkFault, LinkOutcome, Options, run_link};
 use ddcmp_station::Elapsed;
 use std::alloc::Global;
 use std::fs::{File, Files};
@@ -25,7 +25,7 @@ pub fn serve_link<'a, S, R: Source, W: Sink>(
     options: Options,
     reader: &mut R,
     writer: &mut W,
-) -> Result<Served, ServiceFault<'a>>
+) -> Result<LinkOutcome, ServiceFault<'a>>
 where
     S: Net<Stream = net::TcpStream, Listener = net::TcpListener>
         + Files<File = File>
@@ -42,11 +42,11 @@ where
 /// Returns how a service ends over a line of this name: by a fault of the output first, then of the
 /// input.
 fn ending_of<'a, R: Source, W: Sink>(
-    ended: Result<Served, Ended>,
+    ended: Result<LinkOutcome, Ended>,
     line: LineName<'a>,
     reader: &R,
     writer: &W,
-) -> Result<Served, ServiceFault<'a>>
+) -> Result<LinkOutcome, ServiceFault<'a>>
     ensures broken { (result ≡ Err ServiceFault.Write) ↔ IsTrue (W.broken writer.now) }
     ensures unread { R.state reader.now ≡ Worst.Failed → W.broken writer.now ≡ false
         → result ≡ Err ServiceFault.Read }
@@ -71,7 +71,7 @@ fn serve<S: System, R: Source, W: Sink>(
     options: Options,
     reader: &mut R,
     writer: &mut W,
-) -> Result<Served, Ended> {
+) -> Result<LinkOutcome, Ended> {
     let poller = match Poller::new(system, alloc) {
         Ok(poller) => poller,
         Err(error) => return Err(no_poller(error.kind())),

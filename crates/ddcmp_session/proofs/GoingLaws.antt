@@ -14,9 +14,9 @@ use Rattle.ddcmp_session.specs.Text.{Wrote, mail_text}
 use Rattle.ddcmp_session.proofs.FrameLaws.{PutsFrames, frames-line}
 use Rattle.ddcmp_session.specs.declared.devices.Down.{Down}
 use Rattle.ddcmp_session.specs.declared.devices.Fault.{Fault}
-use Rattle.ddcmp_session.specs.declared.devices.Moved.{Moved}
-use Rattle.ddcmp_session.specs.declared.devices.Moved.TheVariants.{Bytes, Nothing, Interrupted}
-use Rattle.ddcmp_session.specs.declared.devices.Moved.TheVariants.{Ended}
+use Rattle.ddcmp_session.specs.declared.devices.Transfer.{Transfer}
+use Rattle.ddcmp_session.specs.declared.devices.Transfer.TheVariants.{Bytes, Nothing, Interrupted}
+use Rattle.ddcmp_session.specs.declared.devices.Transfer.TheVariants.{Ended}
 use Rattle.ddcmp_session.specs.declared.devices.Fault.TheVariants.{Line, Input}
 use Rattle.ddcmp_session.specs.Session.{SessionView, form_of}
 use Rattle.ddcmp_session.specs.Session.{IsFilled, after_timeout}
@@ -314,14 +314,14 @@ reported fault becomes = λ h t now is was a known.
     subst (HasReported fault) (same-now (sym (becomes t was) ∙ known)) (newest fault t)
 
 -- what was reported by a read of the line, or by a write to it before
-pub line-reported : {held : BuffersView} {s : SessionView} {k k' : Option Traffic} (m : Moved)
+pub line-reported : {held : BuffersView} {s : SessionView} {k k' : Option Traffic} (m : Transfer)
     (space : List ℕ) (why : Down) → Becomes k k' (after_came m space)
     → (held.down ≡ Some why) ⊎ (m ≡ Ended why) → Reports held s k k' (Line why)
 line-reported m space why becomes (inl down) = λ h t now is was a known.
     subst (HasReported (Line why)) (same-now (sym (becomes t was) ∙ known))
     (kept m t (a.down why down))
   where
-    kept : (m : Moved) (t : Traffic) → HasReported (Line why) t
+    kept : (m : Transfer) (t : Traffic) → HasReported (Line why) t
         → HasReported (Line why) (after_came m space t)
     kept (Bytes n) t r = r
     kept Nothing t r = r

@@ -32,7 +32,7 @@ use Rattle.ddcmp_frame.proofs.Tests.{some-inj, none-some, some-none, ltb-is}
 use Rattle.ddcmp_frame.proofs.Tests.{ltb-less, ltb-not, eqb-true, eqb-false}
 use Rattle.ddcmp_explain.specs.declared.skipped.Skipped.{Skipped}
 use Rattle.ddcmp_explain.specs.Discarded.{behind, taken_by}
-use Rattle.ddcmp_session.specs.Trace.{HeardView, HasHeard, Hears, is_junk, first_junk, junk_of}
+use Rattle.ddcmp_session.specs.Trace.{WayReaderView, HasHeard, Hears, is_junk, first_junk, junk_of}
 use Rattle.ddcmp_session.specs.Trace.{Discards, from_discarded, skipped_at_least, skipped_between}
 use Rattle.ddcmp_session.proofs.JunkLaws.{junk-past}
 
@@ -399,7 +399,7 @@ given-is max text b given e =
     append_cancel_left (items max text) _ _ (sym (items-more max text (b ∷ [])) ∙ e)
 
 pub hears
-    : (old noted pushed new : HeardView) (byte : ℕ) (item : Item) (discarded : Option Skipped)
+    : (old noted pushed new : WayReaderView) (byte : ℕ) (item : Item) (discarded : Option Skipped)
     → noted.frames ≡ old.frames → noted.reached ≡ old.reached
     → ((text : List ℕ) (from : ℕ) → HasHeard text from old
     → noted.junk ≡ first_junk (text ++ byte ∷ []) from)
@@ -488,7 +488,7 @@ least-some : (least : ℕ) (text : List ℕ) (from to : ℕ) (it : Skipped)
 least-some least text from to it e l =
     e ∙ sym (rw (leb-is least (to - from) (omega (arith, skipped-count text from to it e, l))) refl)
 
-module _ (old : HeardView) (least end unfinished : ℕ)
+module _ (old : WayReaderView) (least end unfinished : ℕ)
     (opens : (text : List ℕ) → StandsFor old.frames text
     → unfinished ≡ open_at_end old.frames.max text)
     (count : old.frames.offset - unfinished ≡ end)
@@ -522,7 +522,7 @@ module _ (old : HeardView) (least end unfinished : ℕ)
         nothing-is None refl
         (λ text from h. least-short least text from end it (skipped text from h) l)
 
-    pub discards-some : (it : Skipped) (new : HeardView)
+    pub discards-some : (it : Skipped) (new : WayReaderView)
         → ((text : List ℕ) (from : ℕ) → HasHeard text from old
         → Some it ≡ skipped_between text from end) → least ≤ it.count
         → new.frames ≡ old.frames → new.reached.offset + new.reached.taken ≡ end

@@ -6,9 +6,9 @@ use Rattle.std.proofs.lemmas.List.{take-append-drop, take_min}
 use Rattle.ddcmp_frame.specs.Reader.{StandsFor}
 use Rattle.ddcmp_io.specs.Queue.{after_taken}
 use Rattle.ddcmp_station.specs.Linking.{after_sent}
-use Rattle.ddcmp_session.specs.declared.devices.Moved.{Moved}
-use Rattle.ddcmp_session.specs.declared.devices.Moved.TheVariants.{Bytes, Nothing, Interrupted}
-use Rattle.ddcmp_session.specs.declared.devices.Moved.TheVariants.{Ended}
+use Rattle.ddcmp_session.specs.declared.devices.Transfer.{Transfer}
+use Rattle.ddcmp_session.specs.declared.devices.Transfer.TheVariants.{Bytes, Nothing, Interrupted}
+use Rattle.ddcmp_session.specs.declared.devices.Transfer.TheVariants.{Ended}
 use Rattle.ddcmp_session.specs.declared.devices.Fault.TheVariants.{Line}
 use Rattle.ddcmp_session.specs.Session.{SessionView, form_of}
 use Rattle.ddcmp_session.specs.Calls.{Received, LineTook}
@@ -44,7 +44,7 @@ line-moved {held} {s} {k} {k'} came empty becomes = λ h t is was a. (
       }),
 )
 
-pub line-came : {held : BuffersView} {s : SessionView} {k k' : Option Traffic} (m : Moved)
+pub line-came : {held : BuffersView} {s : SessionView} {k k' : Option Traffic} (m : Transfer)
     (space : List ℕ) → held.received ≡ [] → Becomes k k' (after_came m space)
     → GoesOn held s k (record held { received = moved_of m space }) s k'
 line-came (Bytes n) space empty becomes = line-moved (take n space) empty becomes
@@ -223,7 +223,7 @@ received-held {held} {known} old new n bytes rest same left does line =
     (λ text s. subst (λ xs. StandsFor new.link.station.line (text ++ take n xs)) same
     (line text s)))
 
-pub line-given : {held : BuffersView} {s : SessionView} {k k' : Option Traffic} (m : Moved)
+pub line-given : {held : BuffersView} {s : SessionView} {k k' : Option Traffic} (m : Transfer)
     (space came : List ℕ) → held.received ≡ [] → came ≡ moved_of m space
     → Becomes k k' (after_came m space)
     → GoesOn held s k (record held { received = came }) s k'

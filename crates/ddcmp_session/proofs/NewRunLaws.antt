@@ -5,8 +5,8 @@ use Rattle.ddcmp_frame.specs.Reader.{StandsFor}
 use Rattle.ddcmp_session.specs.declared.buffers.lines.Stop.TheVariants.{the_data as Stop}
 use Rattle.ddcmp_session.specs.declared.devices.Fault.{Fault}
 use Rattle.ddcmp_session.specs.declared.link.LinkFault.TheVariants.{the_data as LinkFault, Stopped}
-use Rattle.ddcmp_session.specs.declared.link.Served.{Served}
-use Rattle.ddcmp_session.specs.declared.link.Served.TheVariants.{Delivered, SomeRefused}
+use Rattle.ddcmp_session.specs.declared.link.LinkOutcome.{LinkOutcome}
+use Rattle.ddcmp_session.specs.declared.link.LinkOutcome.TheVariants.{Delivered, SomeRefused}
 use Rattle.ddcmp_session.specs.declared.options.LineKind.{LineKind}
 use Rattle.ddcmp_session.specs.declared.options.Options.{Options}
 use Rattle.ddcmp_session.specs.Session.{SessionView, session_made}
@@ -43,21 +43,21 @@ reports-new {options} {kind} {held} {s} {before} {after} {fault} none made clear
 }
 
 -- what stopped a link's run
-abbrev pub stop-of : {R : Type 0} → Result Served (LinkFault R) → Result (Unit {0}) (Stop R)
+abbrev pub stop-of : {R : Type 0} → Result LinkOutcome (LinkFault R) → Result (Unit {0}) (Stop R)
 stop-of (Err (Stopped stop)) = Err stop
 stop-of _ = Ok tt
 
 -- how a run is reported that ended well, by whether a part of its input was refused
-pub reported-as : {served : Served} {is_refused : Bool} (s : SessionView)
+pub reported-as : {served : LinkOutcome} {is_refused : Bool} (s : SessionView)
     → (if is_refused then SomeRefused else Delivered) ≡ served → s.was_refused ≡ is_refused
     → served ≡ served_of s
 reported-as s told is =
     sym told ∙ ap (λ b. if b then SomeRefused else Delivered) (sym is)
 
-abbrev or-else : {R : Type 0} → Served → Result Served (LinkFault R) → Served
+abbrev or-else : {R : Type 0} → LinkOutcome → Result LinkOutcome (LinkFault R) → LinkOutcome
 or-else other (Ok served) = served
 or-else other (Err e) = other
 
-pub served-in : {R : Type 0} {one other : Served}
-    → ◌≡◌ {A = Result Served (LinkFault R)} (Ok one) (Ok other) → one ≡ other
-served-in {R} {one} e = ap (λ (r : Result Served (LinkFault R)). or-else one r) e
+pub served-in : {R : Type 0} {one other : LinkOutcome}
+    → ◌≡◌ {A = Result LinkOutcome (LinkFault R)} (Ok one) (Ok other) → one ≡ other
+served-in {R} {one} e = ap (λ (r : Result LinkOutcome (LinkFault R)). or-else one r) e

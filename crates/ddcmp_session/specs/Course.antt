@@ -11,7 +11,7 @@ use Rattle.ddcmp_core.specs.declared.state.State.{State}
 use Rattle.ddcmp_core.specs.declared.state.State.TheVariants.{Halted, IStart, AStart, Running}
 use Rattle.ddcmp_core.specs.declared.state.State.TheVariants.{Maintenance}
 use Rattle.ddcmp_station.specs.Driving.{is_due, later}
-use Rattle.ddcmp_station.specs.Linking.{LinkView, state_of, total_plus}
+use Rattle.ddcmp_station.specs.Linking.{LinkView, owes_reply, state_of, total_plus}
 use Rattle.ddcmp_session.specs.declared.course.Course.{Course}
 use Rattle.ddcmp_session.specs.declared.course.Progress.{Progress}
 
@@ -140,11 +140,11 @@ abbrev pub has_received : Progress → Option Progress → Bool
 has_received p None = false
 has_received p (Some before) = not (before.received == p.received)
 
--- It isn't quiet when the station begins to run, or in Maintenance the peer is heard first, or a
--- message was received.
-abbrev pub after_noise : Progress → Course → Course
-after_noise p c =
-    if (nat_le 3 p.step && not c.has_run_here) || has_received p c.progress
+-- It isn't quiet when the peer is owed a reply, as to a REP or to what it sent again, when the
+-- station begins to run, or in Maintenance the peer is heard first, or a message was received.
+abbrev pub after_noise : Bool → Progress → Course → Course
+after_noise owes p c =
+    if owes || ((nat_le 3 p.step && not c.has_run_here) || has_received p c.progress)
     then record c { quiet_since = c.moment }
     else c
 
@@ -167,7 +167,7 @@ unfoldable pub after_looked : ℕ → NakCounts → LinkView → Course → Cour
 after_looked timer_ms before d c =
     after_state (state_of d).state
     (after_progress (progress_of d)
-    (after_noise (progress_of d)
+    (after_noise (owes_reply d) (progress_of d)
     (after_refusal timer_ms (refusal_between before d.station.core.counters.nak_received)
     (after_acknowledged d.totals.acknowledged c))))
 

@@ -8,10 +8,10 @@ use Rattle.ddcmp_io.specs.declared.device.Got.TheVariants as got
 use Rattle.ddcmp_session.specs.declared.devices.Down.{Down}
 use Rattle.ddcmp_session.specs.declared.devices.Fault.{Fault}
 use Rattle.ddcmp_session.specs.declared.devices.Fault.TheVariants.{Line, Input, Output}
-use Rattle.ddcmp_session.specs.declared.devices.Moved.{Moved}
+use Rattle.ddcmp_session.specs.declared.devices.Transfer.{Transfer}
 use Rattle.ddcmp_session.specs.declared.devices.Wanted.{Wanted}
-use Rattle.ddcmp_session.specs.declared.devices.Moved.TheVariants.{Bytes, Nothing, Interrupted}
-use Rattle.ddcmp_session.specs.declared.devices.Moved.TheVariants.{Ended}
+use Rattle.ddcmp_session.specs.declared.devices.Transfer.TheVariants.{Bytes, Nothing, Interrupted}
+use Rattle.ddcmp_session.specs.declared.devices.Transfer.TheVariants.{Ended}
 use Rattle.ddcmp_window.specs.Store.{first_message}
 use Rattle.ddcmp_session.specs.Session.{SessionView, form_of, IsFilled, wants_input, wants_line}
 use Rattle.ddcmp_session.specs.Session.{room_for_mail}
@@ -59,24 +59,24 @@ after_read got.Idle space t = t
 after_read got.Failed space t = after_fault Input t
 
 -- how many bytes were moved, and which
-abbrev pub count_moved : Moved → ℕ
+abbrev pub count_moved : Transfer → ℕ
 count_moved (Bytes n) = n
 count_moved Nothing = 0
 count_moved Interrupted = 0
 count_moved (Ended why) = 0
 
-abbrev pub moved_of : Moved → List ℕ → List ℕ
+abbrev pub moved_of : Transfer → List ℕ → List ℕ
 moved_of moved bytes = take (count_moved moved) bytes
 
-abbrev pub after_came : Moved → List ℕ → Traffic → Traffic
+abbrev pub after_came : Transfer → List ℕ → Traffic → Traffic
 after_came (Ended why) space t = after_fault (Line why) t
 after_came moved space t = record t { came = t.came ++ moved_of moved space }
 
-abbrev pub after_gone : Moved → List ℕ → Traffic → Traffic
+abbrev pub after_gone : Transfer → List ℕ → Traffic → Traffic
 after_gone (Ended why) bytes t = after_fault (Line why) t
 after_gone moved bytes t = record t { gone = t.gone ++ moved_of moved bytes }
 
-abbrev pub after_written : Moved → List ℕ → Traffic → Traffic
+abbrev pub after_written : Transfer → List ℕ → Traffic → Traffic
 after_written (Ended why) bytes t = after_fault Output t
 after_written moved bytes t = record t { written = t.written ++ moved_of moved bytes }
 

@@ -1,7 +1,6 @@
 -- The last lines of a session's run.
 use Rattle.std.specs.Prelude.{Bool, if◌then◌else◌, List, [], ◌++◌, ℕ, codes, decimal, Some}
-use Rattle.std.specs.declared.io.ErrorKind.TheVariants as kind
-use Rattle.ddcmp_io.specs.Causes.{cause_words}
+use Rattle.ddcmp_io.specs.Causes.{failure_words}
 use Rattle.ddcmp_session.specs.declared.devices.Down.{Down}
 use Rattle.ddcmp_session.specs.declared.devices.Down.TheVariants.{Closed, Failed}
 use Rattle.ddcmp_io.specs.Queue.{QueueView}
@@ -40,14 +39,7 @@ queued q = paged q []
 -- why a line is down
 abbrev pub down_text : Down → List ℕ
 down_text Closed = codes "closed by the other end"
-down_text (Failed kind.BrokenPipe) = codes "broken pipe"
-down_text (Failed kind.ConnectionRefused) = cause_words kind.ConnectionRefused
-down_text (Failed kind.ConnectionReset) = cause_words kind.ConnectionReset
-down_text (Failed kind.HostUnreachable) = cause_words kind.HostUnreachable
-down_text (Failed kind.NetworkUnreachable) = cause_words kind.NetworkUnreachable
-down_text (Failed kind.TimedOut) = cause_words kind.TimedOut
-down_text (Failed kind.OutOfMemory) = cause_words kind.OutOfMemory
-down_text (Failed _) = codes "input or output error"
+down_text (Failed kind) = failure_words kind
 
 abbrev pub line_down_text : Down → List ℕ
 line_down_text why = codes "line down: " ++ down_text why ++ codes "\n"

@@ -2,8 +2,8 @@
 use Rattle.std.specs.Prelude.{Bool, [], Option, if◌then◌else◌}
 use Rattle.ddcmp_frame.specs.Reader.{ReaderView, StandsFor}
 use Rattle.ddcmp_session.specs.declared.devices.Fault.{Fault}
-use Rattle.ddcmp_session.specs.declared.link.Served.{Served}
-use Rattle.ddcmp_session.specs.declared.link.Served.TheVariants.{Delivered, SomeRefused}
+use Rattle.ddcmp_session.specs.declared.link.LinkOutcome.{LinkOutcome}
+use Rattle.ddcmp_session.specs.declared.link.LinkOutcome.TheVariants.{Delivered, SomeRefused}
 use Rattle.ddcmp_session.specs.declared.options.LineKind.{LineKind}
 use Rattle.ddcmp_session.specs.declared.options.Options.{Options}
 use Rattle.ddcmp_session.specs.Session.{SessionView, session_made}
@@ -12,7 +12,7 @@ use Rattle.ddcmp_session.specs.Finishing.{RunsToEnd}
 use Rattle.ddcmp_session.specs.Lines.{ReportsOver}
 
 -- how a run that ended well is reported: a part of the input may have been no message
-abbrev pub served_of : SessionView → Served
+abbrev pub served_of : SessionView → LinkOutcome
 served_of s = if s.was_refused then SomeRefused else Delivered
 
 -- A session was made with these options, and ran to its end: as the last.

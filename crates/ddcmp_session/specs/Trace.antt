@@ -32,7 +32,7 @@ use Rattle.ddcmp_session.specs.Errors.{ErrorsView, HasLine}
 
 -- What was heard of one way: how far its frames are read; the last item, or where the bytes end
 -- that were reported since; and where the first of those after it is that is no fill.
-pub record HeardView : Type 0 where
+pub record WayReaderView : Type 0 where
   pub frames : ReaderView
   pub reached : Reached
   pub junk : Option ℕ
@@ -40,8 +40,8 @@ pub record HeardView : Type 0 where
 -- How much room is left to other lines, what was heard of each way, and the moment.
 pub record TraceView : Type 0 where
   pub spared : ℕ
-  pub sent : HeardView
-  pub came : HeardView
+  pub sent : WayReaderView
+  pub came : WayReaderView
   pub now : ℕ
 
 -- ---- what was discarded
@@ -73,7 +73,7 @@ first_junk text from = position_from is_junk from (drop from text)
 -- ---- what was heard of one way
 
 -- A text went this way, of which all up to `from` is reported.
-pub record HasHeard (text : List ℕ) (from : ℕ) (at : HeardView) : Type 0 where
+pub record HasHeard (text : List ℕ) (from : ℕ) (at : WayReaderView) : Type 0 where
   pub stands : StandsFor at.frames text
   pub reached : at.reached.offset + at.reached.taken ≡ from
   pub junk : at.junk ≡ first_junk text from
@@ -88,7 +88,7 @@ from_after from None = from
 from_after from (Some completed) = behind completed.item
 
 -- One more byte is heard: the item that it completes, and what was discarded before that.
-pub record Hears (old : HeardView) (byte : ℕ) (given : Option Completed) (new : HeardView)
+pub record Hears (old : WayReaderView) (byte : ℕ) (given : Option Completed) (new : WayReaderView)
     : Type 0 where
   pub max : new.frames.max ≡ old.frames.max
   pub counted : new.frames.offset ≡ old.frames.offset + 1
@@ -108,7 +108,7 @@ from_discarded from to (Some skipped) = to
 
 -- What was discarded after the last item, up to where the frame begins that is unfinished, is
 -- reported if it is this many bytes.
-pub record Discards (old : HeardView) (least : ℕ) (given : Option Skipped) (new : HeardView)
+pub record Discards (old : WayReaderView) (least : ℕ) (given : Option Skipped) (new : WayReaderView)
     : Type 0 where
   pub frames : new.frames ≡ old.frames
   pub is : (text : List ℕ) (from : ℕ) → HasHeard text from old
@@ -117,7 +117,7 @@ pub record Discards (old : HeardView) (least : ℕ) (given : Option Skipped) (ne
       → HasHeard text (from_discarded from (ending old.frames.max text).offset given) new
 
 -- a byte whose offset has no room in 64 bits isn't heard
-abbrev pub TakesByte : HeardView → ℕ → Option Completed → HeardView → Type 0
+abbrev pub TakesByte : WayReaderView → ℕ → Option Completed → WayReaderView → Type 0
 TakesByte old byte given new =
     (old.frames.offset < 2 ^ 64 - 2 → Hears old byte given new)
     × (2 ^ 64 - 2 ≤ old.frames.offset → (given ≡ None) × (new ≡ old))
@@ -197,11 +197,11 @@ HasLines spared (line ∷ later) old new =
 
 -- ---- a trace
 
-abbrev pub heard_of : Way → TraceView → HeardView
+abbrev pub heard_of : Way → TraceView → WayReaderView
 heard_of ToLine t = t.sent
 heard_of FromLine t = t.came
 
-abbrev pub with_heard : Way → HeardView → TraceView → TraceView
+abbrev pub with_heard : Way → WayReaderView → TraceView → TraceView
 with_heard ToLine heard t = record t { sent = heard }
 with_heard FromLine heard t = record t { came = heard }
 
@@ -237,7 +237,7 @@ LogsEnd old new before after =
     × LogsDiscarded FromLine 1 mid new between after
 
 -- Nothing was heard yet of another line, of frames of at most this many bytes of data.
-abbrev pub IsNew : ℕ → HeardView → Type 0
+abbrev pub IsNew : ℕ → WayReaderView → Type 0
 IsNew most heard = HasHeard [] 0 heard × (heard.frames.max ≡ most)
 
 -- The line ended, and another begins.

@@ -3,7 +3,7 @@ ghost use Rattle.std.specs.Prelude.{◌≡◌, ◌≤◌, ◌==◌, [], IfOk, Li
 ghost use Rattle.ddcmp_session.specs.Devices.{Becomes, after_came, after_read, moved_of};
 ghost use Rattle.ddcmp_session.specs.Devices.{count_read};
 
-use crate::devices::{Devices, Moved};
+use crate::devices::{Devices, Transfer};
 use ddcmp_io::Got;
 use std::alloc::{AllocError, Global};
 use std::marker::Model;
@@ -78,7 +78,7 @@ impl Chunk {
     }
 
     /// Reads the line. All bytes must have been used.
-    pub(crate) fn read_line<D: Devices>(&mut self, devices: &mut D) -> Moved
+    pub(crate) fn read_line<D: Devices>(&mut self, devices: &mut D) -> Transfer
         requires { self.old ≡ [] }
         ensures { (space : List ℕ) × (self.new ≡ moved_of result space)
             × Becomes (D.traffic devices.old) (D.traffic devices.new) (after_came result space) }

@@ -45,7 +45,8 @@ pub(crate) struct Course {
     pub(crate) moment: u64,
     /// When the next report of the counters is due.
     pub(crate) report_at: u64,
-    /// The moment since which no message came: at first that of the startup handshake.
+    /// The moment since which nothing came that the peer is owed a reply to, and no message: at
+    /// first that of the startup handshake.
     pub(crate) quiet_since: u64,
     /// How many tries came in a row.
     pub(crate) tries: u32,
@@ -168,7 +169,7 @@ impl Course {
             timer_ms,
         );
         let progress = progress_of(link);
-        self.note_noise(progress);
+        self.note_noise(link.owes_reply(), progress);
         self.note_progress(progress);
         self.note_state(link.state());
     }
@@ -201,13 +202,13 @@ impl Course {
         self.pause = Some(self.moment.saturating_add(timer_ms as u64));
     }
 
-    /// Notes the moment if the station begins to run, in maintenance mode if the peer is
-    /// heard first, or if a message was received.
-    fn note_noise(&mut self, progress: Progress)
-        ensures { self.new ≡ after_noise progress self.old }
+    /// Notes the moment if the peer is owed a reply, if the station begins to run, in maintenance
+    /// mode if the peer is heard first, or if a message was received.
+    fn note_noise(&mut self, owes: bool, progress: Progress)
+        ensures { self.new ≡ after_noise owes progress self.old }
     {
         let begins = progress.step >= RUNNING && !self.has_run_here;
-        if begins || has_received(progress, self.progress) {
+        if owes || begins || has_received(progress, self.progress) {
             self.quiet_since = self.moment;
         }
     }

@@ -6,7 +6,7 @@ ghost use Rattle.ddcmp_session.specs.EndText.{down_text};
 use crate::buffers::Buffers;
 use crate::session::Session;
 use ddcmp_io::Got;
-use ddcmp_io::cause::words_of;
+use ddcmp_io::cause::failure_words_of;
 use std::fmt;
 use std::io::ErrorKind;
 
@@ -59,23 +59,23 @@ pub trait Devices {
     fn may_read_line(&self) -> bool;
 
     /// Reads the line into the front of `space`.
-    fn read_line(&mut self, space: &mut [u8]) -> Moved
+    fn read_line(&mut self, space: &mut [u8]) -> Transfer
         ensures came { Becomes (traffic self.old) (traffic self.new)
             (after_came result space.new) }
         ensures fits { count_moved result ≤ length space.new };
 
     /// Writes bytes from the front of `bytes` to the line, as far as it has room.
-    fn write_line(&mut self, bytes: &[u8]) -> Moved
+    fn write_line(&mut self, bytes: &[u8]) -> Transfer
         ensures gone { Becomes (traffic self.old) (traffic self.new)
             (after_gone result bytes.now) };
 
     /// Writes bytes from the front of `bytes` to standard output, as far as it has room.
-    fn write_output(&mut self, bytes: &[u8]) -> Moved
+    fn write_output(&mut self, bytes: &[u8]) -> Transfer
         ensures written { Becomes (traffic self.old) (traffic self.new)
             (after_written result bytes.now) };
 
     /// Writes bytes from the front of `bytes` to standard error, as far as it has room.
-    fn write_errors(&mut self, bytes: &[u8]) -> Moved
+    fn write_errors(&mut self, bytes: &[u8]) -> Transfer
         ensures { traffic self.new ≡ traffic self.old };
 
     /// Waits until a device is ready that the session wants, at most this many milliseconds, as
@@ -98,7 +98,7 @@ pub trait Devices {
 
 /// What became of a read or a write that doesn't wait.
 #[derive(Clone, Copy, PartialEq, Eq)]
-pub enum Moved {
+pub enum Transfer {
     Bytes(usize),
     /// Nothing came, or there was no room.
     Nothing,
@@ -108,14 +108,14 @@ pub enum Moved {
     Ended(Down),
 }
 
-impl Moved {
+impl Transfer {
     /// Returns how many bytes were moved.
     pub(crate) fn count(self) -> usize
         ensures { result ≡ moved self }
     {
         match self {
-            Moved::Bytes(n) => n,
-            Moved::Nothing | Moved::Interrupted | Moved::Ended(_) => 0,
+            Transfer::Bytes(n) => n,
+            Transfer::Nothing | Transfer::Interrupted | Transfer::Ended(_) => 0,
         }
     }
 }
@@ -130,23 +130,13 @@ pub enum Down {
 }
 
 impl Down {
-    /// Returns this in words.
+    /// Returns why, in words.
     pub(crate) fn words(self) -> &'static str
         ensures { result.now ≡ down_text self }
     {
         match self {
             Down::Closed => "closed by the other end",
-            Down::Failed(ErrorKind::BrokenPipe) => "broken pipe",
-            Down::Failed(kind) => match kind {
-                ErrorKind::ConnectionRefused
-                | ErrorKind::ConnectionReset
-                | ErrorKind::HostUnreachable
-                | ErrorKind::NetworkUnreachable
-                | ErrorKind::TimedOut
-                | ErrorKind::OutOfMemory => words_of(kind),
-                // A device that is gone fails by a code of its own.
-                _ => "input or output error",
-            },
+            Down::Failed(kind) => failure_words_of(kind),
         }
     }
 }

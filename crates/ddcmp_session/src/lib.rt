@@ -17,9 +17,9 @@ mod text;
 mod trace;
 
 pub use buffers::{Buffers, Stop, drain_errors, drain_output};
-pub use devices::{Devices, Down, Fault, Moved, Wanted};
+pub use devices::{Devices, Down, Fault, Transfer, Wanted};
 pub use errors::EVENT_ROOM;
-pub use link::{LinkFault, Served, run_link};
+pub use link::{LinkFault, LinkOutcome, run_link};
 pub use messages::Form;
 pub use options::{LineKind, Options};
 pub use session::{End, Session};

@@ -6,7 +6,7 @@ ghost use Rattle.ddcmp_proto.specs.declared.config.ConfigRefusal.{ConfigRefusal 
 ghost use Rattle.ddcmp_session.specs.Session.{SessionView, session_made};
 ghost use Rattle.ddcmp_session.specs.NewRun.{ReportsNew, RunsNew, served_of};
 ghost use Rattle.ddcmp_session.specs.declared.devices.Fault.{Fault as FaultValue};
-ghost use Rattle.ddcmp_session.specs.declared.link.Served.{Served as ServedValue};
+ghost use Rattle.ddcmp_session.specs.declared.link.LinkOutcome.{LinkOutcome as LinkOutcomeValue};
 
 use crate::buffers::{Buffers, Stop};
 use crate::devices::{Devices, Fault};
@@ -17,7 +17,7 @@ use std::alloc::Global;
 
 /// How a link ended that nothing stopped.
 #[derive(Clone, Copy)]
-pub enum Served {
+pub enum LinkOutcome {
     /// All of the input was delivered.
     Delivered,
     /// All was delivered of it that was a message.
@@ -41,12 +41,12 @@ pub fn run_link<D: Devices>(
     kind: LineKind,
     began: Option<u64>,
     devices: &mut D,
-) -> Result<Served, LinkFault<D::Refusal>>
+) -> Result<LinkOutcome, LinkFault<D::Refusal>>
     ensures refused { (refusal : Refusal) → first_refusal options.config ≡ Some refusal
         → result ≡ Err (LinkFault.Refused refusal) }
     ensures unused { (refusal : Refusal) → result ≡ Err (LinkFault.Refused refusal)
         → D.traffic devices.new ≡ D.traffic devices.old }
-    ensures served { (served : ServedValue) → result ≡ Ok served → (last : SessionView)
+    ensures served { (served : LinkOutcomeValue) → result ≡ Ok served → (last : SessionView)
         × RunsNew true options kind (D.traffic devices.old) last (D.traffic devices.new)
         × (last.course.lost ≡ 0)
         × (served ≡ served_of last) }
@@ -70,8 +70,8 @@ pub fn run_link<D: Devices>(
         return Err(LinkFault::Refused(ConfigRefusal::Memory));
     };
     match buffers.run_to_end(&mut session, devices) {
-        Ok(()) if session.was_refused() => Ok(Served::SomeRefused),
-        Ok(()) => Ok(Served::Delivered),
+        Ok(()) if session.was_refused() => Ok(LinkOutcome::SomeRefused),
+        Ok(()) => Ok(LinkOutcome::Delivered),
         Err(stop) => Err(LinkFault::Stopped(stop)),
     }
 }

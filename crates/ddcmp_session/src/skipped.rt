@@ -35,7 +35,7 @@ pub(crate) struct Completed {
 }
 
 /// What was heard of one way.
-pub(crate) struct Heard {
+pub(crate) struct WayReader {
     frames: Reader,
     /// The last item, or where the bytes end that were reported since.
     reached: Reached,
@@ -43,18 +43,18 @@ pub(crate) struct Heard {
     junk: Option<u64>,
 }
 
-impl Model for Heard {
-    ghost use Rattle.ddcmp_session.specs.Trace.{HeardView};
+impl Model for WayReader {
+    ghost use Rattle.ddcmp_session.specs.Trace.{WayReaderView};
 
-    ghost Value = { HeardView };
+    ghost Value = { WayReaderView };
 
     ghost view = { λ h. record { frames = h.frames; reached = h.reached; junk = h.junk } };
 }
 
 // Manual, since a derived `Drop` is expanded wherever it is dropped.
-impl Drop for Heard {
+impl Drop for WayReader {
     fn drop(self) {
-        let Heard {
+        let WayReader {
             frames: _frames,
             reached: _,
             junk: _,
@@ -62,15 +62,15 @@ impl Drop for Heard {
     }
 }
 
-impl Heard {
+impl WayReader {
     /// Nothing, of frames of at most this many bytes of data.
-    pub(crate) fn new(alloc: Global, max: u16) -> Result<Heard, ReaderRefusal>
+    pub(crate) fn new(alloc: Global, max: u16) -> Result<WayReader, ReaderRefusal>
         ensures makes { MakesReader max
             (result_map_both (λ h. h.frames) (λ refusal. refusal) result) }
         ensures heard { IfOk result (λ h. HasHeard [] 0 h) }
     {
         match Reader::new(alloc, max) {
-            Ok(frames) => Ok(Heard {
+            Ok(frames) => Ok(WayReader {
                 frames,
                 reached: Reached::at(0),
                 junk: None,

@@ -9,6 +9,7 @@ ghost use Rattle.ddcmp_station.specs.CountersText.{counters_line};
 ghost use Rattle.ddcmp_station.specs.StationText.{notice_line, number_text};
 
 use crate::messages::Form;
+use ddcmp_io::text::put_digits;
 use ddcmp_io::{ByteQueue, Page};
 use ddcmp_station::{
     Layout, Link, Notice, notice_name, notice_number, state_name, write_counter, write_counters,
@@ -54,10 +55,8 @@ fn put_chunk(out: &mut ByteQueue, bytes: &[u8])
 {
     let mut chunk = [0; 2 * CHUNK];
     let digits = &mut chunk[..2 * bytes.len()];
-    match hex::encode_to_slice(bytes, digits) {
-        Ok(()) => put(out, digits),
-        Err(_other_length) => unreachable!(),
-    }
+    put_digits(bytes, digits);
+    put(out, digits);
 }
 
 /// Appends the digits of bytes.

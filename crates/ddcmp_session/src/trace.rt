@@ -15,7 +15,7 @@ ghost use Rattle.ddcmp_session.specs.Trace.{skipped_line, skipped_lines};
 ghost use Rattle.ddcmp_session.specs.Trace.{timer_line, timer_lines, with_heard};
 
 use crate::errors::{Errors, LAST_ROOM};
-use crate::skipped::{Completed, Heard, MOST_DISCARDED};
+use crate::skipped::{Completed, MOST_DISCARDED, WayReader};
 use ddcmp_explain::{Notation, Skipped, reason_name, write_discarded, write_item};
 use ddcmp_frame::{ControlType, Header, Item, MAX_COUNT, Nak, ReaderRefusal};
 use ddcmp_io::text::write_number;
@@ -50,8 +50,8 @@ impl Way {
 pub(crate) struct Trace {
     /// How much room is left to other reports.
     spared: usize,
-    sent: Heard,
-    came: Heard,
+    sent: WayReader,
+    came: WayReader,
     /// The milliseconds since the service began.
     now: u64,
 }
@@ -86,8 +86,8 @@ impl Trace {
         ensures refused { IfErr result (λ refusal. refusal ≡ ReaderRefusal.Memory) }
     {
         let most = most.max(1).min(MAX_COUNT);
-        match Heard::new(alloc, most) {
-            Ok(sent) => match Heard::new(alloc, most) {
+        match WayReader::new(alloc, most) {
+            Ok(sent) => match WayReader::new(alloc, most) {
                 Ok(came) => Ok(Trace {
                     spared,
                     sent,

@@ -173,6 +173,23 @@ is_message (Some f) = is_data (header_of f)
 abbrev pub carries_message : LinkView → Bool
 carries_message d = is_message (frame_of_link d)
 
+-- whether the next frame is an ACK or a NAK, which the peer is owed
+abbrev pub is_reply : ControlType → Bool
+is_reply control.Ack = true
+is_reply control.Nak = true
+is_reply _ = false
+
+abbrev pub is_reply_header : Header → Bool
+is_reply_header (header.Control h) = is_reply h.kind
+is_reply_header _ = false
+
+abbrev pub is_reply_frame : Option Frame → Bool
+is_reply_frame None = false
+is_reply_frame (Some f) = is_reply_header (header_of f)
+
+abbrev pub owes_reply : LinkView → Bool
+owes_reply d = is_reply_frame (frame_of_link d)
+
 -- whether a frame of any length has room
 abbrev pub fits : LinkView → Bool
 fits d = nat_le (d.station.syn + d.station.core.limits.longest + 10) d.outbox.room

@@ -10,7 +10,7 @@ use Rattle.ddcmp_frame.specs.declared.header.Header.{Header}
 use Rattle.ddcmp_frame.specs.declared.header.Header.TheVariants as header
 use Rattle.ddcmp_frame.specs.declared.item.Item.{Item}
 use Rattle.ddcmp_frame.specs.declared.item.Item.TheVariants as item
-use Rattle.ddcmp_tap.specs.declared.order.Drawn.{Drawn}
+use Rattle.ddcmp_tap.specs.declared.order.SideSummary.{SideSummary}
 use Rattle.ddcmp_tap.specs.declared.order.Order.{Order}
 use Rattle.ddcmp_tap.specs.declared.order.Word.{Word}
 use Rattle.ddcmp_tap.specs.declared.order.Word.TheVariants.{Bad, Maint, Data, Ack, Nak, Rep, Strt}
@@ -43,11 +43,11 @@ word_of (item.Format offset fault) = Bad
 -- ---- what an item waits for
 
 -- the other side's data of this number aren't drawn at all
-abbrev pub is_undrawn : Drawn → Drawn → ℕ → Bool
+abbrev pub is_undrawn : SideSummary → SideSummary → ℕ → Bool
 is_undrawn own other resp = nat_lt (distance own.resp other.top) (distance own.resp resp)
 
 -- An acknowledgement waits until its data were drawn once.
-unfoldable pub must_wait : Drawn → Drawn → Word → Bool
+unfoldable pub must_wait : SideSummary → SideSummary → Word → Bool
 must_wait own other Bad = false
 must_wait own other Maint = false
 must_wait own other (Data resp num) = is_undrawn own other resp
@@ -58,21 +58,21 @@ must_wait own other Strt = false
 must_wait own other Stack = false
 
 -- a number beyond the data that the other side has in sequence, after a NAK again
-abbrev pub is_ahead : Drawn → Drawn → ℕ → Bool
+abbrev pub is_ahead : SideSummary → SideSummary → ℕ → Bool
 is_ahead own other resp = nat_lt (distance own.resp other.num) (distance own.resp resp)
 
 -- an ACK of no new number is for something that was repeated, or is no data
-abbrev pub is_unasked : Drawn → Drawn → ℕ → Bool
+abbrev pub is_unasked : SideSummary → SideSummary → ℕ → Bool
 is_unasked own other resp = (resp == own.resp) && not other.repeats
 
 -- a NAK is for a REP, or for something after the number that it acknowledges
-abbrev pub is_early : Drawn → ℕ → Bool → Bool
+abbrev pub is_early : SideSummary → ℕ → Bool → Bool
 is_early other resp is_reply =
     if is_reply then not other.asks else (resp == other.num) && not other.repeats
 
 -- It waits too until what it is likely to answer is drawn. After a STRT or STACK all but these wait
 -- for an answer to that.
-unfoldable pub waits : Drawn → Drawn → Word → Bool
+unfoldable pub waits : SideSummary → SideSummary → Word → Bool
 waits own other Bad = false
 waits own other Maint = false
 waits own other (Data resp num) = own.starts || is_ahead own other resp
@@ -88,27 +88,27 @@ waits own other Stack = not other.starts
 
 -- A number comes after another, counted from the last acknowledgement. One that lies half of all
 -- numbers ahead of that is an old one, which is sent again.
-abbrev pub is_after : Drawn → ℕ → ℕ → Bool
+abbrev pub is_after : SideSummary → ℕ → ℕ → Bool
 is_after other last num =
     nat_lt (distance other.resp num) 128
     && nat_lt (distance other.resp last) (distance other.resp num)
 
 -- A message is new if it comes after the others; after a NAK the next one alone is.
-abbrev pub is_new : Drawn → Drawn → ℕ → Bool
+abbrev pub is_new : SideSummary → SideSummary → ℕ → Bool
 is_new own other num =
     if own.goes_back then num == (own.num + 1) % 256 else is_after other own.num num
 
-abbrev pub after_data : Drawn → Drawn → ℕ → Drawn
+abbrev pub after_data : SideSummary → SideSummary → ℕ → SideSummary
 after_data own other num =
     if is_new own other num then record own { num = num; goes_back = false }
     else record own { repeats = true }
 
 -- the highest number so far
-abbrev pub higher : Drawn → Drawn → ℕ → ℕ
+abbrev pub higher : SideSummary → SideSummary → ℕ → ℕ
 higher own other num = if is_after other own.top num then num else own.top
 
 -- the side that it is of
-unfoldable pub after_own : Drawn → Drawn → Word → Drawn
+unfoldable pub after_own : SideSummary → SideSummary → Word → SideSummary
 after_own own other Bad = record own { repeats = true }
 after_own own other Maint = own
 after_own own other (Data resp num) =
@@ -122,15 +122,15 @@ after_own own other Stack =
     record own { num = 0; top = 0; resp = 0; starts = true; repeats = true; goes_back = false }
 
 -- what it acknowledges was sent, if it isn't drawn
-abbrev pub acknowledged : Drawn → Drawn → ℕ → Drawn
+abbrev pub acknowledged : SideSummary → SideSummary → ℕ → SideSummary
 acknowledged own other resp =
     if is_ahead own other resp then record other { num = resp; goes_back = false } else other
 
-abbrev pub raised : Drawn → Drawn → ℕ → ℕ
+abbrev pub raised : SideSummary → SideSummary → ℕ → ℕ
 raised own other resp = if is_undrawn own other resp then resp else other.top
 
 -- and the other
-unfoldable pub after_other : Drawn → Drawn → Word → Drawn
+unfoldable pub after_other : SideSummary → SideSummary → Word → SideSummary
 after_other own other Bad = other
 after_other own other Maint = other
 after_other own other (Data resp num) =
@@ -170,7 +170,7 @@ after_drawn o Called word =
     }
 
 -- nothing was drawn, and the caller's turn is first
-abbrev pub no_side_drawn : Drawn
+abbrev pub no_side_drawn : SideSummary
 no_side_drawn =
     record {
       num = 0;
@@ -212,7 +212,7 @@ refers Stack theirs = false
 -- The side whose turn it is goes first if it doesn't wait. If both wait, one that doesn't wait for
 -- data goes first; if both are for data, these may be missing, and then the turn counts, unless its
 -- item refers to the other.
-abbrev pub goes_first : Drawn → Drawn → Word → Word → Bool
+abbrev pub goes_first : SideSummary → SideSummary → Word → Word → Bool
 goes_first own other mine theirs =
     if must_wait own other mine then must_wait other own theirs && not (refers mine theirs)
     else if waits own other mine then must_wait other own theirs || waits other own theirs

@@ -8,7 +8,7 @@ use crate::order::{Order, Word};
 use crate::rung::write_rung;
 use crate::side::Side;
 use ddcmp_explain::{
-    DetectedFault, InputBytes, Notation, PIECE, Reached, Written, reached_by, write_discarded,
+    DetectedFault, InputBytes, InputForm, Notation, PIECE, Reached, reached_by, write_discarded,
     write_last,
 };
 use ddcmp_frame::{Item, Pushed, Reader};
@@ -79,7 +79,7 @@ impl<R: Source + Drop> Capture<R> {
     pub fn new(
         alloc: Global,
         reader: R,
-        written: Written,
+        written: InputForm,
         side: Side,
         discarded: bool,
         max: u16,

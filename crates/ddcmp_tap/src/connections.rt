@@ -76,9 +76,24 @@ fn accept_next<L: OpenListener<Stream = net::TcpStream>>(listener: &L) -> io::Re
     Err(io::Error::from(ErrorKind::Interrupted))
 }
 
+/// Prints the address of a listener whose port the system has chosen.
+fn report_port<E: Eprint, L: OpenListener>(system: &E, listener: &L, name: &str) {
+    if !name.ends_with(":0") {
+        return;
+    }
+    if let Ok(addr) = listener.local_addr() {
+        let _ = eprintln!(system; "ddcmp: listening {addr}");
+    }
+}
+
 /// Returns the first connection to an address.
-fn accept_first<N: Net<Stream = net::TcpStream>>(net: &N, name: &str) -> io::Result<Caller> {
-    accept_next(&TcpListener::bind(net, name)?)
+fn accept_first<S: Net<Stream = net::TcpStream> + Eprint>(
+    system: &S,
+    name: &str,
+) -> io::Result<Caller> {
+    let listener = TcpListener::bind(system, name)?;
+    report_port(system, &listener, name);
+    accept_next(&listener)
 }
 
 /// Returns a connection to an address.
@@ -239,6 +254,7 @@ pub fn tap_again<S: Net<Stream = net::TcpStream> + Eprint + time::Clock, W: Sink
         Ok(listener) => listener,
         Err(error) => return TapFault::Carrier(not_made(system, Stage::Listen, listen, &error)),
     };
+    report_port(system, &listener, listen);
     for turn in 0..u64::MAX {
         let caller = match accept_next(&listener) {
             Ok(caller) => caller,

@@ -27,7 +27,7 @@ pub use direction::{Direction, ROOM};
 pub use flow::Flow;
 pub use no_memory::NoMemory;
 pub use notation::Notation;
-pub use order::{Drawn, Order, Word};
+pub use order::{Order, SideSummary, Word};
 pub use outlet::Outlet;
 pub use proxy::{Readiness, pump};
 pub use side::Side;

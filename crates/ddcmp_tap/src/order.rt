@@ -103,7 +103,7 @@ fn distance(from: u8, to: u8) -> u8
 
 /// What was drawn of a side, as far as items of the other refer to it.
 #[derive(Clone, Copy)]
-pub struct Drawn {
+pub struct SideSummary {
     /// The number of its last data message in sequence, after a NAK again.
     pub num: u8,
     /// The highest number of its data messages.
@@ -120,9 +120,9 @@ pub struct Drawn {
     pub goes_back: bool,
 }
 
-impl Drawn {
+impl SideSummary {
     /// Nothing was drawn.
-    const NOTHING: Drawn = Drawn {
+    const NOTHING: SideSummary = SideSummary {
         num: 0,
         top: 0,
         resp: 0,
@@ -133,7 +133,7 @@ impl Drawn {
     };
 
     /// Returns whether the other side's data of this number aren't drawn at all.
-    fn is_undrawn(&self, other: &Drawn, resp: u8) -> bool
+    fn is_undrawn(&self, other: &SideSummary, resp: u8) -> bool
         ensures { result ≡ is_undrawn self.now other.now resp }
     {
         distance(self.resp, other.top) < distance(self.resp, resp)
@@ -141,7 +141,7 @@ impl Drawn {
 
     /// Returns whether an item acknowledges data that aren't drawn at all.
     #[tactic(auto, unfolding(crate::specs::Order::must_wait))]
-    fn must_wait(&self, other: &Drawn, word: Word) -> bool
+    fn must_wait(&self, other: &SideSummary, word: Word) -> bool
         ensures { result ≡ must_wait self.now other.now word }
     {
         match word {
@@ -153,14 +153,14 @@ impl Drawn {
     }
 
     /// Returns whether the other side's data of this number aren't drawn in sequence yet.
-    fn is_ahead(&self, other: &Drawn, resp: u8) -> bool
+    fn is_ahead(&self, other: &SideSummary, resp: u8) -> bool
         ensures { result ≡ is_ahead_of self.now other.now resp }
     {
         distance(self.resp, other.num) < distance(self.resp, resp)
     }
 
     /// Returns whether an ACK acknowledges nothing new, and nothing that was repeated.
-    fn is_unasked(&self, other: &Drawn, resp: u8) -> bool
+    fn is_unasked(&self, other: &SideSummary, resp: u8) -> bool
         ensures { result ≡ is_unasked self.now other.now resp }
     {
         resp == self.resp && !other.repeats
@@ -179,7 +179,7 @@ impl Drawn {
 
     /// Returns whether an item waits for one of the other side that it is likely to answer.
     #[tactic(auto, unfolding(crate::specs::Order::waits))]
-    fn waits(&self, other: &Drawn, word: Word) -> bool
+    fn waits(&self, other: &SideSummary, word: Word) -> bool
         ensures { result ≡ waits_for_other self.now other.now word }
     {
         match word {
@@ -204,7 +204,7 @@ impl Drawn {
     }
 
     /// Returns whether a data message is one after those that were drawn.
-    fn is_new(&self, other: &Drawn, num: u8) -> bool
+    fn is_new(&self, other: &SideSummary, num: u8) -> bool
         ensures { result ≡ is_new_data self.now other.now num }
     {
         if self.goes_back {
@@ -215,7 +215,7 @@ impl Drawn {
     }
 
     /// Returns the highest number with that of a data message.
-    fn higher(&self, other: &Drawn, num: u8) -> u8
+    fn higher(&self, other: &SideSummary, num: u8) -> u8
         ensures { result ≡ higher self.now other.now num }
     {
         if other.is_after(self.top, num) {
@@ -226,7 +226,7 @@ impl Drawn {
     }
 
     /// Returns the highest number of the other side, of whose data this number is acknowledged.
-    fn raised(&self, other: &Drawn, resp: u8) -> u8
+    fn raised(&self, other: &SideSummary, resp: u8) -> u8
         ensures { result ≡ raised self.now other.now resp }
     {
         if self.is_undrawn(other, resp) {
@@ -237,7 +237,7 @@ impl Drawn {
     }
 
     /// A data message of this side is drawn.
-    fn take_data(&mut self, other: &Drawn, num: u8)
+    fn take_data(&mut self, other: &SideSummary, num: u8)
         ensures { self.new ≡ after_data self.old other.now num }
     {
         if self.is_new(other, num) {
@@ -250,7 +250,7 @@ impl Drawn {
 
     /// An item of this side is drawn.
     #[tactic(auto, unfolding(crate::specs::Order::after_own))]
-    fn take_own(&mut self, other: &Drawn, word: Word)
+    fn take_own(&mut self, other: &SideSummary, word: Word)
         ensures { self.new ≡ after_of_own self.old other.now word }
     {
         match word {
@@ -293,7 +293,7 @@ impl Drawn {
     }
 
     /// The other side acknowledges data of this one, which was `own` before.
-    fn acknowledge(&mut self, own: &Drawn, resp: u8)
+    fn acknowledge(&mut self, own: &SideSummary, resp: u8)
         ensures { self.new ≡ acknowledged_by own.now self.old resp }
     {
         if own.is_ahead(self, resp) {
@@ -304,7 +304,7 @@ impl Drawn {
 
     /// An item of the other side is drawn, which was `own` before.
     #[tactic(auto, unfolding(crate::specs::Order::after_other))]
-    fn take_other(&mut self, own: &Drawn, word: Word)
+    fn take_other(&mut self, own: &SideSummary, word: Word)
         ensures { self.new ≡ after_of_other own.now self.old word }
     {
         match word {
@@ -324,7 +324,7 @@ impl Drawn {
                 self.repeats = false;
             }
             Word::Nak(resp, _) => {
-                *self = Drawn {
+                *self = SideSummary {
                     num: resp,
                     top: own.raised(self, resp),
                     resp: self.resp,
@@ -339,7 +339,7 @@ impl Drawn {
     }
 
     /// Returns whether its item goes before the other's if it is its turn.
-    fn goes_first(&self, other: &Drawn, mine: Word, theirs: Word) -> bool
+    fn goes_first(&self, other: &SideSummary, mine: Word, theirs: Word) -> bool
         ensures { result ≡ goes_first self.now other.now mine theirs }
     {
         if self.must_wait(other, mine) {
@@ -356,8 +356,8 @@ impl Drawn {
 #[derive(Clone, Copy)]
 pub struct Order {
     turn: Side,
-    caller: Drawn,
-    called: Drawn,
+    caller: SideSummary,
+    called: SideSummary,
 }
 
 impl Order {
@@ -367,8 +367,8 @@ impl Order {
     {
         Order {
             turn: Side::Caller,
-            caller: Drawn::NOTHING,
-            called: Drawn::NOTHING,
+            caller: SideSummary::NOTHING,
+            called: SideSummary::NOTHING,
         }
     }
 

@@ -4,7 +4,8 @@ ghost use Rattle.std.specs.Prelude.{◌≡◌, ◌≢◌, ◌<◌, ◌↔◌, Bo
 ghost use Rattle.std.specs.Prelude.{false, is_some, length, true};
 ghost use Rattle.ddcmp_io.specs.Written.{Known};
 ghost use Rattle.ddcmp_tap.specs.declared.notation.Notation.{Notation};
-ghost use Rattle.ddcmp_tap.specs.Pumping.{Begins, Both, Ends, HasReported, FlowView, IsOfSide, Moves};
+ghost use Rattle.ddcmp_tap.specs.Pumping.{Begins, Both, Ends, HasReported, FlowView, IsOfSide};
+ghost use Rattle.ddcmp_tap.specs.Pumping.{Moves};
 ghost use Rattle.ddcmp_tap.specs.Pumping.{Pumps, Runs, Stops, Turns, flow_of};
 ghost use Rattle.ddcmp_tap.specs.declared.tap_fault.TapFault.{TapFault as TapFaultValue};
 ghost use Rattle.ddcmp_tap.specs.declared.side.Side.TheVariants.{Caller as CallerSide};

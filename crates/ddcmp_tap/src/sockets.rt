@@ -3,7 +3,7 @@ ghost use Rattle.std.specs.Prelude.{◌≡◌, false};
 
 use crate::outlet::Outlet;
 use crate::proxy::Readiness;
-use ddcmp_io::cause::words_of;
+use ddcmp_io::cause::failure_words_of;
 use mio::net::TcpStream;
 use mio::{Events, Interest, Poll, Token};
 use std::alloc::Global;
@@ -39,12 +39,10 @@ impl Socket {
 
     /// Prints why the side of this name failed, if it did.
     pub(crate) fn report<E: Eprint, N: Display>(&self, system: &E, side: &str, name: &N) {
-        let why = match self.failed.get() {
-            None => return,
-            Some(ErrorKind::BrokenPipe) => "broken pipe",
-            Some(ErrorKind::Other) => "input or output error",
-            Some(kind) => words_of(kind),
+        let Some(kind) = self.failed.get() else {
+            return
         };
+        let why = failure_words_of(kind);
         let _ = eprintln!(system; "ddcmp: {side} {name}: {why}");
     }
 }

@@ -1,6 +1,6 @@
 // Two captured directions as a ladder, in an order that none of them has.
 use crate::same::is;
-use ddcmp_explain::{DetectedFault, Form, NotDumped, Written};
+use ddcmp_explain::{DetectedFault, Form, InputForm, NotDumped};
 use ddcmp_frame::failing::{Pieces, Taken};
 use ddcmp_tap::{Capture, DrawFault, Side, draw_captures};
 use std::process::Abort;
@@ -9,7 +9,7 @@ use std::process::Abort;
 /// and this is written.
 fn row(
     rt: &(impl Abort + AllocGlobal),
-    written: Written,
+    written: InputForm,
     first: Pieces<'_>,
     second: Pieces<'_>,
     answer: &Result<(), DrawFault>,
@@ -35,12 +35,12 @@ fn drawn(rt: &(impl Abort + AllocGlobal), first: &[u8], second: &[u8], text: &[u
             Pieces::of(first).at_most(most),
             Pieces::of(second).at_most(most),
         );
-        row(rt, Written::As(Form::Hex), one, two, &Ok(()), text);
+        row(rt, InputForm::As(Form::Hex), one, two, &Ok(()), text);
         let (one, two) = (
             Pieces::of(first).at_most(most),
             Pieces::of(second).at_most(most),
         );
-        row(rt, Written::Detected, one, two, &Ok(()), text);
+        row(rt, InputForm::Detected, one, two, &Ok(()), text);
     }
 }
 
@@ -69,7 +69,8 @@ fn startups_and_data(rt: HostRuntime) {
 fn damaged_data(rt: HostRuntime) {
     drawn(
         &rt,
-        b"8103000001019a4161626339978103000002019ab161626338978103000001019a4161626338978103000002019ab16162633897",
+        b"8103000001019a4161626339978103000002019ab16162633897\
+          8103000001019a4161626338978103000002019ab16162633897",
         b"050202000001b9ed0501000200015d95",
         b"|-- data check DATA 1 resp=0 (3 bytes) ~~~~~~~~~~~~~~~~~~~~~~~~~~~~~~~~~~~~~>|
 |<---------------------------------------------- NAK 2 (data check) resp=0 --|
@@ -88,7 +89,8 @@ fn damaged_data(rt: HostRuntime) {
 fn asked_by_rep(rt: HostRuntime) {
     drawn(
         &rt,
-        b"8103000001019a4161626338978103000002019ab1616263389705030000020184f58103000002019ab1616263389705030000020184f5",
+        b"8103000001019a4161626338978103000002019ab1616263389705030000020184f5\
+          8103000002019ab1616263389705030000020184f5",
         b"050203010001e9d10501000200015d950501000200015d95",
         b"|-- DATA 1 resp=0 (3 bytes) ------------------------------------------------>|
 |-- DATA 2 resp=0 (3 bytes) ------------------------------------------------>|
@@ -172,7 +174,7 @@ fn both_are_empty(rt: HostRuntime) {
 #[test]
 fn faults(rt: HostRuntime) {
     let (strt, stack) = (b"0506c00000017595", b"0507c00000014855");
-    let hex = Written::As(Form::Hex);
+    let hex = InputForm::As(Form::Hex);
     let drawn = b"|-- STRT ------------------------------------------------------------------->|
 |<------------------------------------------------------------------ STACK --|
 ";
@@ -197,7 +199,7 @@ fn faults(rt: HostRuntime) {
     let line = DetectedFault::Line(NotDumped::NotALine(2));
     let dumps = Err(DrawFault::Capture(Side::Called, line));
     let second = Pieces::of(b"\nx\n");
-    row(&rt, Written::Dump, Pieces::of(b""), second, &dumps, b"");
+    row(&rt, InputForm::Dump, Pieces::of(b""), second, &dumps, b"");
     let read = Err(DrawFault::Capture(Side::Called, DetectedFault::Read));
     let pieces = Pieces::of(stack).at_most(16).failing_at(2);
     row(&rt, hex, Pieces::of(strt), pieces, &read, drawn);
@@ -206,7 +208,7 @@ fn faults(rt: HostRuntime) {
 /// Bytes that no item takes have lines, if they are asked for.
 #[test]
 fn skipped_bytes(rt: HostRuntime) {
-    let raw = Written::As(Form::Raw);
+    let raw = InputForm::As(Form::Raw);
     let first = Pieces::of(b"abc\x05\x01\x00\x00\x00\x01\xfc\x55de\x05");
     let Ok(mut one) = Capture::new(rt.alloc(), first, raw, Side::Caller, true, 16383) else {
         panic!(&rt; "no memory");

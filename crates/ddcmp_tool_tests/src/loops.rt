@@ -4,7 +4,7 @@ ghost use Rattle.std.specs.Prelude.{◌≤◌, length};
 use crate::sessions::{append, messages, options, session};
 use ddcmp_io::Got;
 use ddcmp_session::{
-    Buffers, Devices, Down, End, LineKind, Moved, Options, Session, Stop, Wanted, drain_output,
+    Buffers, Devices, Down, End, LineKind, Options, Session, Stop, Transfer, Wanted, drain_output,
 };
 use std::process::Abort;
 use test_kit::Draws;
@@ -64,12 +64,12 @@ struct Desk {
 }
 
 /// Moves this many bytes, or none for one of two reasons.
-fn moved(draws: &mut Draws, n: usize) -> Moved {
+fn moved(draws: &mut Draws, n: usize) -> Transfer {
     match draws.below(5) {
-        0 => Moved::Nothing,
-        1 => Moved::Interrupted,
-        _ if n == 0 => Moved::Nothing,
-        _ => Moved::Bytes(n),
+        0 => Transfer::Nothing,
+        1 => Transfer::Interrupted,
+        _ if n == 0 => Transfer::Nothing,
+        _ => Transfer::Bytes(n),
     }
 }
 
@@ -97,7 +97,7 @@ impl Desk {
     }
 
     /// Returns what comes of a write of these bytes.
-    fn takes(&mut self, bytes: &[u8]) -> Moved {
+    fn takes(&mut self, bytes: &[u8]) -> Transfer {
         let n = bytes.len().min(self.draws.below(700));
         moved(&mut self.draws, n)
     }
@@ -167,36 +167,36 @@ impl Devices for Desk {
         true
     }
 
-    fn read_line(&mut self, space: &mut [u8]) -> Moved {
+    fn read_line(&mut self, space: &mut [u8]) -> Transfer {
         if self.cuts > 0 && self.draws.below(self.cuts) == 0 {
-            return Moved::Ended(Down::Closed);
+            return Transfer::Ended(Down::Closed);
         }
         let most = self.draws.below(900);
         match self.from_line.give(most, space) {
-            0 if self.draws.below(2) == 0 => Moved::Interrupted,
-            0 => Moved::Nothing,
-            n => Moved::Bytes(n),
+            0 if self.draws.below(2) == 0 => Transfer::Interrupted,
+            0 => Transfer::Nothing,
+            n => Transfer::Bytes(n),
         }
     }
 
-    fn write_line(&mut self, bytes: &[u8]) -> Moved {
+    fn write_line(&mut self, bytes: &[u8]) -> Transfer {
         let moved = self.takes(bytes);
-        if let Moved::Bytes(n) = moved {
+        if let Transfer::Bytes(n) = moved {
             self.to_line.take(&bytes[..n.min(bytes.len())]);
         }
         moved
     }
 
-    fn write_output(&mut self, bytes: &[u8]) -> Moved {
+    fn write_output(&mut self, bytes: &[u8]) -> Transfer {
         let moved = self.takes(bytes);
-        if let Moved::Bytes(n) = moved {
+        if let Transfer::Bytes(n) = moved {
             self.output.take(&bytes[..n.min(bytes.len())]);
         }
         moved
     }
 
-    fn write_errors(&mut self, bytes: &[u8]) -> Moved {
-        Moved::Bytes(bytes.len())
+    fn write_errors(&mut self, bytes: &[u8]) -> Transfer {
+        Transfer::Bytes(bytes.len())
     }
 
     fn rest(&mut self, _session: &Session, _buffers: &Buffers, most_ms: u64) -> bool {

@@ -4,7 +4,7 @@ ghost use Rattle.ddcmp_io.specs.Queue.{after_pushed};
 
 use crate::sessions::{append, options, session};
 use ddcmp_io::{ByteQueue, Got};
-use ddcmp_session::{Buffers, Devices, End, Moved, Session, Wanted};
+use ddcmp_session::{Buffers, Devices, End, Session, Transfer, Wanted};
 use std::process::Abort;
 
 /// The bytes that a device has to give, and all that moved so far. None of them ever fails.
@@ -76,20 +76,20 @@ impl Devices for KnownDevices {
         true
     }
 
-    fn read_line(&mut self, space: &mut [u8]) -> Moved {
-        Moved::Bytes(give(self.line.as_slice(), &mut self.came, space))
+    fn read_line(&mut self, space: &mut [u8]) -> Transfer {
+        Transfer::Bytes(give(self.line.as_slice(), &mut self.came, space))
     }
 
-    fn write_line(&mut self, bytes: &[u8]) -> Moved {
-        Moved::Bytes(take_some(bytes, &mut self.gone))
+    fn write_line(&mut self, bytes: &[u8]) -> Transfer {
+        Transfer::Bytes(take_some(bytes, &mut self.gone))
     }
 
-    fn write_output(&mut self, bytes: &[u8]) -> Moved {
-        Moved::Bytes(take_some(bytes, &mut self.written))
+    fn write_output(&mut self, bytes: &[u8]) -> Transfer {
+        Transfer::Bytes(take_some(bytes, &mut self.written))
     }
 
-    fn write_errors(&mut self, bytes: &[u8]) -> Moved {
-        Moved::Bytes(bytes.len())
+    fn write_errors(&mut self, bytes: &[u8]) -> Transfer {
+        Transfer::Bytes(bytes.len())
     }
 
     fn rest(&mut self, _session: &Session, _buffers: &Buffers, _most_ms: u64) -> bool {

@@ -85,7 +85,7 @@ static LINK_OPTIONS: [CommandOption; 13] = [
             high: u32::MAX,
         },
         is_required: false,
-        help: "Once done, stay until nothing came for N milliseconds [default: 500]",
+        help: "Once done, stay until no reply was due for N milliseconds [default: 500]",
     },
     CommandOption {
         name: "seconds",

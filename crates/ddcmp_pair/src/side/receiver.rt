@@ -20,13 +20,13 @@ use ddcmp_proto::{Memory, Station};
 
 /// What was reported, and what of it is counted.
 #[derive(Drop)]
-struct Heard {
+struct NoticeTally {
     notices: Vec<Notice>,
     acknowledged: u64,
     starts: u32,
 }
 
-impl Heard {
+impl NoticeTally {
     /// One more notice. There is room for it.
     fn hear(&mut self, notice: Notice)
         requires room { vec_len self.old.notices < vec_capacity self.old.notices }
@@ -51,7 +51,7 @@ impl Heard {
 }
 
 /// Feeds the bytes from `from` on.
-fn feed_all(station: &mut Station, arrived: &[u8], from: usize, heard: &mut Heard)
+fn feed_all(station: &mut Station, arrived: &[u8], from: usize, heard: &mut NoticeTally)
     requires from { from ≤ length arrived.now }
     requires stands { StandsFor station.old.line (take from arrived.now) }
     requires room { vec_len heard.old.notices + (length arrived.now - from)
@@ -166,7 +166,7 @@ impl Side {
         let notices = Vec::with_capacity(self.alloc, bytes.len())?;
         let from = self.arrived.len();
         self.arrived.extend_from_slice(bytes)?;
-        let mut heard = Heard {
+        let mut heard = NoticeTally {
             notices,
             acknowledged: self.acknowledged,
             starts: self.starts,

@@ -5,8 +5,8 @@ use Rattle.std.specs.declared.io.ErrorKind.TheVariants as kind
 use Rattle.ddcmp_service.specs.declared.line.Line.{Line}
 use Rattle.ddcmp_service.specs.declared.line.Line.TheVariants.{Stream, Datagrams, Device}
 use Rattle.ddcmp_session.specs.declared.devices.Down.TheVariants.{Failed}
-use Rattle.ddcmp_session.specs.declared.devices.Moved.{Moved}
-use Rattle.ddcmp_session.specs.declared.devices.Moved.TheVariants.{Bytes, Nothing, Interrupted, Ended}
+use Rattle.ddcmp_session.specs.declared.devices.Transfer.{Transfer}
+use Rattle.ddcmp_session.specs.declared.devices.Transfer.TheVariants.{Bytes, Nothing, Interrupted, Ended}
 
 -- what is written at once arrives at once, or not at all
 abbrev pub has_datagrams : Line → Bool
@@ -15,19 +15,19 @@ has_datagrams (Datagrams socket remote) = true
 has_datagrams (Device file) = false
 
 -- only a call that was interrupted, or would wait, leaves a line up
-abbrev pub moved_by_error : ErrorKind → Moved
+abbrev pub moved_by_error : ErrorKind → Transfer
 moved_by_error kind.WouldBlock = Nothing
 moved_by_error kind.Interrupted = Interrupted
 moved_by_error other = Ended (Failed other)
 
 -- a datagram of a peer that isn't there yet is none; other errors say that nothing came
-abbrev pub received_by_error : ErrorKind → Moved
+abbrev pub received_by_error : ErrorKind → Transfer
 received_by_error kind.ConnectionRefused = Bytes 0
 received_by_error kind.Interrupted = Interrupted
 received_by_error _ = Nothing
 
 -- a datagram that an error takes is lost
-abbrev pub sent_by_error : ℕ → ErrorKind → Moved
+abbrev pub sent_by_error : ℕ → ErrorKind → Transfer
 sent_by_error length kind.WouldBlock = Nothing
 sent_by_error length kind.Interrupted = Interrupted
 sent_by_error length _ = Bytes length

@@ -7,7 +7,7 @@ ghost use Rattle.ddcmp_session.specs.Finishing.{Drains, HasRoomIfEmpty};
 ghost use Rattle.ddcmp_session.specs.declared.devices.Fault.{Fault as FaultValue};
 
 use crate::buffers::Buffers;
-use crate::devices::{Devices, Fault, Moved, Wanted};
+use crate::devices::{Devices, Fault, Transfer, Wanted};
 use crate::session::{End, Session};
 use ddcmp_io::Got;
 
@@ -223,10 +223,10 @@ impl Buffers {
             return false;
         }
         match devices.write_line(session.to_line()) {
-            Moved::Bytes(n) => session.line_took(n),
-            Moved::Nothing => return false,
-            Moved::Interrupted => {}
-            Moved::Ended(why) => self.down = Some(why),
+            Transfer::Bytes(n) => session.line_took(n),
+            Transfer::Nothing => return false,
+            Transfer::Interrupted => {}
+            Transfer::Ended(why) => self.down = Some(why),
         }
         true
     }
@@ -279,18 +279,18 @@ impl Buffers {
 
     /// Returns whether a read of the line gave anything. What the line has is read to its end
     /// before the fault of a write is reported.
-    fn after_read(&self, got: Moved) -> Result<bool, Fault>
-        ensures idle { result ≡ Ok false → got ≡ Moved.Nothing }
+    fn after_read(&self, got: Transfer) -> Result<bool, Fault>
+        ensures idle { result ≡ Ok false → got ≡ Transfer.Nothing }
         ensures fault { (fault : FaultValue) → result ≡ Err fault → (why : DownValue)
-            × (fault ≡ Fault.Line why) × ((self.now.down ≡ Some why) ⊎ (got ≡ Moved.Ended why)) }
+            × (fault ≡ Fault.Line why) × ((self.now.down ≡ Some why) ⊎ (got ≡ Transfer.Ended why)) }
     {
         match got {
-            Moved::Bytes(_) | Moved::Interrupted => Ok(true),
-            Moved::Nothing => match self.down {
+            Transfer::Bytes(_) | Transfer::Interrupted => Ok(true),
+            Transfer::Nothing => match self.down {
                 Some(why) => Err(Fault::Line(why)),
                 None => Ok(false),
             },
-            Moved::Ended(why) => match self.down {
+            Transfer::Ended(why) => match self.down {
                 Some(first) => Err(Fault::Line(first)),
                 None => Err(Fault::Line(why)),
             },
@@ -347,10 +347,10 @@ pub(super) fn write_output<D: Devices>(
         return Ok(false);
     }
     match devices.write_output(session.to_output()) {
-        Moved::Bytes(n) => session.output_took(n),
-        Moved::Nothing => return Ok(false),
-        Moved::Interrupted => {}
-        Moved::Ended(_) => return Err(Fault::Output),
+        Transfer::Bytes(n) => session.output_took(n),
+        Transfer::Nothing => return Ok(false),
+        Transfer::Interrupted => {}
+        Transfer::Ended(_) => return Err(Fault::Output),
     }
     Ok(true)
 }
@@ -366,11 +366,11 @@ pub(super) fn write_errors<D: Devices>(session: &mut Session, devices: &mut D) -
         return false;
     }
     match devices.write_errors(session.to_errors()) {
-        Moved::Bytes(n) => session.errors_took(n),
-        Moved::Nothing => return false,
-        Moved::Interrupted => {}
+        Transfer::Bytes(n) => session.errors_took(n),
+        Transfer::Nothing => return false,
+        Transfer::Interrupted => {}
         // What it will never take is dropped.
-        Moved::Ended(_) => session.errors_took(usize::MAX),
+        Transfer::Ended(_) => session.errors_took(usize::MAX),
     }
     true
 }

@@ -17,7 +17,8 @@ impl Session {
     ghost use Rattle.ddcmp_session.specs.Session.{after_unheard, awaits_peer, is_delivered};
     ghost use Rattle.ddcmp_session.specs.Timing.{after_line, end, is_given_up, lingers_until};
     ghost use Rattle.ddcmp_session.specs.Timing.{next_timeout, reopens, run_ends_at};
-    ghost use Rattle.ddcmp_session.specs.Timing.{seconds_after_line, stays, unless_done, wait_ms, wakes_at};
+    ghost use Rattle.ddcmp_session.specs.Timing.{seconds_after_line, stays, unless_done, wait_ms};
+    ghost use Rattle.ddcmp_session.specs.Timing.{wakes_at};
     ghost use Rattle.ddcmp_session.specs.Timing.{wakes_without_line_at};
 
     /// Returns the moment in milliseconds when the run ends.

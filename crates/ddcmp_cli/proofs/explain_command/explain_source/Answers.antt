@@ -2,7 +2,7 @@ use Rattle.std.proofs.Common.{◌≡◌, Err, Ok, ap, refl, subst, sym, ◌∙�
 use Rattle.ddcmp_cli.specs.Endings.{ExplainsBy, streams}
 use Rattle.ddcmp_cli.specs.Origins.{written}
 use Rattle.ddcmp_cli.specs.declared.ending.Ending.TheVariants.{Done, Fault}
-use Rattle.ddcmp_explain.specs.declared.input_bytes.Written.TheVariants.{Detected}
+use Rattle.ddcmp_explain.specs.declared.input_bytes.InputForm.TheVariants.{Detected}
 use Rattle.ddcmp_cli.proofs.explain_command.explain_source.Goals as goal
 
 pub returns-in-Ok-explain_detected-clause-explains

@@ -1,7 +1,7 @@
 use Rattle.std.proofs.Common.{◌+◌, ◌∙◌, ap, sym, Some, arith}
 use Rattle.ddcmp_explain.specs.Discarded.{skipped_parts}
 use Rattle.ddcmp_session.proofs.JunkLaws.{junk-fill, junk-here, passed-some}
-use Rattle.ddcmp_session.proofs.skipped.Heard.junk_at.Goals as goal
+use Rattle.ddcmp_session.proofs.skipped.WayReader.junk_at.Goals as goal
 
 pub returns-then-is_fill : goal.returns-then-is_fill
 returns-then-is_fill c = λ text from l r j.

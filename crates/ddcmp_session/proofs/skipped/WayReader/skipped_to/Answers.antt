@@ -1,7 +1,7 @@
 use Rattle.std.proofs.Common.{◌+◌, ◌∙◌, ap, sym}
 use Rattle.ddcmp_explain.specs.Discarded.{passed}
 use Rattle.ddcmp_session.proofs.JunkLaws.{none-skipped, not-yet, skipped-there}
-use Rattle.ddcmp_session.proofs.skipped.Heard.skipped_to.Goals as goal
+use Rattle.ddcmp_session.proofs.skipped.WayReader.skipped_to.Goals as goal
 
 pub returns-in-None : goal.returns-in-None
 returns-in-None c = λ text from r j.

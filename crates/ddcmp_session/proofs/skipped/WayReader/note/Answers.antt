@@ -1,6 +1,6 @@
 use Rattle.std.proofs.Common.{◌∙◌, ap, sym}
 use Rattle.ddcmp_session.proofs.JunkLaws.{junk-stays}
-use Rattle.ddcmp_session.proofs.skipped.Heard.note.Goals as goal
+use Rattle.ddcmp_session.proofs.skipped.WayReader.note.Goals as goal
 
 pub returns-in-Some-clause-junk : goal.returns-in-Some-clause-junk
 returns-in-Some-clause-junk c = λ text from h.

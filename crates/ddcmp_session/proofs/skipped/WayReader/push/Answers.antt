@@ -1,7 +1,7 @@
 use Rattle.std.proofs.Common.{◌+◌, ◌∙◌, ap, subst, refl}
 use Rattle.ddcmp_frame.specs.Reader.{Pushes}
 use Rattle.ddcmp_session.proofs.HeardLaws.{hears}
-use Rattle.ddcmp_session.proofs.skipped.Heard.push.Goals as goal
+use Rattle.ddcmp_session.proofs.skipped.WayReader.push.Goals as goal
 
 pub returns-in-Some-clause-hears : goal.returns-in-Some-clause-hears
 returns-in-Some-clause-hears c = λ l.

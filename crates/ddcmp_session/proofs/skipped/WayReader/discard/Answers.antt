@@ -2,7 +2,7 @@ use Rattle.std.proofs.Common.{◌≡◌, ◌+◌, ◌-◌, ◌∙◌, ap, sym, s
 use Rattle.ddcmp_frame.specs.Reader.{StandsFor}
 use Rattle.ddcmp_frame.specs.Reading.{open_at_end}
 use Rattle.ddcmp_session.proofs.HeardLaws.{discards-few, discards-none, discards-some}
-use Rattle.ddcmp_session.proofs.skipped.Heard.discard.Goals as goal
+use Rattle.ddcmp_session.proofs.skipped.WayReader.discard.Goals as goal
 
 pub returns-in-None : goal.returns-in-None
 returns-in-None c =
