@@ -8,7 +8,7 @@ import time
 from links.carrying import Bad
 from links.kit import (Link, binary, connected, free_port, listening, messages_of, server, tcp_pair, unpacked, wants, wrong)
 from links.lines import Refusing, datagram_peer
-from links.peer import STACK, Peer, ack, data, good, no_ack, rep, silent
+from links.peer import STACK, STRT, Peer, ack, data, good, header, no_ack, rep, silent
 from trials import drawn
 
 QUICK = ("--timer-ms", "50")
@@ -228,25 +228,47 @@ def lingers_so_long():
 
 
 def lingers_while_asked():
-    """A peer that asks again is heard out, however it asks; one that only acknowledges, and junk, aren't waited for."""
-    for name, asks, stays in (("REP", rep(1), True), ("DATA", data(b"a", 1), True), ("damage", data(b"b", 2)[:-1] + b"?", True),
-                              ("STACK", STACK, True), ("ACK", ack(0), False), ("junk", b"\x01\x02", False)):
+    """A peer that isn't done is heard out: one that asks again by REP or STACK, or is in the middle of a frame. One that
+    only acknowledges, repeats what was acknowledged or refused, or sends junk isn't waited for."""
+    long, too_long = data(b"c" * 1000, 2), header(2000, 2) + b"d" * 2002
+    for name, pieces, stays in (
+        ("REP", [rep(1)] * 12, True), ("STACK", [STACK] * 12, True), ("ACK", [ack(0)] * 12, False),
+        ("slow", [long[at:at + 100] for at in range(0, len(long), 100)], True),
+        ("DATA", [data(b"a", 1)] * 12, False), ("refused", [too_long] * 12, False), ("junk", [b"\x01\x02"] * 12, False),
+    ):
         with server() as it:
-            link = Link(f"connect:127.0.0.1:{it.getsockname()[1]}", "--linger-ms", "800", stdin=subprocess.DEVNULL)
+            link = Link(f"connect:127.0.0.1:{it.getsockname()[1]}", "--max", "1500", "--linger-ms", "800",
+                        stdin=subprocess.DEVNULL)
             peer = Peer(it.accept()[0])
         peer.runs()
         peer.send(data(b"a", 1))
         begun = time.monotonic()
         with contextlib.suppress(OSError):
-            while not link.has_ended() and time.monotonic() - begun < 3:
-                peer.send(asks)
-                time.sleep(0.2)
+            for piece in pieces:
+                if link.has_ended():
+                    break
+                peer.send(piece)
+                time.sleep(0.25)
         if (link.run.returncode is None) != stays:
             wrong(f"{name}: status {link.run.returncode} after {time.monotonic() - begun:.2f} s")
-        if link.ended(5) != 0 or link.mails() != [b"a"]:
+        if link.ended(5) != 0 or link.mails() != [b"a"] + [b"c" * 1000] * (name == "slow"):
             wrong(f"{name}: status {link.run.returncode}, {link.mails()}")
 
 
+def restarted_and_gone():
+    """With --again a link that is done ends, idle until then, though the peer of its last line restarted."""
+    with server() as it:
+        link = Link(f"connect:127.0.0.1:{it.getsockname()[1]}", "--again", "--linger-ms", "3000", stdin=subprocess.DEVNULL)
+        peer = Peer(it.accept()[0])
+    peer.runs()
+    peer.send(STRT)
+    peer.waits(lambda it: it.has_ended, 10)
+    peer.close()
+    if link.ended(20) != 0 or link.used > 1:
+        wrong(f"status {link.run.returncode}, {link.used:.2f} s of the processor: {link.errors()}")
+
+
 TRIALS = [absent_again, late_start, refused_then_silent, no_handshake, silent_caller, gone, absent, refused, slow_progress,
-          lingers, lingers_on_a_bad_line, lingers_at_a_slow_reader, lingers_so_long, lingers_while_asked]
+          lingers, lingers_on_a_bad_line, lingers_at_a_slow_reader, lingers_so_long, lingers_while_asked,
+          restarted_and_gone]
 LONG_TRIALS = []

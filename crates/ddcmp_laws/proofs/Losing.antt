@@ -33,7 +33,7 @@ use Rattle.ddcmp_proto.specs.Bytes.{received_of}
 use Rattle.ddcmp_station.specs.Driving.{core_after_expire, core_after_take_arm, deadline_at, is_due}
 use Rattle.ddcmp_io.specs.Queue.{after_taken}
 use Rattle.ddcmp_station.specs.Linking.{LinkView, after_frame, after_frames, after_offered}
-use Rattle.ddcmp_station.specs.Linking.{after_sent, owes_reply}
+use Rattle.ddcmp_station.specs.Linking.{after_sent, is_needed}
 use Rattle.ddcmp_station.specs.Linking.{after_polled, after_wake, polls, state_of, total_plus}
 use Rattle.ddcmp_station.specs.Linking.{with_state, after_offered_maintenance}
 use Rattle.ddcmp_session.specs.Calls.{SessionCall, Typed, InputEnded, Connected, LineEnded}
@@ -243,8 +243,8 @@ state-lost state.Maintenance c = refl
 progress-lost : (p : Progress) (c : Course) → (after_progress p c).lost ≡ c.lost
 progress-lost p c = if-lost (is_at p c.progress) _ _ c.lost refl refl
 
-noise-lost : (owes : Bool) (p : Progress) (c : Course) → (after_noise owes p c).lost ≡ c.lost
-noise-lost owes p c = if-lost _ (record c { quiet_since = c.moment }) c c.lost refl refl
+noise-lost : (needed : Bool) (p : Progress) (c : Course) → (after_noise needed p c).lost ≡ c.lost
+noise-lost needed p c = if-lost _ (record c { quiet_since = c.moment }) c c.lost refl refl
 
 acknowledged-lost : (n : ℕ) (c : Course) → (after_acknowledged n c).lost ≡ c.lost
 acknowledged-lost n c = if-lost _ c _ c.lost refl refl
@@ -256,10 +256,10 @@ looked-lost ms before d c =
     let one = after_acknowledged d.totals.acknowledged c in
     let why = refusal_between before d.station.core.counters.nak_received in
     let two = after_refusal ms why one in
-    let three = after_noise (owes_reply d) (progress_of d) two in
+    let three = after_noise (is_needed d) (progress_of d) two in
     let four = after_progress (progress_of d) three in
     state-lost (state_of d).state four ∙ progress-lost (progress_of d) three
-    ∙ noise-lost (owes_reply d) (progress_of d) two ∙ refusal-lost ms why one
+    ∙ noise-lost (is_needed d) (progress_of d) two ∙ refusal-lost ms why one
     ∙ acknowledged-lost d.totals.acknowledged c
 
 notice-lost : (n : Notice) (c : Course) → (after_notice n c).lost ≡ 0 → c.lost ≡ 0

@@ -11,7 +11,7 @@ use ddcmp_session::LineKind;
 pub enum LineName<'a> {
     /// `connect:HOST:PORT`: one TCP connection to there.
     Connect(&'a str),
-    /// `listen:HOST:PORT`: one TCP connection from whoever comes first.
+    /// `listen:HOST:PORT`: one TCP connection, from who calls there and starts.
     Listen(&'a str),
     /// `udp:LOCAL,REMOTE`: each frame is a datagram from the one address to the other.
     Udp { local: &'a str, remote: &'a str },

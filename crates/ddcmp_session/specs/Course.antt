@@ -11,7 +11,7 @@ use Rattle.ddcmp_core.specs.declared.state.State.{State}
 use Rattle.ddcmp_core.specs.declared.state.State.TheVariants.{Halted, IStart, AStart, Running}
 use Rattle.ddcmp_core.specs.declared.state.State.TheVariants.{Maintenance}
 use Rattle.ddcmp_station.specs.Driving.{is_due, later}
-use Rattle.ddcmp_station.specs.Linking.{LinkView, owes_reply, state_of, total_plus}
+use Rattle.ddcmp_station.specs.Linking.{LinkView, is_needed, state_of, total_plus}
 use Rattle.ddcmp_session.specs.declared.course.Course.{Course}
 use Rattle.ddcmp_session.specs.declared.course.Progress.{Progress}
 
@@ -73,12 +73,12 @@ after_connecting c = record c {
   peer_has_started = false;
   has_run_here = false;
   peer_restarted = false;
+  quiet_since = c.moment;
 }
 
 -- Maintenance was entered, if it was: nothing is to start.
 abbrev pub after_entering : Bool → Course → Course
 after_entering enters c = record (after_connecting c) {
-  quiet_since = c.moment;
   has_run = enters || c.has_run;
 }
 
@@ -135,16 +135,16 @@ is_at p None = false
 is_at p (Some before) =
     p.step == before.step && p.acknowledged == before.acknowledged && p.received == before.received
 
--- since the last look a message was received
-abbrev pub has_received : Progress → Option Progress → Bool
-has_received p None = false
-has_received p (Some before) = not (before.received == p.received)
+-- since the last look the handshake made a step, or a message was received; at first anything
+abbrev pub goes_on : Progress → Option Progress → Bool
+goes_on p None = true
+goes_on p (Some before) = not (p.step == before.step && p.received == before.received)
 
--- It isn't quiet when the peer is owed a reply, as to a REP or to what it sent again, when the
--- station begins to run, or in Maintenance the peer is heard first, or a message was received.
+-- It isn't quiet while the peer isn't done, and after the first bytes, a step of the handshake and
+-- a received message.
 abbrev pub after_noise : Bool → Progress → Course → Course
-after_noise owes p c =
-    if owes || ((nat_le 3 p.step && not c.has_run_here) || has_received p c.progress)
+after_noise is_needed p c =
+    if is_needed || goes_on p c.progress
     then record c { quiet_since = c.moment }
     else c
 
@@ -167,7 +167,7 @@ unfoldable pub after_looked : ℕ → NakCounts → LinkView → Course → Cour
 after_looked timer_ms before d c =
     after_state (state_of d).state
     (after_progress (progress_of d)
-    (after_noise (owes_reply d) (progress_of d)
+    (after_noise (is_needed d) (progress_of d)
     (after_refusal timer_ms (refusal_between before d.station.core.counters.nak_received)
     (after_acknowledged d.totals.acknowledged c))))
 

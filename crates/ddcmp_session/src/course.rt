@@ -4,7 +4,7 @@ ghost use Rattle.ddcmp_session.specs.Course.{after_acknowledged, after_connectin
 ghost use Rattle.ddcmp_session.specs.Course.{after_looked};
 ghost use Rattle.ddcmp_session.specs.Course.{after_moment, after_noise, after_opening_failed};
 ghost use Rattle.ddcmp_session.specs.Course.{after_pause, after_progress, after_refusal};
-ghost use Rattle.ddcmp_session.specs.Course.{after_state, course_begun, has_received, is_at};
+ghost use Rattle.ddcmp_session.specs.Course.{after_state, course_begun, goes_on, is_at};
 ghost use Rattle.ddcmp_session.specs.Course.{lost_more};
 ghost use Rattle.ddcmp_session.specs.Course.{progress_of, refusal_between, reports_at, step_of};
 ghost use Rattle.ddcmp_session.specs.Course.{try_counted};
@@ -45,8 +45,7 @@ pub(crate) struct Course {
     pub(crate) moment: u64,
     /// When the next report of the counters is due.
     pub(crate) report_at: u64,
-    /// The moment since which nothing came that the peer is owed a reply to, and no message: at
-    /// first that of the startup handshake.
+    /// The moment since which the peer seems to be done.
     pub(crate) quiet_since: u64,
     /// How many tries came in a row.
     pub(crate) tries: u32,
@@ -138,6 +137,7 @@ impl Course {
         self.peer_has_started = false;
         self.has_run_here = false;
         self.peer_restarted = false;
+        self.quiet_since = self.moment;
     }
 
     /// Begins in maintenance mode, if that was entered: nothing is to start there.
@@ -145,7 +145,6 @@ impl Course {
         ensures { self.new ≡ after_entering enters self.old }
     {
         self.connect();
-        self.quiet_since = self.moment;
         self.has_run |= enters;
     }
 
@@ -169,7 +168,7 @@ impl Course {
             timer_ms,
         );
         let progress = progress_of(link);
-        self.note_noise(link.owes_reply(), progress);
+        self.note_noise(link.is_needed(), progress);
         self.note_progress(progress);
         self.note_state(link.state());
     }
@@ -202,13 +201,12 @@ impl Course {
         self.pause = Some(self.moment.saturating_add(timer_ms as u64));
     }
 
-    /// Notes the moment if the peer is owed a reply, if the station begins to run, in maintenance
-    /// mode if the peer is heard first, or if a message was received.
-    fn note_noise(&mut self, owes: bool, progress: Progress)
-        ensures { self.new ≡ after_noise owes progress self.old }
+    /// Notes the moment if the peer isn't done, the handshake made a step or a message was received,
+    /// and after the first bytes of a line.
+    fn note_noise(&mut self, is_needed: bool, progress: Progress)
+        ensures { self.new ≡ after_noise is_needed progress self.old }
     {
-        let begins = progress.step >= RUNNING && !self.has_run_here;
-        if owes || begins || has_received(progress, self.progress) {
+        if is_needed || goes_on(progress, self.progress) {
             self.quiet_since = self.moment;
         }
     }
@@ -296,9 +294,6 @@ fn refusal_between(before: &NakCounts, now: &NakCounts) -> Option<Nak>
     None
 }
 
-/// How far a running station is.
-const RUNNING: u8 = 3;
-
 /// Returns how far the startup handshake is.
 fn step_of(state: State) -> u8
     ensures { result ≡ step_of state }
@@ -307,7 +302,7 @@ fn step_of(state: State) -> u8
         State::Halted => 0,
         State::IStart => 1,
         State::AStart => 2,
-        State::Running => RUNNING,
+        State::Running => 3,
         State::Maintenance => 4,
     }
 }
@@ -337,12 +332,12 @@ fn is_at(progress: Progress, before: Option<Progress>) -> bool
     }
 }
 
-/// Returns whether a message was received since.
-fn has_received(progress: Progress, before: Option<Progress>) -> bool
-    ensures { result ≡ has_received progress before }
+/// Returns whether the handshake made a step since, or a message was received.
+fn goes_on(progress: Progress, before: Option<Progress>) -> bool
+    ensures { result ≡ goes_on progress before }
 {
     match before {
-        None => false,
-        Some(before) => before.received != progress.received,
+        None => true,
+        Some(before) => { !(progress.step == before.step && progress.received == before.received) }
     }
 }

@@ -15,7 +15,7 @@ pub struct Options {
     /// After how many tries without progress a line is left; 0 is never, and `u32::MAX` is 7 until
     /// the station runs and never from then on.
     pub attempts: u32,
-    /// For how long it stays once all of the input was delivered, since a message came, in
+    /// For how long it stays once all of the input was delivered and its peer seems to be done, in
     /// milliseconds.
     pub linger_ms: u32,
     /// After how many seconds it ends.

@@ -1,5 +1,6 @@
 -- A link as its callers see it: a station as a service, and what each call does.
-use Rattle.std.specs.Prelude.{ℕ, zero, suc, ◌+◌, ◌-◌, Bool, true, false, ◌&&◌, not, nat_le, nat_lt}
+use Rattle.std.specs.Prelude.{ℕ, zero, suc, ◌+◌, ◌-◌, Bool, true, false, ◌&&◌, ◌||◌, not, nat_le}
+use Rattle.std.specs.Prelude.{nat_lt}
 use Rattle.std.specs.Prelude.{◌==◌, if◌then◌else◌, min, List, [], ◌∷◌, ◌++◌, length, drop, Option}
 use Rattle.std.specs.Prelude.{Some, None, is_none, is_some, Result}
 use Rattle.ddcmp_frame.specs.declared.codes.TheConstants.{NO_BUFFER_REASON}
@@ -7,7 +8,7 @@ use Rattle.ddcmp_frame.specs.declared.header.ControlType.{ControlType}
 use Rattle.ddcmp_frame.specs.declared.header.ControlType.TheVariants as control
 use Rattle.ddcmp_frame.specs.declared.header.Header.{Header}
 use Rattle.ddcmp_frame.specs.declared.header.Header.TheVariants as header
-use Rattle.ddcmp_frame.specs.Reader.{ReaderView}
+use Rattle.ddcmp_frame.specs.Reader.{ReaderView, open_of}
 use Rattle.ddcmp_window.specs.declared.sender.SendRefusal.{SendRefusal}
 use Rattle.ddcmp_window.specs.Sender.{answer_unless}
 use Rattle.ddcmp_core.specs.declared.notice.Notice.{Notice}
@@ -173,22 +174,23 @@ is_message (Some f) = is_data (header_of f)
 abbrev pub carries_message : LinkView → Bool
 carries_message d = is_message (frame_of_link d)
 
--- whether the next frame is an ACK or a NAK, which the peer is owed
-abbrev pub is_reply : ControlType → Bool
-is_reply control.Ack = true
-is_reply control.Nak = true
-is_reply _ = false
+-- whether the next frame replies to a good one of the peer: an ACK, or a NAK that replies to a REP
+abbrev pub is_reply_of : ControlType → ℕ → Bool
+is_reply_of control.Ack sub = true
+is_reply_of control.Nak sub = sub == 3
+is_reply_of _ sub = false
 
-abbrev pub is_reply_header : Header → Bool
-is_reply_header (header.Control h) = is_reply h.kind
-is_reply_header _ = false
+abbrev pub is_reply : Header → Bool
+is_reply (header.Control h) = is_reply_of h.kind h.sub
+is_reply _ = false
 
 abbrev pub is_reply_frame : Option Frame → Bool
 is_reply_frame None = false
-is_reply_frame (Some f) = is_reply_header (header_of f)
+is_reply_frame (Some f) = is_reply (header_of f)
 
-abbrev pub owes_reply : LinkView → Bool
-owes_reply d = is_reply_frame (frame_of_link d)
+-- The peer isn't done: it is owed a reply, or a frame of it has begun.
+abbrev pub is_needed : LinkView → Bool
+is_needed d = is_reply_frame (frame_of_link d) || nat_lt 0 (open_of d.station.line)
 
 -- whether a frame of any length has room
 abbrev pub fits : LinkView → Bool

@@ -1,7 +1,7 @@
 //! A station with its way to the line and its deadline.
 ghost use Rattle.std.specs.Prelude.{◌≡◌};
 ghost use Rattle.ddcmp_core.specs.Table.{acknowledged_by};
-ghost use Rattle.ddcmp_station.specs.Linking.{is_nak_for_buffer, is_reply_header};
+ghost use Rattle.ddcmp_station.specs.Linking.{is_nak_for_buffer, is_reply as is_reply_header};
 
 use crate::outbox::Outbox;
 use crate::reply_timer::keep_time;
@@ -83,7 +83,7 @@ impl Link {
     ghost use Rattle.ddcmp_station.specs.Linking.{answer_to_offered, puts_frame, after_frame};
     ghost use Rattle.ddcmp_station.specs.Linking.{after_frames, after_sent, countable};
     ghost use Rattle.ddcmp_station.specs.Linking.{totals_after_feed, after_taking, delivered};
-    ghost use Rattle.ddcmp_station.specs.Linking.{holds_back, carries_message, owes_reply};
+    ghost use Rattle.ddcmp_station.specs.Linking.{holds_back, carries_message, is_needed};
     ghost use Rattle.ddcmp_station.specs.Linking.{anew_for_maintenance, no_bytes, total_plus};
     ghost use Rattle.ddcmp_station.specs.Linking.{after_offered_maintenance};
     ghost use Rattle.ddcmp_station.specs.Linking.{answer_to_offered_maintenance};
@@ -289,10 +289,14 @@ impl Link {
         matches!(self.station.next_header(), Some(Header::Data(_)))
     }
 
-    /// Returns whether the next frame is an ACK or a NAK, which the peer is owed.
-    pub fn owes_reply(&self) -> bool
-        ensures { result ≡ owes_reply self.now }
+    /// Returns whether the peer isn't done: it is owed an ACK, or a NAK in reply to a REP, or a
+    /// frame of it has begun.
+    pub fn is_needed(&self) -> bool
+        ensures { result ≡ is_needed self.now }
     {
+        if self.station.open() > 0 {
+            return true;
+        }
         match self.station.next_header() {
             Some(header) => is_reply(&header),
             None => false,
@@ -435,13 +439,17 @@ impl Link {
     }
 }
 
-/// Returns whether a header is that of an ACK or a NAK.
+/// Returns whether a header is that of an ACK, or of a NAK that replies to a REP.
 fn is_reply(header: &Header) -> bool
     ensures { result ≡ is_reply_header header.now }
 {
     match header {
-        Header::Control(h) => matches!(h.kind, ControlType::Ack | ControlType::Nak),
-        Header::Data(_) | Header::Maint(_) => false,
+        Header::Control(fields) => match fields.kind {
+            ControlType::Ack => true,
+            ControlType::Nak => fields.sub == 3,
+            _ => false,
+        },
+        _ => false,
     }
 }
 

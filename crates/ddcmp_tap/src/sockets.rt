@@ -52,7 +52,7 @@ impl Read for &Socket {
         let mut stream = &self.stream;
         let got = stream.read(buf);
         if let Err(error) = &got {
-            let _is_idle = self.has_failed(error.kind());
+            let _failed = self.has_failed(error.kind());
         }
         got
     }

@@ -154,10 +154,10 @@ impl Session {
         if self.run_ends_at() <= now {
             return Some(End::Time);
         }
-        if self.course.peer_restarted {
+        if self.has_line && self.course.peer_restarted {
             return Some(End::Restarted);
         }
-        if self.is_given_up() {
+        if self.has_line && self.is_given_up() {
             return Some(End::GivenUp);
         }
         if self.is_delivered() && !self.stays() && self.lingers_until() <= now {
