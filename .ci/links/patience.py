@@ -234,7 +234,7 @@ def lingers_while_asked():
     for name, pieces, stays in (
         ("REP", [rep(1)] * 12, True), ("STACK", [STACK] * 12, True), ("ACK", [ack(0)] * 12, False),
         ("slow", [long[at:at + 100] for at in range(0, len(long), 100)], True),
-        ("DATA", [data(b"a", 1)] * 12, False), ("refused", [too_long] * 12, False), ("junk", [b"\x01\x02"] * 12, False),
+        ("DATA", [data(b"a", 1)] * 12, False), ("refused", [too_long] * 12, False), ("junk", [b"\x01\x81\x02\x05"] * 12, False),
     ):
         with server() as it:
             link = Link(f"connect:127.0.0.1:{it.getsockname()[1]}", "--max", "1500", "--linger-ms", "800",

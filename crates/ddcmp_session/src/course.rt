@@ -201,8 +201,8 @@ impl Course {
         self.pause = Some(self.moment.saturating_add(timer_ms as u64));
     }
 
-    /// Notes the moment if the peer isn't done, the handshake made a step or a message was received,
-    /// and after the first bytes of a line.
+    /// Notes the moment if the peer isn't done, the handshake made a step or a message was
+    /// received, and after the first bytes of a line.
     fn note_noise(&mut self, is_needed: bool, progress: Progress)
         ensures { self.new ≡ after_noise is_needed progress self.old }
     {

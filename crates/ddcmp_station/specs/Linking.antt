@@ -188,9 +188,9 @@ abbrev pub is_reply_frame : Option Frame → Bool
 is_reply_frame None = false
 is_reply_frame (Some f) = is_reply (header_of f)
 
--- The peer isn't done: it is owed a reply, or a frame of it has begun.
+-- The peer isn't done: it is owed a reply, or is in the middle of a frame, of which the header came.
 abbrev pub is_needed : LinkView → Bool
-is_needed d = is_reply_frame (frame_of_link d) || nat_lt 0 (open_of d.station.line)
+is_needed d = is_reply_frame (frame_of_link d) || nat_le 8 (open_of d.station.line)
 
 -- whether a frame of any length has room
 abbrev pub fits : LinkView → Bool

@@ -289,12 +289,12 @@ impl Link {
         matches!(self.station.next_header(), Some(Header::Data(_)))
     }
 
-    /// Returns whether the peer isn't done: it is owed an ACK, or a NAK in reply to a REP, or a
-    /// frame of it has begun.
+    /// Returns whether the peer isn't done: it is owed an ACK, or a NAK in reply to a REP, or is in
+    /// the middle of a frame, of which a good header came. Junk has none.
     pub fn is_needed(&self) -> bool
         ensures { result ≡ is_needed self.now }
     {
-        if self.station.open() > 0 {
+        if self.station.open() >= 8 {
             return true;
         }
         match self.station.next_header() {
