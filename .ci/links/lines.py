@@ -135,8 +135,8 @@ def server_away():
 
 
 def gone_for_good():
-    """With --again a link ends once all is acknowledged, if its peer went and doesn't come back while it would be heard
-    out; and if it comes back, what it sends is taken."""
+    """With --again a link ends once all is acknowledged, or lost with its line, if its peer went and doesn't come back
+    while it would be heard out; and if it comes back, what it sends is taken."""
     it = server()
     link = Link(f"connect:127.0.0.1:{it.getsockname()[1]}", "--again", "--linger-ms", "1500")
     link.give(b"61\n")
@@ -147,6 +147,14 @@ def gone_for_good():
     peer.close()
     if link.ended(10) != 0 or link.took > 6:
         wrong(f"status {link.run.returncode} in {link.took} s: {link.errors()}")
+    it = server()
+    link = Link(f"connect:127.0.0.1:{it.getsockname()[1]}", "--again", "--linger-ms", "1500")
+    link.give(b"61\n62\n")
+    peer = Peer(it.accept()[0], no_ack)
+    peer.waits(lambda it: len(it.mail) == 2, 5)
+    it.close()
+    peer.close()
+    wants("lost", link, 3, "ddcmp: 2 messages lost", 10)
     it = server()
     link = Link(f"connect:127.0.0.1:{it.getsockname()[1]}", "--again", "--linger-ms", "1500")
     link.give(b"61\n")

@@ -5,7 +5,6 @@ use Rattle.std.specs.Prelude.{is_ok}
 use Rattle.ddcmp_frame.specs.Reader.{StandsFor}
 use Rattle.ddcmp_station.specs.Linking.{LinkView}
 use Rattle.ddcmp_session.specs.Session.{SessionView, after_connected, after_time, form_of}
-use Rattle.ddcmp_session.specs.Session.{is_delivered}
 use Rattle.ddcmp_session.specs.Calls.{SessionCall, SessionStep, SessionHistory, SessionDoes}
 use Rattle.ddcmp_session.specs.Calls.{Typed, InputEnded, Connected, LineEnded, Received, Filled}
 use Rattle.ddcmp_session.specs.Calls.{LineTook, TimedOut, TimePassed, Delivered, OutputTook, Closed}
@@ -397,16 +396,16 @@ pub is-unit : {R : Type 0} (r : Result (Unit {0}) R) → is_ok r ≡ true → r 
 is-unit (Ok u) e = refl
 is-unit (Err r) e = cc
 
--- a run that says that all is delivered may
+-- a run that may end well, and says so, does
 pub may-end : {R : Type 0} {ran result : Result (Unit {0}) R} {has_run : Bool} (s : SessionView)
     → (result ≡ Ok tt → (ran ≡ result) ⊎ (has_run ≡ true))
-    → (ran ≡ Ok tt → is_delivered s ≡ true) → has_run ≡ s.course.has_run
+    → (ran ≡ Ok tt → MayEndWell s) → has_run ≡ s.course.has_run
     → is_ok result ≡ true → MayEndWell s
-may-end {R} {ran} {result} {has_run} s well delivered is ok = by (well e)
+may-end {R} {ran} {result} {has_run} s well may is ok = by (well e)
   where
     e : result ≡ Ok tt
     e = is-unit result ok
 
     by : (ran ≡ result) ⊎ (has_run ≡ true) → MayEndWell s
-    by (inl same) = inl (delivered (same ∙ e))
+    by (inl same) = may (same ∙ e)
     by (inr has) = inr (sym is ∙ has)

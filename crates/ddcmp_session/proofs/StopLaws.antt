@@ -1,8 +1,8 @@
 -- Why a run over lines stops.
 use Rattle.std.proofs.Common.{◌≡◌, ◌∙◌, ap, arith, sym, subst, ℕ, Bool, true, false, cond}
 use Rattle.std.proofs.Common.{nat_le, List, [], ◌∷◌, ◌++◌, append_assoc, Option, Some, Result}
-use Rattle.std.proofs.Common.{Ok, Err, ◌⊎◌, inl, inr}
-use Rattle.std.specs.Prelude.{◌≢◌}
+use Rattle.std.proofs.Common.{Ok, Err, ◌⊎◌, inl, inr, refl, None}
+use Rattle.std.specs.Prelude.{◌≢◌, ◌&&◌, ◌||◌, not}
 use Rattle.std.proofs.lemmas.Bool.{le-leb}
 use Rattle.ddcmp_io.specs.declared.device.Got.{Got}
 use Rattle.ddcmp_io.specs.declared.device.Got.TheVariants as got
@@ -14,12 +14,12 @@ use Rattle.ddcmp_session.specs.declared.devices.Fault.TheVariants as fault
 use Rattle.ddcmp_session.specs.declared.session.End.TheVariants as end_of
 use Rattle.ddcmp_session.specs.Devices.{Becomes, BuffersView, HasReported, KeepsFaults, Traffic}
 use Rattle.ddcmp_session.specs.Devices.{after_fault, after_read, after_wait}
-use Rattle.ddcmp_session.specs.Lines.{GoesOver, ReportsOver}
-use Rattle.ddcmp_session.specs.Session.{SessionView, after_time}
+use Rattle.ddcmp_session.specs.Lines.{GoesOver, MayEndWell, ReportsOver}
+use Rattle.ddcmp_session.specs.Session.{SessionView, after_time, is_delivered}
 use Rattle.ddcmp_session.specs.Stopping.{IfNotOpened, IsLeft, IsTimeOver, Judges}
 use Rattle.ddcmp_session.specs.Stopping.{LeavesLine, MayBeWell, MayStop, Stops}
 use Rattle.ddcmp_session.specs.Stopping.{StopsToEnd}
-use Rattle.ddcmp_session.specs.Timing.{end, run_ends_at}
+use Rattle.ddcmp_session.specs.Timing.{end, is_given_up, lingers_until, run_ends_at, stays}
 use Rattle.ddcmp_session.proofs.LinesGo.{reports-later}
 
 -- ---- the time of the run
@@ -38,6 +38,34 @@ pub passed-run : (s new : SessionView) (now : ℕ) → now ≡ run_ends_at s →
     → end new ≡ Some end_of.Time
 passed-run s new now at is =
     passed-end s new now is (le-leb (run_ends_at s) now (omega (arith, at)))
+
+-- ---- what is there once all is done
+
+ends-done : (time restarted given_up done : Bool)
+    → cond time (Some end_of.Time) (cond restarted (Some end_of.Restarted)
+      (cond given_up (Some end_of.GivenUp) (cond done (Some end_of.Delivered) None)))
+      ≡ Some end_of.Delivered
+    → done ≡ true
+ends-done time restarted given_up true e = refl
+ends-done true restarted given_up false e = cc
+ends-done false true given_up false e = cc
+ends-done false false true false e = cc
+ends-done false false false false e = cc
+
+spent-or-ran : (delivered read ran line goes_on quiet : Bool)
+    → ((delivered || (read && (ran && not line))) && not goes_on) && quiet ≡ true
+    → (delivered ≡ true) ⊎ (ran ≡ true)
+spent-or-ran true read ran line goes_on quiet e = inl refl
+spent-or-ran false read true line goes_on quiet e = inr refl
+spent-or-ran false true false line goes_on quiet e = inl e
+spent-or-ran false false false line goes_on quiet e = inl e
+
+pub may-at-end : (s : SessionView) → end s ≡ Some end_of.Delivered → MayEndWell s
+may-at-end s e =
+    spent-or-ran (is_delivered s) s.is_read s.course.has_run s.has_line (stays s)
+    (nat_le (lingers_until s) s.course.moment)
+    (ends-done (nat_le (run_ends_at s) s.course.moment) (s.has_line && s.course.peer_restarted)
+    (s.has_line && is_given_up s) _ e)
 
 -- ---- faults that were reported
 

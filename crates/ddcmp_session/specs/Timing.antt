@@ -27,9 +27,14 @@ had_input s = nat_lt 0 s.link.totals.sent || s.was_refused
 abbrev pub stays : SessionView → Bool
 stays s = s.options.stay || (is_listener s.kind && not (had_input s))
 
+-- all of the input was read, and nothing of it is left: it was delivered, or what wasn't is lost
+-- with a line that has ended
+abbrev pub is_spent : SessionView → Bool
+is_spent s = is_delivered s || (s.is_read && (s.course.has_run && not s.has_line))
+
 -- all is done, once a peer that has more to send was heard out
 abbrev pub is_done : SessionView → Bool
-is_done s = is_delivered s && not (stays s)
+is_done s = is_spent s && not (stays s)
 
 abbrev pub lingers_until : SessionView → ℕ
 lingers_until s = later s.course.quiet_since s.options.linger_ms

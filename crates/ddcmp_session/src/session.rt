@@ -28,7 +28,7 @@ const ERRORS_ROOM: usize = 65536;
 /// Why a session leaves its line.
 #[derive(Clone, Copy, Debug, PartialEq, Eq)]
 pub enum End {
-    /// All of the input was delivered.
+    /// All of the input was delivered, or lost with a line that has ended.
     Delivered,
     /// The time of the run is over.
     Time,

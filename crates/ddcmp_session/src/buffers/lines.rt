@@ -28,7 +28,7 @@ pub enum Stop<R> {
 impl Buffers {
     ghost use Rattle.std.specs.Prelude.{◌≡◌, ◌≢◌, ◌⊎◌, ◌<◌, Err, Ok, Some, ℕ, false, is_ok, true};
     ghost use Rattle.ddcmp_session.specs.Devices.{GoesOn, KeepsFaults, Reports};
-    ghost use Rattle.ddcmp_session.specs.Session.{SessionView, is_delivered};
+    ghost use Rattle.ddcmp_session.specs.Session.{SessionView};
     ghost use Rattle.ddcmp_session.specs.Lines.{Closes, Ends, GoesOver, IsReady, MayEndWell};
     ghost use Rattle.ddcmp_session.specs.Lines.{ReportsOver};
     ghost use Rattle.ddcmp_session.specs.Stopping.{HasNotStarted, IfNotOpened, IsLeft};
@@ -36,7 +36,7 @@ impl Buffers {
     ghost use Rattle.ddcmp_session.specs.Timing.{end};
     ghost use Rattle.ddcmp_session.specs.declared.devices.Fault.{Fault as FaultValue};
 
-    /// Runs a new session over one line after the other, until all of the input is delivered or a
+    /// Runs a new session over one line after the other, until nothing of the input is left or a
     /// line ends for good, and closes it: what was read and isn't acknowledged is lost then. If
     /// nothing is, all is delivered although the line has ended or the time is over.
     pub fn run_lines<D: Devices>(
@@ -64,8 +64,7 @@ impl Buffers {
         judged
     }
 
-    /// Runs a session over one line after the other, until all is delivered or a line ends for
-    /// good.
+    /// Runs a session over one line after the other, until all is done or a line ends for good.
     fn run_each<D: Devices>(
         &mut self,
         session: &mut Session,
@@ -76,7 +75,7 @@ impl Buffers {
         ensures reports { (fault : FaultValue) → fault ≢ Fault.Time
             → result ≡ Err (Stop.Device fault) → ReportsOver self.old session.old.state
             (D.traffic devices.old) (D.traffic devices.new) fault }
-        ensures delivered { result ≡ Ok tt → is_delivered session.new.state ≡ true }
+        ensures well { result ≡ Ok tt → MayEndWell session.new.state }
         ensures ended { result ≡ Ok tt → end session.new.state ≡ Some End.Delivered }
         ensures left { result ≡ Err Stop.Left → IsLeft self.old session.old.state
             (D.traffic devices.old) session.new.state (D.traffic devices.new) }
@@ -102,7 +101,7 @@ impl Buffers {
         Err(Stop::Device(Fault::Time))
     }
 
-    /// Runs a session over a line: returns whether all is delivered, or the line was left.
+    /// Runs a session over a line: returns whether all is done, or the line was left.
     fn run_one<D: Devices>(
         &mut self,
         session: &mut Session,
@@ -113,7 +112,7 @@ impl Buffers {
         ensures reports { (fault : FaultValue) → fault ≢ Fault.Time
             → result ≡ Err (Stop.Device fault) → ReportsOver self.old session.old.state
             (D.traffic devices.old) (D.traffic devices.new) fault }
-        ensures delivered { result ≡ Ok true → is_delivered session.new.state ≡ true }
+        ensures well { result ≡ Ok true → MayEndWell session.new.state }
         ensures ended { result ≡ Ok true → end session.new.state ≡ Some End.Delivered }
         ensures gone { result ≡ Ok false → LeavesLine self.old session.old.state
             (D.traffic devices.old) session.new.state (D.traffic devices.new) }
@@ -142,7 +141,7 @@ impl Buffers {
 
     /// Opens a line and connects the session to it, unless the time of the run is over first. One
     /// that can't be opened is tried again if that is asked for. Returns false if there is no line,
-    /// all is delivered, and a peer that may have more to send didn't come back in time.
+    /// all is done, and a peer that may have more to send didn't come back in time.
     fn begin<D: Devices>(
         &mut self,
         session: &mut Session,
@@ -220,7 +219,7 @@ impl Buffers {
         ran: Result<(), Stop<D::Refusal>>,
     ) -> Result<(), Stop<D::Refusal>>
         requires unjudged { (count : ℕ) → ran ≢ Err (Stop.Lost count) }
-        requires delivered { ran ≡ Ok tt → is_delivered session.old.state ≡ true }
+        requires well { ran ≡ Ok tt → MayEndWell session.old.state }
         ensures on { GoesOn self.old session.old.state (D.traffic devices.old)
             self.new session.old.state (D.traffic devices.new) }
         ensures closes { Closes self.new session.old.state session.new.state }

@@ -15,11 +15,10 @@ impl Session {
     ghost use Rattle.ddcmp_session.specs.Logged.{HandlesTimeout, PassesMoment, ReportsGivenUp};
     ghost use Rattle.ddcmp_session.specs.Session.{after_time, after_timeout, after_tried};
     ghost use Rattle.ddcmp_session.specs.Session.{after_unheard, awaits_peer, is_delivered};
-    ghost use Rattle.ddcmp_session.specs.Timing.{after_line, end, is_given_up, lingers_until};
-    ghost use Rattle.ddcmp_session.specs.Timing.{next_timeout, reopens, run_ends_at};
+    ghost use Rattle.ddcmp_session.specs.Timing.{after_line, end, is_done, is_given_up, is_spent};
+    ghost use Rattle.ddcmp_session.specs.Timing.{lingers_until, next_timeout, reopens, run_ends_at};
     ghost use Rattle.ddcmp_session.specs.Timing.{seconds_after_line, stays, unless_done, wait_ms};
-    ghost use Rattle.ddcmp_session.specs.Timing.{wakes_at};
-    ghost use Rattle.ddcmp_session.specs.Timing.{wakes_without_line_at};
+    ghost use Rattle.ddcmp_session.specs.Timing.{wakes_at, wakes_without_line_at};
 
     /// Returns the moment in milliseconds when the run ends.
     pub fn run_ends_at(&self) -> u64
@@ -119,7 +118,7 @@ impl Session {
     fn unless_done(&self, moment: u64) -> u64
         ensures { result ≡ unless_done moment self.now.state }
     {
-        if self.is_delivered() && !self.stays() {
+        if self.is_done() {
             moment.min(self.lingers_until())
         } else {
             moment
@@ -160,7 +159,7 @@ impl Session {
         if self.has_line && self.is_given_up() {
             return Some(End::GivenUp);
         }
-        if self.is_delivered() && !self.stays() && self.lingers_until() <= now {
+        if self.is_done() && self.lingers_until() <= now {
             return Some(End::Delivered);
         }
         None
@@ -200,6 +199,21 @@ impl Session {
         }
         let (before, why) = given_up_words(self.course.refusal);
         self.errors.write_line(before, why, b"\n");
+    }
+
+    /// Returns whether all is done, but for a peer that may have more to send.
+    fn is_done(&self) -> bool
+        ensures { result ≡ is_done self.now.state }
+    {
+        self.is_spent() && !self.stays()
+    }
+
+    /// Returns whether all of the input was read and nothing of it is left: it was delivered, or
+    /// what wasn't is lost with a line that has ended.
+    fn is_spent(&self) -> bool
+        ensures { result ≡ is_spent self.now.state }
+    {
+        self.is_delivered() || self.input_is_read && self.course.has_run && !self.has_line
     }
 
     pub(super) fn is_delivered(&self) -> bool

@@ -10,7 +10,7 @@ returns-in-Err-clause-on g c = c.read_if-read.ensures.on c.args.session.now.stat
 
 pub returns-in-Ok-clause-well : goal.returns-in-Ok-clause-well
 returns-in-Ok-clause-well g c = λ e.
-    may-end c.args.session.now.state c.verdict.ensures.well c.requires.delivered
+    may-end c.args.session.now.state c.verdict.ensures.well c.requires.well
     c.has_run-has_run.ensures e
 
 pub returns-in-Err-clause-reports : goal.returns-in-Err-clause-reports

@@ -2,11 +2,17 @@ use Rattle.std.proofs.Common.{ap, inr, refl, Err}
 use Rattle.ddcmp_session.specs.declared.devices.Fault.TheVariants.{Line}
 use Rattle.ddcmp_session.proofs.LinesGo.{goes-over, none-over, over-then, reports-over}
 use Rattle.ddcmp_session.proofs.LinesGo.{same-err, same-fault}
+use Rattle.ddcmp_session.specs.declared.session.End.TheVariants as End
+use Rattle.ddcmp_session.proofs.StopLaws.{may-at-end}
 use Rattle.ddcmp_session.proofs.buffers.Buffers.run_one.Goals as goal
 
 pub returns-in-Ok-Delivered-clause-over : goal.returns-in-Ok-Delivered-clause-over
 returns-in-Ok-Delivered-clause-over g c =
     over-then c.begin.ensures.over (goes-over c.run.ensures.on)
+
+pub returns-in-Ok-Delivered-clause-well : goal.returns-in-Ok-Delivered-clause-well
+returns-in-Ok-Delivered-clause-well g c = λ e.
+    may-at-end c.run.new.session.state (c.run.ensures.ended End.Delivered cc)
 
 pub returns-in-Ok-Restarted-clause-over : goal.returns-in-Ok-Restarted-clause-over
 returns-in-Ok-Restarted-clause-over g c =
@@ -26,7 +32,7 @@ returns-in-Err-run g c = record {
   over = over-then c.begin.ensures.over (goes-over c.run.ensures.on);
   reports = λ fault untimed e.
       reports-over c.begin.ensures.over (c.in-Err-run.ensures.reports fault (same-fault e));
-  delivered = λ e. cc;
+  well = λ e. cc;
   ended = λ e. cc;
   gone = λ e. cc;
   left = λ e. cc;
