@@ -96,6 +96,12 @@ impl Side {
         }
     }
 
+    /// Returns whether it is to be read and may have something at once, as after a write that
+    /// failed.
+    fn has_more(&self, needs: Needs) -> bool {
+        needs.to_read && self.ready.ready.to_read
+    }
+
     /// Closes its line.
     fn close<C: Clock>(self, clock: &mut C) {
         let Side {
@@ -199,7 +205,9 @@ impl Sides {
         self.second
             .ready
             .ask(&self.poll, second.to_read, second.to_write);
-        let most = Some(Duration::from_millis(most_ms.min(HOUR_MS)));
+        let is_ready = self.first.has_more(first) || self.second.has_more(second);
+        let most_ms = if is_ready { 0 } else { most_ms.min(HOUR_MS) };
+        let most = Some(Duration::from_millis(most_ms));
         if self.poll.poll(&mut self.events, most).is_err() {
             return false;
         }

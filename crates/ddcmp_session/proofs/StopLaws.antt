@@ -43,8 +43,8 @@ passed-run s new now at is =
 
 ends-done : (time restarted given_up done : Bool)
     → cond time (Some end_of.Time) (cond restarted (Some end_of.Restarted)
-      (cond given_up (Some end_of.GivenUp) (cond done (Some end_of.Delivered) None)))
-      ≡ Some end_of.Delivered
+    (cond given_up (Some end_of.GivenUp) (cond done (Some end_of.Delivered) None)))
+    ≡ Some end_of.Delivered
     → done ≡ true
 ends-done time restarted given_up true e = refl
 ends-done true restarted given_up false e = cc
