@@ -5,6 +5,7 @@ import socket
 import struct
 import subprocess
 import sys
+import tempfile
 import time
 
 from links import kit
@@ -175,6 +176,25 @@ def pending_input():
         time.sleep(0.2)
         peer.close()
         wants(f"window 1, {first} and {rest}", link, 3, "ddcmp: 3 messages lost")
+
+
+def unread_input():
+    """The line ends, and standard input has more than is read at once: that isn't well, though no message that was read
+    is lost."""
+    for lines, lasts in ((b"\n" * 60_000, ["1 message lost"]), (b"\n" * 400_000, ["ended", "1 message lost"]),
+                         (b"z" * 400_000 + b"\n", ["ended", "1 message lost"])):
+        with server() as it, tempfile.TemporaryFile() as file:
+            file.write(b"61\n" + lines + b"62\n")
+            file.seek(0)
+            link = Link(f"connect:127.0.0.1:{it.getsockname()[1]}", "--window", "1", stdin=file)
+            peer = Peer(it.accept()[0], no_ack)
+        peer.waits(lambda it: it.named("DATA"), 10)
+        time.sleep(0.2)
+        peer.send(ack(1))
+        peer.close()
+        wants(f"{lines[:2]} {len(lines)}", link, 3, None)
+        if link.errors()[-1] not in [f"ddcmp: {it}" for it in lasts]:
+            wrong(f"{lines[:2]} {len(lines)}: {link.errors()[-2:]}")
 
 
 def stay():
@@ -458,7 +478,7 @@ def peer_sends_on():
 
 
 TRIALS = [lost, lost_on_each_line, lost_once, lost_at_a_restart, peer_restarts, bytes_of_an_old_line, failed_input, peer_closes,
-          pending_input, stay, again_ends, examples, one_example, serial_example, seconds, seconds_unfinished,
+          pending_input, unread_input, stay, again_ends, examples, one_example, serial_example, seconds, seconds_unfinished,
           seconds_in_each_state, no_line, timer_of_nothing, callers, listener_without_input, listener_refuses,
           line_is_reset, peer_sends_on]
 LONG_TRIALS = [many_examples]

@@ -41,7 +41,7 @@ impl Ended {
                 ServiceFault::Open(line.not_opened(refused))
             }
             Ended::Stopped(Stop::Device(Fault::Input)) => ServiceFault::Read,
-            Ended::Stopped(Stop::Device(_) | Stop::Left) => ServiceFault::Ended,
+            Ended::Stopped(Stop::Device(_) | Stop::Left | Stop::Unread) => ServiceFault::Ended,
             Ended::Stopped(Stop::Lost(count)) => ServiceFault::Lost(count),
             Ended::Memory => ServiceFault::Memory,
         }

@@ -7,7 +7,7 @@ use Rattle.std.proofs.lemmas.Bool.{le-leb}
 use Rattle.ddcmp_io.specs.declared.device.Got.{Got}
 use Rattle.ddcmp_io.specs.declared.device.Got.TheVariants as got
 use Rattle.ddcmp_session.specs.declared.buffers.lines.Stop.TheVariants.{the_data, Device, Left}
-use Rattle.ddcmp_session.specs.declared.buffers.lines.Stop.TheVariants.{NotOpened}
+use Rattle.ddcmp_session.specs.declared.buffers.lines.Stop.TheVariants.{NotOpened, Unread}
 use Rattle.ddcmp_session.specs.declared.devices.Fault.{Fault}
 use Rattle.ddcmp_session.specs.declared.devices.Fault.TheVariants.{Input}
 use Rattle.ddcmp_session.specs.declared.devices.Fault.TheVariants as fault
@@ -171,6 +171,7 @@ module _ {R : Type 0} {ran : Result (Unit {0}) (the_data R)} {h0 h1 : BuffersVie
     well = λ e. may-stop (judges.well e);
     lost = λ count e. may-stop (judges.lost count e);
     left = λ e. left-kept s over keeps (left (judges.left e));
+    unread = λ e. may-stop (judges.unread e);
     shut = λ refusal e. shut refusal (judges.shut refusal e ∙ e);
     time = λ e. time-kept s over keeps (time (judges.time e));
   }
@@ -178,6 +179,10 @@ module _ {R : Type 0} {ran : Result (Unit {0}) (the_data R)} {h0 h1 : BuffersVie
 not-left : {R : Type 0} {f : Fault}
     → ◌≡◌ {A = Result (Unit {0}) (the_data R)} (Err (Device f)) (Err Left) → ⊥
 not-left e = cc
+
+not-unread : {R : Type 0} {f : Fault}
+    → ◌≡◌ {A = Result (Unit {0}) (the_data R)} (Err (Device f)) (Err Unread) → ⊥
+not-unread e = cc
 
 not-shut : {R : Type 0} {f : Fault} {refusal : R}
     → ◌≡◌ {A = Result (Unit {0}) (the_data R)} (Err (Device f)) (Err (NotOpened refusal)) → ⊥
@@ -192,6 +197,7 @@ to-end (inl same) ran = record {
   well = λ e. ran.well (sym same ∙ e);
   lost = λ count e. ran.lost count (sym same ∙ e);
   left = λ e. ran.left (sym same ∙ e);
+  unread = λ e. ran.unread (sym same ∙ e);
   shut = λ refusal e. ran.shut refusal (sym same ∙ e);
   time = λ e. inr (inr (ran.time (sym same ∙ e)));
 }
@@ -199,6 +205,7 @@ to-end (inr (f, ok, is)) ran = record {
   well = λ e. ran.well ok;
   lost = λ count e. ran.well ok;
   left = λ e. absurd (not-left (sym is ∙ e));
+  unread = λ e. absurd (not-unread (sym is ∙ e));
   shut = λ refusal e. absurd (not-shut (sym is ∙ e));
   time = λ e. ran.well ok;
 }

@@ -1,7 +1,7 @@
 -- Why a run over lines stops, as its session is once its lines have ended, before it is closed.
 use Rattle.std.specs.Prelude.{◌≡◌, ◌≢◌, ◌⊎◌, ℕ, false, [], Option, Some, Result, Ok, Err}
 use Rattle.ddcmp_session.specs.declared.buffers.lines.Stop.TheVariants.{the_data, Device, Left}
-use Rattle.ddcmp_session.specs.declared.buffers.lines.Stop.TheVariants.{Lost, NotOpened}
+use Rattle.ddcmp_session.specs.declared.buffers.lines.Stop.TheVariants.{Lost, NotOpened, Unread}
 use Rattle.ddcmp_session.specs.declared.devices.Down.{Down}
 use Rattle.ddcmp_session.specs.declared.devices.Fault.TheVariants as fault
 use Rattle.ddcmp_session.specs.declared.session.End.TheVariants as end_of
@@ -55,6 +55,7 @@ pub record Stops {R : Type 0} (result : Result (Unit {0}) (the_data R)) (held : 
   pub well : result ≡ Ok tt → MayStop held old before s after
   pub lost : (count : ℕ) → result ≡ Err (Lost count) → MayStop held old before s after
   pub left : result ≡ Err Left → IsLeft held old before s after
+  pub unread : result ≡ Err Unread → MayStop held old before s after
   pub shut : IfNotOpened result (s.options.again ≡ false)
   pub time : result ≡ Err (Device fault.Time) → IsTimeOver held old before s after
 
@@ -66,6 +67,7 @@ pub record StopsToEnd {R : Type 0} (result : Result (Unit {0}) (the_data R)) (he
   pub well : result ≡ Ok tt → MayStop held old before s after
   pub lost : (count : ℕ) → result ≡ Err (Lost count) → MayStop held old before s after
   pub left : result ≡ Err Left → IsLeft held old before s after
+  pub unread : result ≡ Err Unread → MayStop held old before s after
   pub shut : IfNotOpened result (s.options.again ≡ false)
   pub time : result ≡ Err (Device fault.Time) → MayStop held old before s after
 
@@ -78,5 +80,6 @@ pub record Judges {R : Type 0} (ran result : Result (Unit {0}) (the_data R)) : T
   pub well : result ≡ Ok tt → MayBeWell ran
   pub lost : (count : ℕ) → result ≡ Err (Lost count) → MayBeWell ran
   pub left : result ≡ Err Left → ran ≡ Err Left
+  pub unread : result ≡ Err Unread → MayBeWell ran
   pub shut : IfNotOpened result (ran ≡ result)
   pub time : result ≡ Err (Device fault.Time) → ran ≡ Err (Device fault.Time)

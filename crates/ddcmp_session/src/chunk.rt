@@ -59,6 +59,11 @@ impl Chunk {
         &self.bytes[self.start..self.end]
     }
 
+    /// Returns whether the last read filled it, so that there may be more to read.
+    pub(crate) fn is_full(&self) -> bool {
+        self.end == self.bytes.len()
+    }
+
     pub(crate) fn is_empty(&self) -> bool
         ensures { result ≡ (length self.now == 0) }
     {

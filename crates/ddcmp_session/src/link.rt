@@ -58,6 +58,9 @@ pub fn run_link<D: Devices>(
     ensures left { result ≡ Err (LinkFault.Stopped Stop.Left) → (last : SessionView)
         × RunsNew false options kind (D.traffic devices.old) last (D.traffic devices.new)
         × (last.course.has_run ≡ false) }
+    ensures unread { result ≡ Err (LinkFault.Stopped Stop.Unread) → (last : SessionView)
+        × RunsNew false options kind (D.traffic devices.old) last (D.traffic devices.new)
+        × (last.course.lost ≡ 0) }
     ensures reports { (fault : FaultValue) → fault ≢ Fault.Time
         → result ≡ Err (LinkFault.Stopped (Stop.Device fault))
         → ReportsNew options kind (D.traffic devices.old) (D.traffic devices.new) fault }

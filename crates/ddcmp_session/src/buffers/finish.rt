@@ -35,6 +35,8 @@ impl Buffers {
         ensures lost { (count : ℕ) → result ≡ Err (Stop.Lost count)
             → (count ≡ session.new.state.course.lost) × (0 < count) }
         ensures left { result ≡ Err Stop.Left → session.new.state.course.has_run ≡ false }
+        ensures unread { result ≡ Err Stop.Unread
+            → (self.new.is_over ≡ false) × (session.new.state.course.lost ≡ 0) }
         ensures reports { (fault : FaultValue) → fault ≢ Fault.Time
             → result ≡ Err (Stop.Device fault) → ReportsOver self.old session.old.state
             (D.traffic devices.old) (D.traffic devices.new) fault }

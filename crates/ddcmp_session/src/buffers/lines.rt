@@ -23,6 +23,8 @@ pub enum Stop<R> {
     Left,
     /// The number of messages that were read and never acknowledged.
     Lost(u64),
+    /// The lines have ended, or the time is over, and there is more input than was read.
+    Unread,
 }
 
 impl Buffers {
@@ -54,6 +56,8 @@ impl Buffers {
         ensures lost { (count : ℕ) → result ≡ Err (Stop.Lost count)
             → (count ≡ session.new.state.course.lost) × (0 < count) }
         ensures left { result ≡ Err Stop.Left → session.new.state.course.has_run ≡ false }
+        ensures unread { result ≡ Err Stop.Unread
+            → (self.new.is_over ≡ false) × (session.new.state.course.lost ≡ 0) }
         ensures reports { (fault : FaultValue) → fault ≢ Fault.Time
             → result ≡ Err (Stop.Device fault) → ReportsOver self.old session.old.state
             (D.traffic devices.old) (D.traffic devices.new) fault }
@@ -83,6 +87,7 @@ impl Buffers {
         ensures time { result ≡ Err (Stop.Device Fault.Time) → IsTimeOver self.old session.old.state
             (D.traffic devices.old) session.new.state (D.traffic devices.new) }
         ensures unjudged { (count : ℕ) → result ≢ Err (Stop.Lost count) }
+        ensures read { result ≢ Err Stop.Unread }
     {
         for _line in 0..u64::MAX {
             match self.run_one(session, devices) {
@@ -121,6 +126,7 @@ impl Buffers {
         ensures time { result ≡ Err (Stop.Device Fault.Time) → IsTimeOver self.old session.old.state
             (D.traffic devices.old) session.new.state (D.traffic devices.new) }
         ensures unjudged { (count : ℕ) → result ≢ Err (Stop.Lost count) }
+        ensures read { result ≢ Err Stop.Unread }
     {
         match self.begin(session, devices) {
             Ok(true) => {}
@@ -157,6 +163,7 @@ impl Buffers {
         ensures time { result ≡ Err (Stop.Device Fault.Time) → IsTimeOver self.old session.old.state
             (D.traffic devices.old) session.new.state (D.traffic devices.new) }
         ensures unjudged { (count : ℕ) → result ≢ Err (Stop.Lost count) }
+        ensures read { result ≢ Err Stop.Unread }
     {
         for _try in 0..u64::MAX {
             let now = devices.now();
@@ -194,6 +201,7 @@ impl Buffers {
         ensures left { result ≡ Err Stop.Left → HasNotStarted session.new.state }
         ensures shut { IfNotOpened result (session.new.state.options.again ≡ false) }
         ensures unjudged { (count : ℕ) → result ≢ Err (Stop.Lost count) }
+        ensures read { result ≢ Err Stop.Unread }
     {
         if now < session.opens_at() {
             return Ok(false);
@@ -219,6 +227,7 @@ impl Buffers {
         ran: Result<(), Stop<D::Refusal>>,
     ) -> Result<(), Stop<D::Refusal>>
         requires unjudged { (count : ℕ) → ran ≢ Err (Stop.Lost count) }
+        requires read { ran ≢ Err Stop.Unread }
         requires well { ran ≡ Ok tt → MayEndWell session.old.state }
         ensures on { GoesOn self.old session.old.state (D.traffic devices.old)
             self.new session.old.state (D.traffic devices.new) }
@@ -230,6 +239,8 @@ impl Buffers {
         ensures lost { (count : ℕ) → result ≡ Err (Stop.Lost count)
             → (count ≡ session.new.state.course.lost) × (0 < count) }
         ensures left { result ≡ Err Stop.Left → session.new.state.course.has_run ≡ false }
+        ensures unread { result ≡ Err Stop.Unread
+            → (self.new.is_over ≡ false) × (session.new.state.course.lost ≡ 0) }
         ensures reports { (fault : FaultValue) → fault ≢ Fault.Time
             → result ≡ Err (Stop.Device fault)
             → ((ran ≡ result) × (D.traffic devices.new ≡ D.traffic devices.old))
@@ -238,9 +249,10 @@ impl Buffers {
     {
         let has_run = session.has_run();
         let read = self.read_if(devices, has_run && is_over(&ran));
+        let has_more = !self.input_is_over && self.input.is_full();
         self.close(session);
         match read {
-            Ok(()) => verdict(ran, has_run, session.lost()),
+            Ok(()) => verdict(ran, has_run, session.lost(), has_more),
             Err(fault) => Err(Stop::Device(fault)),
         }
     }
@@ -275,13 +287,21 @@ fn is_over<R>(ran: &Result<(), Stop<R>>) -> bool
 }
 
 /// Returns how a run ended whose lines ended so, and in which `lost` messages were lost.
-fn verdict<R: Copy>(ran: Result<(), Stop<R>>, has_run: bool, lost: u64) -> Result<(), Stop<R>>
+fn verdict<R: Copy>(
+    ran: Result<(), Stop<R>>,
+    has_run: bool,
+    lost: u64,
+    has_more: bool,
+) -> Result<(), Stop<R>>
     requires unjudged { (count : ℕ) → ran ≢ Err (Stop.Lost count) }
+    requires read { ran ≢ Err Stop.Unread }
     ensures whole { result ≡ Ok tt → lost ≡ 0 }
     ensures lost { (count : ℕ) → result ≡ Err (Stop.Lost count)
         → (count ≡ lost) × (0 < count) }
     ensures left { result ≡ Err Stop.Left → has_run ≡ false }
     ensures well { result ≡ Ok tt → (ran ≡ result) ⊎ (has_run ≡ true) }
+    ensures read { result ≡ Ok tt → (ran ≡ result) ⊎ (has_more ≡ false) }
+    ensures unread { result ≡ Err Stop.Unread → (has_more ≡ true) × (lost ≡ 0) }
     ensures device { (fault : FaultValue) → result ≡ Err (Stop.Device fault) → ran ≡ result }
     ensures judges { Judges ran result }
 {
@@ -290,7 +310,7 @@ fn verdict<R: Copy>(ran: Result<(), Stop<R>>, has_run: bool, lost: u64) -> Resul
         return Err(Stop::Lost(lost));
     }
     if is_over && has_run {
-        return Ok(());
+        return if has_more { Err(Stop::Unread) } else { Ok(()) };
     }
     ran
 }

@@ -40,6 +40,14 @@ returns-clause-left g c = λ e. (
   c.in-Err-run_to_end.ensures.left (ap stop-of e),
 )
 
+pub returns-clause-unread : goal.returns-clause-unread
+returns-clause-unread g c = λ e. (
+  c.run_to_end.new.session.state,
+  runs-new c.in-Ok-new.ensures c.in-Ok.ensures.made c.in-Ok.ensures.stands
+      c.in-Err-run_to_end.ensures.ends,
+  (c.in-Err-run_to_end.ensures.unread (ap stop-of e)).1,
+)
+
 pub returns-clause-reports : goal.returns-clause-reports
 returns-clause-reports g c = λ fault untimed e.
     reports-new c.in-Ok-new.ensures c.in-Ok.ensures.made c.in-Ok.ensures.stands

@@ -39,6 +39,7 @@ returns-in-Err-run g c = record {
   shut = λ refusal e. cc;
   time = λ e. absurd (c.in-Err-run.ensures.untimed (same-fault e));
   unjudged = λ count e. cc;
+  read = λ e. cc;
 }
 
 pub returns-in-Err-clause-time : goal.returns-in-Err-clause-time
