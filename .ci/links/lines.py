@@ -257,7 +257,7 @@ def cut_datagrams():
 
 
 def datagram_names():
-    """A taken port names LOCAL, an unknown host REMOTE; a send that fails is a lost frame."""
+    """A taken port names LOCAL, an unknown host REMOTE, as port 0 does there; a send that fails is a lost frame."""
     with socket.socket(socket.AF_INET, socket.SOCK_DGRAM) as it:
         it.bind(("127.0.0.1", 0))
         name = f"127.0.0.1:{it.getsockname()[1]}"
@@ -266,6 +266,7 @@ def datagram_names():
     if link.ended(20) != 3 or not link.told.startswith(b"ddcmp: open nosuchhost.invalid:1: "):
         wrong(f"unknown: {link.told}")
     wants("two families", Link("udp:127.0.0.1:0,[::1]:9"), 3, "ddcmp: open [::1]:9: not of the other address's family")
+    wants("port 0", Link("udp:127.0.0.1:0,127.0.0.1:0"), 3, "ddcmp: open 127.0.0.1:0: not an address")
     for options in ((), ("--again",)):
         link = Link("udp:127.0.0.1:0,255.255.255.255:9", "--seconds", "1", "--timer-ms", "100", *options)
         wants(f"unreachable {options}", link, 3, "ddcmp: ended")

@@ -336,6 +336,11 @@ fn address_of_end<N: Net>(
             cause: Cause::UnknownHost,
             is_remote,
         }),
+        // Nobody can receive there.
+        Ok(Some(addr)) if is_remote && addr.port() == 0 => Err(OpenRefusal {
+            cause: Cause::System(ErrorKind::InvalidInput),
+            is_remote,
+        }),
         Ok(found) => Ok(found),
         Err(cause) => Err(OpenRefusal { cause, is_remote }),
     }
