@@ -1,4 +1,4 @@
--- The core as its callers see it, and what holds of every one.
+-- The core as its callers see it, and what holds for every core.
 use Rattle.std.specs.Prelude.{◌≡◌, ◌<◌, ◌≤◌, ◌⊎◌, Bool, true, false, [], length}
 use Rattle.ddcmp_frame.specs.declared.nak.Nak.{Nak as Reason}
 use Rattle.ddcmp_frame.specs.declared.nak.Nak.TheVariants as reason
@@ -21,7 +21,7 @@ pub record CoreView : Type 0 where
   pub station : StationState
   pub counters : Counters
 
--- the eleven fields, of which a sender and an inbox hold the numbers and the lists
+-- the eleven fields, of which a sender and an inbox have the numbers and the lists
 abbrev pub state_of : State → Bool → Owed → Bool → Timer → SenderView → InboxView → StationState
 state_of state due reply rep timer sender inbox = record {
   state = state;
@@ -54,7 +54,7 @@ is_sent_reply Ack = true
 is_sent_reply (Nak why) = is_sent_reason why
 
 -- A station that starts has sent and received nothing, and its lists are empty. In Maintenance no
--- number waits for an acknowledgement. What is owed can be sent.
+-- number is unacknowledged. A pending reply can be sent.
 pub record FitsState (s : StationState) : Type 0 where
   pub starting_r : is_starting s.state ≡ true → s.r ≡ 0
   pub starting_out : is_starting s.state ≡ true → outgoing s ≡ nothing_sent
@@ -63,8 +63,8 @@ pub record FitsState (s : StationState) : Type 0 where
   pub maintenance_t : s.state ≡ Maintenance → s.t ≡ next_number s.a
   pub sent_reply : is_sent_reply s.reply ≡ true
 
--- what holds of every core: numbers are bytes, t is in a + 1 to n + 1, what was sent and isn't
--- acknowledged is kept, and the lists are within the limits
+-- what holds for every core: numbers are bytes, t lies in a + 1 to n + 1, messages that were sent
+-- and aren't acknowledged are queued, and the lists are within their limits
 pub record IsSound (l : Limits) (s : StationState) : Type 0 where
   pub r_byte : s.r < 256
   pub in_window : IsInWindow (outgoing s)
@@ -72,7 +72,7 @@ pub record IsSound (l : Limits) (s : StationState) : Type 0 where
   pub inbox_stored : IsStored l.room l.longest s.inbox
   pub fits : FitsState s
 
--- what holds of everything that comes: numbers are bytes, and messages within the limits
+-- what holds for every input: numbers are bytes, and messages are within the limits
 abbrev pub IsReceivable : Limits → Received → Type 0
 IsReceivable l (Good (Data resp num message)) =
     (resp < 256) × (num < 256) × (1 ≤ length message) × (length message ≤ l.longest)
@@ -81,8 +81,8 @@ IsReceivable l (Good (Naked why resp)) = resp < 256
 IsReceivable l (Good (Maint message)) = (1 ≤ length message) × (length message ≤ l.longest)
 IsReceivable l _ = Unit {0}
 
--- If the timer is off: a running station waits for nothing, or is to send a REP, or all that is
--- kept; one that starts is to send its STRT or STACK.
+-- If the timer is off: a running station has nothing unacknowledged, or a REP is pending, or all
+-- queued messages are to be sent; in a station that starts the STRT or STACK is pending.
 pub record IsTimed (s : StationState) : Type 0 where
   pub waits : s.state ≡ Running → s.timer ≡ Off
       → (s.a ≡ s.n) ⊎ ((s.rep ≡ true) ⊎ (s.t ≡ next_number s.a))

@@ -1,4 +1,4 @@
--- What each call counts.
+-- The counters after each call.
 use Rattle.std.specs.Prelude.{ℕ, ◌+◌, Bool, ◌&&◌, if◌then◌else◌, ◌==◌, min, length}
 use Rattle.ddcmp_frame.specs.declared.nak.Nak.{Nak as Reason}
 use Rattle.ddcmp_frame.specs.declared.nak.Nak.TheVariants as reason
@@ -59,8 +59,7 @@ nak_counts_after reason.TooLong c = record c { too_long = count_plus c.too_long 
 nak_counts_after reason.Format c = record c { format = count_plus c.format 1 }
 nak_counts_after (reason.Other n) c = record c { other = count_plus c.other 1 }
 
--- one message of this many bytes is sent for the first time, or retransmitted, or put into the
--- inbox
+-- a message of this many bytes is sent for the first time, retransmitted, or put into the inbox
 abbrev pub counters_after_sent : ℕ → Counters → Counters
 counters_after_sent bytes c =
     record c {
@@ -79,7 +78,7 @@ abbrev pub counters_after_up : ℕ → Counters → Counters
 counters_after_up bytes c =
     record c { messages_up = count_plus c.messages_up 1; bytes_up = count_plus c.bytes_up bytes }
 
--- ---- what comes
+-- ---- input
 
 -- in every state
 abbrev pub counters_after_fault : Received → Counters → Counters
@@ -120,7 +119,7 @@ counters_by Maintenance l s h c = maintenance_counters l s h c
 unfoldable pub counters_on : Limits → StationState → Received → Counters → Counters
 counters_on l s h c = counters_by s.state l s h (counters_after_fault h c)
 
--- ---- what is sent, and expiries
+-- ---- sent frames, and expiries
 
 unfoldable pub counters_after_next : StationState → Next → Counters → Counters
 counters_after_next s (Sends (Naked why resp) u) c =

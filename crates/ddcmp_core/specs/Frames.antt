@@ -39,7 +39,7 @@ received (input.DataCheck h) = BadData (is_data_header h)
 received (input.TooLong h) = TooLong (is_data_header h)
 received input.Format = BadFormat
 
--- a good frame's data are as long as its COUNT says, none beside a control header, and within the
+-- the data of a good frame have the length COUNT, none with a control header, and are within the
 -- limit
 abbrev pub FitsHeader : ℕ → Input → Type 0
 FitsHeader longest (input.Good h message) = IsFrame h message.now × (length message.now ≤ longest)

@@ -1,4 +1,4 @@
--- What the laws of one station say.
+-- Definitions for the laws of one station.
 use Rattle.std.specs.Prelude.{◌≡◌, ℕ, ◌+◌, ◌%◌, ◌<◌, ◌≤◌, Bool, true, false, List, [], length}
 use Rattle.std.specs.Prelude.{slice_index_or}
 use Rattle.ddcmp_num.specs.Sequence.{distance}
@@ -8,7 +8,7 @@ use Rattle.ddcmp_core.specs.declared.notice.Notice.{Notice}
 use Rattle.ddcmp_core.specs.declared.notice.Notice.TheVariants as notice
 use Rattle.ddcmp_core.specs.Table.{StationState, Data, Acked, Stack, Received, Good, before_next}
 
--- what makes a station run: a STACK, or, if it answered a STRT, an ACK or data with RESP 0
+-- what makes a station run: a STACK, or, if it replied to a STRT, an ACK or data with RESP 0
 abbrev pub BeginsRunning : State → Received → Type 0
 BeginsRunning IStart (Good Stack) = Unit {0}
 BeginsRunning AStart (Good Stack) = Unit {0}
@@ -16,8 +16,8 @@ BeginsRunning AStart (Good (Acked resp)) = resp ≡ 0
 BeginsRunning AStart (Good (Data resp num message)) = resp ≡ 0
 BeginsRunning _ _ = ⊥
 
--- A message that is sent is one of those kept, at some place counted from 0. Its number is that
--- place and 1 after the last one acknowledged, and at most one after the last one sent.
+-- A message that is sent is one of those queued, at some index counted from 0. Its number is index
+-- + 1 after the last one acknowledged, and at most one after the last one sent.
 pub record IsSentInWindow (s : StationState) (num : ℕ) (message : List ℕ) : Type 0 where
   pub place : before_next s < length s.out
   pub message_at : message ≡ slice_index_or s.out (before_next s) []
@@ -33,13 +33,13 @@ pub record HasNothing (s : StationState) : Type 0 where
   pub out : s.out ≡ []
   pub inbox : s.inbox ≡ []
 
--- that the peer restarted: this end halted, or it restarted too
+-- whether a notice reports that the peer restarted: this end halted, or restarted too
 abbrev pub tells_restart : Notice → Bool
 tells_restart notice.PeerRestarted = true
 tells_restart (notice.Restarted dropped) = true
 tells_restart _ = false
 
--- what comes is no good frame
+-- the input is no good frame
 abbrev pub is_fault : Received → Bool
 is_fault (Good frame) = false
 is_fault _ = true

@@ -1,4 +1,4 @@
--- What is sent next, by cases with their reasons.
+-- The frame that is sent next, by cases with their reasons.
 use Rattle.std.specs.Prelude.{◌≡◌, ℕ, ◌<◌, ◌≤◌, Bool, true, false, List, [], ◌∷◌, length}
 use Rattle.ddcmp_frame.specs.declared.nak.Nak.{Nak as Reason}
 use Rattle.ddcmp_core.specs.declared.state.State.TheVariants.{Halted, IStart, AStart, Running}
@@ -14,7 +14,7 @@ abbrev pub is_nak : Owed → Bool
 is_nak (Nak why) = true
 is_nak _ = false
 
--- What a station sends next, with the reason for it, or why it sends nothing.
+-- The frame that a station sends next, and the reason for it, or for sending nothing.
 pub data SentFor (s : StationState) : Next → Type 0 where
   sends_strt : s.state ≡ IStart → s.due ≡ true
       → SentFor s (Sends Strt (record s { due = false; timer = Fresh }))

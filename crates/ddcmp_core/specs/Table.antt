@@ -1,4 +1,5 @@
--- The station's table: its state, the user's calls, what comes in each state, and what is sent.
+-- The station's table: its state, the user's calls, the input in each state, and the frame that is
+-- sent next.
 use Rattle.std.specs.Prelude.{ℕ, Bool, true, false, ◌&&◌, if◌then◌else◌, nat_lt, ◌==◌, List, []}
 use Rattle.std.specs.Prelude.{◌∷◌, ◌++◌, length, slice_index_or, Option, Some, None, is_none}
 use Rattle.std.specs.Prelude.{Result}
@@ -29,19 +30,19 @@ use Rattle.ddcmp_core.specs.declared.station_core.StartRefusal.TheVariants.{NotH
 
 -- ---- the state
 
--- What never changes: the largest number of messages kept (window) and of messages in the inbox
--- (room), the largest length of a message, and whether a running station restarts
--- when its peer does.
+-- What never changes: the largest number of queued messages (window) and of messages in the inbox
+-- (room), the largest length of a message, and whether a running station restarts when its peer
+-- does.
 pub record Limits : Type 0 where
   pub window : ℕ
   pub room : ℕ
   pub longest : ℕ
   pub restart : Bool
 
--- due: a STRT (in IStart) or a STACK (in AStart) is to be sent. r: the highest number received in
+-- due: a STRT (in IStart) or a STACK (in AStart) is pending. r: the highest number received in
 -- sequence; n: the highest number sent; a: the highest number acknowledged; t: the next number to
--- send. reply: what is owed. rep: a REP is to be sent. out: the messages kept, the first of which
--- has the number a + 1; in Maintenance those to send.
+-- send. reply: the pending reply. rep: a REP is pending. out: the queued messages, the first of
+-- which has the number a + 1; in Maintenance those to send.
 pub record StationState : Type 0 where
   pub state : State
   pub due : Bool
@@ -68,7 +69,7 @@ with_outgoing s o = record s { n = o.n; a = o.a; t = o.t; out = o.out }
 abbrev pub with_incoming : StationState → Incoming → StationState
 with_incoming s i = record s { r = i.r; inbox = i.inbox }
 
--- the messages kept before t
+-- the number of queued messages before t
 abbrev pub before_next : StationState → ℕ
 before_next s = outgoing_before_next (outgoing s)
 
@@ -132,7 +133,7 @@ after_enter_maintenance s = station_begun Maintenance false s.inbox
 abbrev pub after_halt : StationState → StationState
 after_halt s = record s { state = Halted; due = false; reply = Quiet; rep = false; timer = Off }
 
--- Why a message isn't sent: the station isn't running, or the window doesn't keep it.
+-- Why a message isn't accepted: the station isn't running, or the window refuses it.
 abbrev pub send_refusal : Limits → StationState → List ℕ → Option SendRefusal
 send_refusal l s message =
     if is_running s.state
@@ -148,7 +149,7 @@ answer_to_send l s message = answer_unless (send_refusal l s message) (number_ac
 abbrev pub after_accept : StationState → List ℕ → StationState
 after_accept s message = record s { out = s.out ++ message ∷ [] }
 
--- why a maintenance message isn't sent
+-- why a maintenance message isn't accepted
 abbrev pub send_maintenance_refusal : Limits → StationState → List ℕ → Option SendRefusal
 send_maintenance_refusal l s message =
     if is_maintenance s.state
@@ -195,7 +196,7 @@ is_fresh _ = false
 abbrev pub after_take_arm : StationState → StationState
 after_take_arm s = record s { timer = if is_fresh s.timer then On else s.timer }
 
--- ---- what comes
+-- ---- input
 
 -- a frame, as far as the table reads it
 pub data Frame : Type 0 where
@@ -207,8 +208,8 @@ pub data Frame : Type 0 where
   Stack : Frame
   Maint : List ℕ → Frame
 
--- What the reader gives. Of damaged data and of a frame too long it matters whether it is a data
--- message.
+-- An input from the reader. For damaged data and a frame that is too long it matters whether it is
+-- a data message.
 pub data Received : Type 0 where
   Good : Frame → Received
   BadHeader : Received
@@ -216,7 +217,7 @@ pub data Received : Type 0 where
   TooLong : (of_data : Bool) → Received
   BadFormat : Received
 
--- acknowledging q: how many messages are newly acknowledged
+-- how many messages an acknowledgement of q newly acknowledges
 abbrev pub newly_acknowledged : StationState → ℕ → ℕ
 newly_acknowledged s q = count_acknowledged (outgoing s) q
 
@@ -383,7 +384,7 @@ acknowledged_by (Some (notice.Acknowledged m)) = m
 acknowledged_by (Some (notice.HandedUpAndAcknowledged m)) = m
 acknowledged_by (Some _) = 0
 
--- ---- what is sent next, and the station after it
+-- ---- the frame that is sent next, and the station after it
 
 pub data Next : Type 0 where
   Idle : Next
@@ -403,7 +404,7 @@ timer_started Off = Fresh
 timer_started Fresh = Fresh
 timer_started On = On
 
--- a message is kept that has the number t
+-- a message with the number t is queued
 abbrev pub has_message : StationState → Bool
 has_message s = nat_lt (before_next s) (length s.out)
 
@@ -423,8 +424,8 @@ abbrev pub is_ack : Owed → Bool
 is_ack Ack = true
 is_ack _ = false
 
--- Running: the first of these that fits. A NAK is owed, a REP is to be sent, a message is kept that
--- isn't sent since the last NAK, or an ACK is owed, which data would have carried.
+-- Running: the first of these that applies. A NAK is pending; a REP is pending; a queued message
+-- wasn't sent since the last NAK; or an ACK is pending, which data would have carried.
 abbrev pub next_running : Owed → StationState → Next
 next_running (Nak why) s = Sends (Naked why s.r) (record s { reply = Quiet })
 next_running reply s =

@@ -1,4 +1,4 @@
-//! Counters of what a station did and saw.
+//! Counters of a station.
 ghost use Rattle.std.specs.Prelude.{◌≡◌, ◌≤◌};
 ghost use Rattle.ddcmp_core.specs.Counting.{count_plus, nak_counts_after, counters_after_sent};
 ghost use Rattle.ddcmp_core.specs.Counting.{counters_after_again, counters_after_up};
@@ -21,16 +21,16 @@ pub struct NakCounts {
     pub other: u32,
 }
 
-/// What was counted since the station was made. A counter that has come to 4294967295 stays there.
+/// The counters since the station was made. A counter that has reached 4294967295 stays there.
 #[derive(Clone, Copy, Debug, PartialEq, Eq)]
 pub struct Counters {
     /// NAKs sent.
     pub nak_sent: NakCounts,
-    /// NAKs that came while running.
+    /// NAKs received while running.
     pub nak_received: NakCounts,
     /// REPs sent.
     pub rep_sent: u32,
-    /// REPs that came while running.
+    /// REPs received while running.
     pub rep_received: u32,
     /// Data messages sent for the first time, and maintenance messages sent.
     pub messages_sent: u32,
@@ -46,17 +46,17 @@ pub struct Counters {
     pub bytes_up: u32,
     /// Expiries of a timer that wasn't off.
     pub expiries: u32,
-    /// Losses of synchronism, in every state, as the next three are.
+    /// Losses of synchronism, counted in every state, as are the next three.
     pub header_checks: u32,
     /// Frames whose data were damaged.
     pub data_checks: u32,
-    /// Frames longer than this end takes.
+    /// Frames that are too long for this end.
     pub too_longs: u32,
-    /// Headers of a form that there isn't.
+    /// Headers of no known form.
     pub formats: u32,
 }
 
-/// Adds to a counter, which goes no further than its largest value.
+/// Adds to a counter, which stops at its largest value.
 fn add(count: &mut u32, more: u32)
     ensures { count.new ≡ count_plus count.old more }
 {
@@ -144,7 +144,7 @@ impl Counters {
         add(&mut self.rep_received, 1);
     }
 
-    /// A message of this many bytes was sent for the first time.
+    /// Counts a message of this many bytes that is sent for the first time.
     pub(crate) fn sent(&mut self, bytes: usize)
         requires { bytes ≤ MAX_COUNT }
         ensures { self.new ≡ counters_after_sent bytes self.old }
@@ -162,7 +162,7 @@ impl Counters {
         add(&mut self.bytes_again, bytes as u32);
     }
 
-    /// A message of this many bytes is in the inbox.
+    /// Counts a message of this many bytes that is put into the inbox.
     pub(crate) fn up(&mut self, bytes: usize)
         requires { bytes ≤ MAX_COUNT }
         ensures { self.new ≡ counters_after_up bytes self.old }

@@ -1,4 +1,4 @@
-//! What a station receives from its line.
+//! The inputs of a station from its line.
 use ddcmp_frame::Header;
 
 /// An input from the line.
@@ -10,8 +10,8 @@ pub enum Input<'a> {
     HeaderCheck,
     /// The data of a frame with this header are damaged.
     DataCheck(Header),
-    /// A frame with this header is longer than this end takes.
+    /// A frame with this header is too long for this end.
     TooLong(Header),
-    /// A header of a form that there isn't.
+    /// A header of no known form.
     Format,
 }

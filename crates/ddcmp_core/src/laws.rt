@@ -1,4 +1,4 @@
-//! Laws of the station's table. They hold whatever comes from the line.
+//! Laws of the station's table. They hold whatever is received from the line.
 ghost use Rattle.std.specs.Prelude.{◌≡◌, ◌≢◌, ℕ, ◌+◌, ◌<◌, ◌≤◌, List, [], length, true, Some};
 ghost use Rattle.ddcmp_num.specs.Sequence.{distance};
 ghost use Rattle.ddcmp_window.specs.Store.{IsStored};
@@ -20,8 +20,8 @@ ghost use Rattle.ddcmp_frame.specs.Spelling.{IsInRange};
 ghost use Rattle.ddcmp_core.specs.Core.{IsSound, IsReceivable, IsTimed};
 ghost use Rattle.ddcmp_core.specs.NextFrame.{SentFor};
 
-/// Numbers are bytes, T lies in A + 1 to N + 1, what was sent and isn't acknowledged is kept, and
-/// the lists are within the limits: of a new station, and after each call.
+/// Numbers are bytes, T lies in A + 1 to N + 1, messages that were sent and aren't acknowledged are
+/// queued, and the lists are within their limits: for a new station, and after each call.
 pub fn stays_sound()
     ensures new { (l : Limits) → IsStored l.window l.longest [] → IsStored l.room l.longest []
         → IsSound l new_station }
@@ -44,18 +44,18 @@ pub fn stays_sound()
     ensures arms { (l : Limits) (s : StationState) → IsSound l s → IsSound l (after_take_arm s) }
 {}
 
-/// What is sent next is one of the cases with their reasons.
+/// The frame that is sent next is one of the cases with their reasons.
 pub fn sends_for_a_reason()
     ensures { (s : StationState) → SentFor s (next s) }
 {}
 
-/// STRT is sent in IStart alone, and STACK in AStart alone.
+/// STRT is sent only in IStart, and STACK only in AStart.
 pub fn starts_in_state()
     ensures strt { (s u : StationState) → next s ≡ Sends Strt u → s.state ≡ IStart }
     ensures stack { (s u : StationState) → next s ≡ Sends Stack u → s.state ≡ AStart }
 {}
 
-/// A station comes to IStart by `start` alone.
+/// A station enters IStart only by `start`.
 pub fn leaves_istart_for_good()
     ensures receives { (l : Limits) (s : StationState) (h : Received) → (on l s h).state ≡ IStart
         → s.state ≡ IStart }
@@ -69,15 +69,15 @@ pub fn leaves_istart_for_good()
     ensures arms { (s : StationState) → (after_take_arm s).state ≡ s.state }
 {}
 
-/// A station begins to run by a STACK, or, if it replied to a STRT, by an ACK or data with RESP 0,
+/// A station comes to run by a STACK, or, if it replied to a STRT, by an ACK or data with RESP 0,
 /// and by nothing else.
 pub fn runs_after_startup()
     ensures { (l : Limits) (s : StationState) (h : Received)
         → s.state ≢ Running → (on l s h).state ≡ Running → BeginsRunning s.state h }
 {}
 
-/// Only a STRT that a running station receives reports that the peer restarted; no station runs
-/// after a STRT; and what is no good frame changes no state.
+/// Only a STRT received by a running station reports that the peer restarted; no station runs after
+/// a STRT; and an input that is no good frame changes no state.
 pub fn stops_at_a_strt()
     ensures told { (l : Limits) (s : StationState) (h : Received) (n : NoticeValue)
         → notice_of l s h ≡ Some n → tells_restart n ≡ true → (s.state ≡ Running)
@@ -87,15 +87,16 @@ pub fn stops_at_a_strt()
         → (on l s h).state ≡ s.state }
 {}
 
-/// A data message that is sent carries R, and is one of those kept, with a number from A + 1 to
-/// N + 1.
+/// A data message that is sent carries R, and is one of those queued, with a number from A + 1 to N
+/// + 1.
 pub fn sends_in_window()
     ensures { (l : Limits) (s u : StationState) (resp num : ℕ) (message : List ℕ)
         → IsSound l s → next s ≡ Sends (Data resp num message) u → (resp ≡ s.r)
         × IsSentInWindow s num message }
 {}
 
-/// An acknowledgement never passes N, and no more is reported than was sent.
+/// An acknowledgement never passes N, and no more messages are reported acknowledged than were
+/// sent.
 pub fn acknowledges_what_was_sent()
     ensures number { (s : StationState) (q : ℕ) → s.a < 256
         → distance s.a (after_ack s q).a ≤ distance s.a s.n }
@@ -104,14 +105,14 @@ pub fn acknowledges_what_was_sent()
         → acknowledged_by (notice_of l s h) ≤ distance s.a s.n }
 {}
 
-/// What is reported acknowledged leaves: with what is left it is no more than was queued before.
+/// Messages that are reported acknowledged leave the queue: with those left they are no more than
+/// were queued before.
 pub fn reports_what_leaves()
     ensures { (l : Limits) (s : StationState) (h : Received)
         → IsSound l s → acknowledged_by (notice_of l s h) + length (on l s h).out ≤ length s.out }
 {}
 
-/// A station that starts has sent and received nothing; in Maintenance nothing waits for an
-/// acknowledgement.
+/// A station that starts has sent and received nothing; in Maintenance nothing is unacknowledged.
 pub fn begins_with_nothing()
     ensures starting { (l : Limits) (s : StationState) → IsSound l s → is_starting s.state ≡ true
         → HasNothing s }
@@ -119,7 +120,7 @@ pub fn begins_with_nothing()
         → IsSound l s → s.state ≡ Maintenance → (s.a ≡ s.n) × (s.t ≡ next_number s.a) }
 {}
 
-/// A frame that is sent is read as the frame that it is, and its data are within the limit.
+/// A frame that is sent is read as the same frame, and its data are within the limit.
 pub fn sends_what_is_read()
     ensures { (l : Limits) (s u : StationState) (f : Frame) → IsSound l s → next s ≡ Sends f u
         → (frame_of (header_of f) (message_of f) ≡ f) × IsFrame (header_of f) (message_of f)
@@ -127,8 +128,8 @@ pub fn sends_what_is_read()
         × (length (message_of f) ≤ l.longest) }
 {}
 
-/// A running station has its timer off only if A is N, or a REP or all that is queued is to be
-/// sent; one that starts only if its STRT or STACK is to be sent.
+/// In a running station the timer is off only if A is N, or a REP is pending, or all queued
+/// messages are to be sent; in one that starts only if its STRT or STACK is pending.
 pub fn stays_timed()
     ensures new { IsTimed new_station }
     ensures receives { (l : Limits) (s : StationState) (h : Received) → IsTimed s

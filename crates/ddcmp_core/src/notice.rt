@@ -1,4 +1,4 @@
-//! What a station reports to its user.
+//! The notices of a station to its user.
 
 /// A notice for the user.
 #[derive(Clone, Copy, Debug, PartialEq, Eq)]
@@ -7,11 +7,11 @@ pub enum Notice {
     Running,
     /// Both ends have started; the message by which this end knows is in the inbox.
     RunningAndHandedUp,
-    /// The peer has this many messages more.
+    /// The peer acknowledged this many more messages.
     Acknowledged(u8),
     /// A message is in the inbox.
     HandedUp,
-    /// A message is in the inbox, and the peer has this many messages more.
+    /// A message is in the inbox, and the peer acknowledged this many more messages.
     HandedUpAndAcknowledged(u8),
     /// The peer asks this end, which isn't starting, to start.
     PeerStarts,
@@ -19,10 +19,10 @@ pub enum Notice {
     PeerRestarted,
     /// The peer restarted, and so did this end. It dropped this many messages.
     Restarted(u8),
-    /// A maintenance message was received in a state that takes none.
+    /// A maintenance message was received in a state that accepts none.
     MaintenanceSeen,
     /// A maintenance message is in the inbox.
     MaintenanceHandedUp,
-    /// A maintenance message found no room.
+    /// There was no room for a maintenance message.
     MaintenanceDropped,
 }

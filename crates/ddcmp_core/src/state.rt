@@ -1,4 +1,4 @@
-//! The states of a station, what it owes, and its reply timer.
+//! The states of a station, its pending reply, and its reply timer.
 ghost use Rattle.std.specs.Prelude.{◌≡◌};
 ghost use Rattle.ddcmp_core.specs.Table.{timer_started};
 
@@ -13,13 +13,13 @@ pub enum State {
     IStart,
     /// It replies to a peer that asks it to start.
     AStart,
-    /// Messages go both ways.
+    /// Messages are sent and received.
     Running,
-    /// Maintenance messages alone go both ways.
+    /// Only maintenance messages are sent and received.
     Maintenance,
 }
 
-/// What the peer is owed for what it sent.
+/// The pending reply to the peer.
 #[derive(Clone, Copy, Debug, PartialEq, Eq)]
 pub enum Owed {
     /// Nothing.
@@ -34,13 +34,13 @@ pub enum Owed {
 #[derive(Clone, Copy, Debug, PartialEq, Eq)]
 pub enum Timer {
     Off,
-    /// It was started, and `take_arm` hasn't reported it yet.
+    /// It was started, and `take_arm` hasn't reported that yet.
     Fresh,
     On,
 }
 
 impl Timer {
-    /// Returns the timer after a frame that needs a reply was sent: it goes on, or starts.
+    /// Returns the timer after a frame that needs a reply was sent: it continues, or is started.
     pub(crate) fn started(self) -> Timer
         ensures { result ≡ timer_started self }
     {

@@ -7,7 +7,7 @@ use crate::state::{Owed, State, Timer};
 use ddcmp_window::{Inbox, SendRefusal, Sender, Seq, Store};
 use std::marker::Model;
 
-/// Why a station isn't started: the first that fits.
+/// The reason why a station isn't started: the first that applies.
 #[derive(Clone, Copy, Debug, PartialEq, Eq)]
 pub enum StartRefusal {
     NotHalted,
@@ -28,14 +28,14 @@ pub struct Numbers {
     pub t: Seq,
 }
 
-/// One end of a link: its state, flags and numbers, the messages that it sends, an inbox of those
-/// that came, and counters.
+/// One end of a link: its state, flags and numbers, the messages that it sends, an inbox of
+/// received messages, and counters.
 pub struct Core<S: Store> {
     state: State,
-    /// A STRT or a STACK is to be sent.
+    /// A STRT or a STACK is pending.
     due: bool,
     reply: Owed,
-    /// A REP is to be sent.
+    /// A REP is pending.
     rep: bool,
     timer: Timer,
     sender: Sender<S>,
@@ -100,7 +100,7 @@ impl<S: Store> Core<S> {
     ghost use Rattle.ddcmp_core.specs.Counting.{no_counts, counters_after_expire};
     ghost use Rattle.ddcmp_core.specs.Core.{IsSound};
 
-    /// Makes a halted station that keeps the messages to send in `out` and those that came in
+    /// Makes a halted station that stores the messages to send in `out` and the received ones in
     /// `inbox`.
     pub fn new(out: S, inbox: S, restart: bool) -> Self
         requires out_empty { S.messages out ≡ [] }
@@ -130,7 +130,7 @@ impl<S: Store> Core<S> {
         }
     }
 
-    /// Asks the peer to start; returns how many messages that waited to be sent were dropped.
+    /// Asks the peer to start; returns how many queued messages were dropped.
     pub fn start(&mut self) -> Result<u8, StartRefusal>
         ensures state { self.new ≡ record self.old {
           station = if may_start self.old.station then after_start self.old.station
@@ -142,8 +142,7 @@ impl<S: Store> Core<S> {
         self.begin_halted(State::IStart, true)
     }
 
-    /// Enters the state of maintenance; returns how many messages that waited to be sent were
-    /// dropped.
+    /// Enters the Maintenance state; returns how many queued messages were dropped.
     pub fn enter_maintenance(&mut self) -> Result<u8, StartRefusal>
         ensures state { self.new ≡ record self.old {
           station = if may_start self.old.station then after_enter_maintenance self.old.station
@@ -155,7 +154,7 @@ impl<S: Store> Core<S> {
         self.begin_halted(State::Maintenance, false)
     }
 
-    /// Begins in a state, if it is halted and its inbox empty; returns how many messages were
+    /// Starts in a state, if it is halted and its inbox empty; returns how many messages were
     /// dropped.
     fn begin_halted(&mut self, state: State, due: bool) -> Result<u8, StartRefusal>
         ensures state { self.new ≡ record self.old {
@@ -173,7 +172,7 @@ impl<S: Store> Core<S> {
         Ok(self.begin(state, due))
     }
 
-    /// Begins with an empty inbox in a state; returns how many messages were dropped.
+    /// Starts in a state with an empty inbox; returns how many messages were dropped.
     fn begin(&mut self, state: State, due: bool) -> u8
         requires { length self.old.station.inbox ≡ 0 }
         ensures state { self.new
@@ -190,7 +189,7 @@ impl<S: Store> Core<S> {
         dropped
     }
 
-    /// Sends and takes nothing more. Numbers and messages stay.
+    /// Halts: the station sends and accepts nothing more. Numbers and messages stay.
     pub fn halt(&mut self)
         ensures { self.new ≡ record self.old { station = after_halt self.old.station } }
     {
@@ -201,7 +200,7 @@ impl<S: Store> Core<S> {
         self.timer = Timer::Off;
     }
 
-    /// Returns why a message isn't sent, or None if it is.
+    /// Returns why a message isn't accepted, or None if it is.
     pub fn send_refusal(&self, message: &[u8]) -> Option<SendRefusal>
         ensures { result ≡ send_refusal_of self.now.limits self.now.station message.now }
     {
@@ -226,7 +225,7 @@ impl<S: Store> Core<S> {
         self.sender.accept(message)
     }
 
-    /// Keeps a maintenance message to be sent.
+    /// Queues a maintenance message.
     pub fn send_maintenance(&mut self, message: &[u8]) -> Result<(), SendRefusal>
         ensures state { self.new ≡ record self.old {
           station = if may_send_maintenance self.old.limits self.old.station message.now
@@ -280,7 +279,7 @@ impl<S: Store> Core<S> {
         true
     }
 
-    /// Returns whether the timer was started since this was last asked: the caller sets its
+    /// Returns whether the timer was started since the last call: if so, the caller sets its
     /// deadline.
     pub fn take_arm(&mut self) -> bool
         ensures state { self.new ≡ record self.old { station = after_take_arm self.old.station } }
@@ -300,7 +299,7 @@ impl<S: Store> Core<S> {
         self.state
     }
 
-    /// Returns the numbers.
+    /// Returns the numbers of the station.
     pub fn numbers(&self) -> Numbers
         ensures { result ≡ record {
           r = record { 0 = self.now.station.r };
@@ -317,14 +316,14 @@ impl<S: Store> Core<S> {
         }
     }
 
-    /// Returns the number of messages kept.
+    /// Returns the number of queued messages.
     pub fn outgoing(&self) -> u8
         ensures { result ≡ length self.now.station.out }
     {
         self.sender.len()
     }
 
-    /// Returns whether fewer messages are kept than the window allows.
+    /// Returns whether fewer messages are queued than the window allows.
     pub fn room(&self) -> bool
         ensures { IsTrue result ↔ (length self.now.station.out < self.now.limits.window) }
     {
@@ -366,14 +365,14 @@ impl<S: Store> Core<S> {
         self.timer != Timer::Off
     }
 
-    /// Returns what was counted.
+    /// Returns the counters.
     pub fn counters(&self) -> &Counters
         ensures { result.now ≡ self.now.counters }
     {
         &self.counters
     }
 
-    /// Returns the length of all messages kept and in the inbox.
+    /// Returns the length of all messages queued and in the inbox.
     pub fn bytes(&self) -> usize
         ensures value { result
             ≡ sum_by length self.now.station.out + sum_by length self.now.station.inbox }
@@ -384,11 +383,11 @@ impl<S: Store> Core<S> {
         self.sender.bytes() + self.inbox.bytes()
     }
 
-    /// What holds of every core: a law, for those who have one. It does nothing.
+    /// States what holds for every core. Does nothing.
     pub fn holds(&self)
         ensures { IsSound self.now.limits self.now.station }
     {
-        // If a field is looked at, the proof knows what holds of all of them.
+        // A look at a field lets the proof use what holds for all of them.
         let _ = &self.state;
     }
 }

@@ -1,4 +1,4 @@
--- The reasons of a NAK and the numbers that its SUBTYPE has for them.
+-- The reasons of a NAK and their numbers in its SUBTYPE.
 use Rattle.std.specs.Prelude.{ℕ, ◌==◌, if◌then◌else◌}
 use Rattle.ddcmp_frame.specs.declared.nak.Nak.{Nak}
 use Rattle.ddcmp_frame.specs.declared.nak.Nak.TheVariants.{HeaderCheck, DataCheck, ReplyToRep}
@@ -16,7 +16,7 @@ subtype_of TooLong = 16
 subtype_of Format = 17
 subtype_of (Other n) = n
 
--- the reason of a SUBTYPE: the one that has this number, else Other
+-- the reason of a SUBTYPE: the one with this number, otherwise Other
 abbrev pub reason_of : ℕ → Nak
 reason_of n =
     if n == 1 then HeaderCheck

@@ -19,8 +19,8 @@ use Rattle.ddcmp_frame.specs.Rows.{RowResult, read_rows}
 abbrev pub ReadItem : Type 0
 ReadItem = Item × List ℕ
 
--- Where reading stands: the offset, whether synchronism is lost, whether the frame that begins
--- here was reported as too long, and the text from there on.
+-- The state of reading: the offset, whether synchronism is lost, whether the frame that begins here
+-- was reported as too long, and the text from there on.
 pub record Place : Type 0 where
   pub offset : ℕ
   pub lost : Bool
@@ -41,14 +41,14 @@ count_of (Control h) = None
 abbrev pub data_after_header : ℕ → List ℕ → List ℕ
 data_after_header n t = take n (drop 8 t)
 
--- the check of the data alone stands after them
+-- the data are followed by their own CRC
 unfoldable pub is_data_right : ℕ → List ℕ → Bool
 is_data_right n t =
     (slice_index t (n + 8) == check_of (data_after_header n t) % 256)
     && (slice_index t (n + 9) == check_of (data_after_header n t) / 256)
 
--- A header whose COUNT is above max is reported once and skipped with its data, unchecked;
--- another takes its data and their check. Until the last byte the frame is unfinished.
+-- A header whose COUNT is above max is reported once and skipped with its data, unchecked; any
+-- other is read with its data and their CRC. Until the last byte the frame is unfinished.
 abbrev pub by_length : Place → Header → ℕ → Bool → Bool → Option (List ReadItem × Place)
 by_length p h n true false = Some ((TooLong p.offset h, []) ∷ [], record p { told = true })
 by_length p h n true true =
@@ -67,8 +67,8 @@ abbrev pub by_count : ℕ → Place → Header → Option ℕ → Option (List R
 by_count max p h None = Some ((Good p.offset h, []) ∷ [], place_after 8 false p)
 by_count max p h (Some n) = by_length p h n (nat_lt max n) p.told
 
--- What the first eight bytes are decides. If their check is wrong the start byte alone is
--- given up, and the loss of synchronism is reported once.
+-- The verdict on the first eight bytes decides. If their CRC is wrong only the start byte is given
+-- up, and the loss of synchronism is reported once.
 abbrev pub by_verdict : ℕ → Place → Result Header HeaderFault → Option (List ReadItem × Place)
 by_verdict max p (Err NotAStart) = Some ([], place_after 1 p.lost p)
 by_verdict max p (Err Check) =
@@ -87,23 +87,23 @@ by_front max p (b ∷ t) =
     then (if nat_lt (length (b ∷ t)) 8 then None else by_verdict max p (parsed (take 8 (b ∷ t))))
     else Some ([], place_after 1 p.lost p)
 
--- One row of the table: the items that are given at a place and the place where reading goes on;
--- None if it ends.
+-- One row of the table: the items that a place yields and the place where reading resumes; None if
+-- it ends.
 unfoldable pub row : ℕ → Place → Option (List ReadItem × Place)
 row max p = by_front max p p.rest
 
--- what each row takes some of: two for each byte, and one if nothing was reported
+-- a measure that each row lowers: two for each byte, and one if nothing was reported
 abbrev pub weight : Place → ℕ
 weight p = 2 * length p.rest + (if p.told then 0 else 1)
 
--- reading on from a place, row after row
+-- reading from a place, row after row
 unfoldable pub read : ℕ → Place → RowResult ReadItem Place
 read max p = read_rows (row max) weight p
 
 abbrev pub beginning : List ℕ → Place
 beginning text = record { offset = 0; lost = false; told = false; rest = text }
 
--- the items of a text, each with its data, for a reader that takes at most max bytes of data
+-- the items of a text, each with its data, for a reader that accepts at most max bytes of data
 unfoldable pub items : ℕ → List ℕ → List ReadItem
 items max text = (read max (beginning text)).items
 
@@ -115,7 +115,7 @@ ending max text = (read max (beginning text)).place
 abbrev pub open_at_end : ℕ → List ℕ → ℕ
 open_at_end max text = length (ending max text).rest
 
--- those of them that a reader has to keep: none of a frame that was reported as too long
+-- those of them that a reader has to buffer: none of a frame that was reported as too long
 abbrev pub kept_at_end : ℕ → List ℕ → ℕ
 kept_at_end max text = if (ending max text).told then 0 else open_at_end max text
 
@@ -123,7 +123,7 @@ kept_at_end max text = if (ending max text).told then 0 else open_at_end max tex
 abbrev pub with_more : Place → List ℕ → Place
 with_more p u = record { offset = p.offset; lost = p.lost; told = p.told; rest = p.rest ++ u }
 
--- the header and the data of the good item, if it is one
+-- the header and the data of an item, if it is a good one
 abbrev pub good_frame_of : ReadItem → List (Header × List ℕ)
 good_frame_of (Good o h, lent) = (h, lent) ∷ []
 good_frame_of (HeaderCheck o, lent) = []

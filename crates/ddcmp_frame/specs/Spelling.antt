@@ -1,4 +1,4 @@
--- How a header is spelled in bytes.
+-- How a header is encoded in bytes.
 use Rattle.std.specs.Prelude.{◌≡◌, ◌≢◌, ℕ, ◌+◌, ◌*◌, ◌/◌, ◌%◌, ◌<◌, ◌≤◌, ◌==◌, ◌&&◌, ◌||◌, ◌↔◌}
 use Rattle.std.specs.Prelude.{Bool, true, false, IsTrue, List, length, take, drop, slice_index}
 use Rattle.std.specs.Prelude.{if◌then◌else◌, Option, Some, None, Result, Ok, Err}
@@ -63,13 +63,13 @@ pub record SpellsCounted (first : ℕ) (h : CountedFields) (bytes : List ℕ) : 
   pub num : slice_index bytes 4 ≡ h.num
   pub addr : slice_index bytes 5 ≡ h.addr
 
--- a header and the six bytes that spell it
+-- a header and the six bytes that encode it
 abbrev pub Spells : Header → List ℕ → Type 0
 Spells (Data h) bytes = SpellsCounted DATA_START h bytes
 Spells (Maint h) bytes = SpellsCounted MAINT_START h bytes
 Spells (Control h) bytes = SpellsShort h bytes
 
--- the last two of eight bytes are the check of the first six
+-- the last two of eight bytes are the CRC of the first six
 abbrev pub HasCheck : List ℕ → Type 0
 HasCheck bytes = drop 6 bytes ≡ check_pair (check_of (take 6 bytes))
 
@@ -83,7 +83,7 @@ IsInRange (Data h) = (0 < h.count) × (h.count ≤ MAX_COUNT)
 IsInRange (Maint h) = (0 < h.count) × (h.count ≤ MAX_COUNT)
 IsInRange (Control h) = h.sub < 64
 
--- what each verdict says of eight bytes
+-- what each verdict means for eight bytes
 abbrev pub Says : Result Header HeaderFault → List ℕ → Type 0
 Says (Ok h) bytes = Spells h (take 6 bytes) × HasCheck bytes
 Says (Err NotAStart) bytes = is_start (slice_index bytes 0) ≡ false
@@ -150,7 +150,7 @@ by_start bytes =
     then short_or_fault bytes (kind_of (slice_index bytes 1))
     else counted_or_fault (slice_index bytes 0) (counted_or_none bytes)
 
--- the header that eight bytes are, or the first fault
+-- the header that eight bytes encode, or the first fault
 unfoldable pub parsed : List ℕ → Result Header HeaderFault
 parsed bytes =
     if is_start (slice_index bytes 0)

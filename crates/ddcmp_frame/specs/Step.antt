@@ -1,4 +1,4 @@
--- The rows of the table as a reader finds them at the front of the bytes that it holds.
+-- The rows of the table as a reader applies them at the front of the bytes that it holds.
 use Rattle.std.specs.Prelude.{◌≡◌, ℕ, ◌+◌, ◌<◌, ◌≤◌, Bool, true, false, List, [], ◌∷◌, length, take}
 use Rattle.std.specs.Prelude.{slice_index, if◌then◌else◌, Option, Some, None, Ok, Err}
 use Rattle.ddcmp_num.specs.declared.limits.TheConstants.{MAX_COUNT}
@@ -18,7 +18,7 @@ use Rattle.ddcmp_frame.specs.Reader.{frame_length, candidate_length}
 abbrev pub place_untold : ℕ → Bool → List ℕ → Place
 place_untold at lost rest = record { offset = at; lost = lost; told = false; rest = rest }
 
--- the number of bytes that an item takes
+-- the number of bytes of an item
 abbrev pub item_length : Item → ℕ
 item_length (Good o h) = frame_length h
 item_length (DataCheck o h) = frame_length h
@@ -34,7 +34,7 @@ item_offset (TooLong o h) = o
 item_offset (HeaderCheck o) = o
 item_offset (Format o f) = o
 
--- the row that a step is
+-- the row of a step
 abbrev pub row_of_step : Step → Place → Option (List ReadItem × Place)
 row_of_step Unfinished p = None
 row_of_step Skips p = Some ([], place_after 1 p.lost p)
@@ -54,7 +54,7 @@ Lends (TooLong o h) n bytes = n ≡ 0
 Lends (HeaderCheck o) n bytes = n ≡ 0
 Lends (Format o f) n bytes = n ≡ 0
 
--- what a step says of the bytes
+-- what a step means for the bytes
 abbrev pub Found : ℕ → ℕ → List ℕ → Step → Type 0
 Found max at bytes Unfinished = length bytes < max + 10
 Found max at bytes Skips = is_start (slice_index bytes 0) ≡ false

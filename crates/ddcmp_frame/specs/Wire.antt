@@ -23,17 +23,17 @@ six_bytes (Maint h) = counted_bytes MAINT_START h
 six_bytes (Control h) =
     CONTROL_START ∷ type_code h.kind ∷ (h.sub + flag_bits h.flags) ∷ h.resp ∷ h.num ∷ h.addr ∷ []
 
--- the six bytes of a header and their check
+-- the six bytes of a header and their CRC
 abbrev pub eight_bytes : Header → List ℕ
 eight_bytes h = six_bytes h ++ check_pair (check_of (six_bytes h))
 
--- what follows a header: if it has COUNT, the data and the check of the data alone
+-- the bytes after a header: if it has COUNT, the data and a CRC of the data alone
 abbrev pub after_header : Header → List ℕ → List ℕ
 after_header (Data h) data_bytes = data_bytes ++ check_pair (check_of data_bytes)
 after_header (Maint h) data_bytes = data_bytes ++ check_pair (check_of data_bytes)
 after_header (Control h) data_bytes = []
 
--- a frame as it goes on the line
+-- a frame as it is written to the line
 unfoldable pub wire : Header → List ℕ → List ℕ
 wire h data_bytes = eight_bytes h ++ after_header h data_bytes
 

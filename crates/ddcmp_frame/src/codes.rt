@@ -48,8 +48,8 @@ pub const TOO_LONG_REASON: u8 = 16;
 /// The SUBTYPE of a NAK: header format error.
 pub const FORMAT_REASON: u8 = 17;
 
-/// The bytes of a header, its check among them.
+/// The number of bytes of a header with its CRC.
 pub const HEADER_BYTES: u8 = 8;
 
-/// The most bytes of a frame beside its data: the header, and the check of the data.
+/// The most bytes of a frame beside its data: the header, and the CRC of the data.
 pub const FRAME_OVERHEAD: u8 = 10;

@@ -1,4 +1,4 @@
-//! Headers and their spelling.
+//! Headers and their encoding.
 ghost use Rattle.std.specs.Prelude.{◌≡◌, ◌≢◌, ◌/◌, ◌%◌, ℕ, ◌<◌, ◌≤◌, ◌↔◌, IfOk, IfSome, IsSome};
 ghost use Rattle.std.specs.Prelude.{List, take, length, slice_index, true, false};
 ghost use Rattle.ddcmp_frame.specs.Spelling.{Spells, SpellsCounted, HasCheck, IsNoType, IsBytes};
@@ -94,8 +94,8 @@ impl Short {
     }
 }
 
-/// The fields of a data or maintenance header. `count` is 1 to 16383. In a maintenance header
-/// `resp` and `num` are fill.
+/// The fields of a data or maintenance header. `count` is 1 to 16383. A maintenance header doesn't
+/// use `resp` and `num`.
 #[derive(Clone, Copy, Debug, PartialEq, Eq)]
 pub struct Counted {
     pub count: u16,
@@ -151,16 +151,16 @@ pub enum Header {
     Control(Short),
 }
 
-/// Why eight bytes are no header.
+/// The reason why eight bytes are no header.
 #[derive(Clone, Copy, Debug, PartialEq, Eq)]
 pub enum HeaderFault {
     /// The first byte is none of the three start bytes.
     NotAStart,
-    /// The last two bytes aren't the check of the first six.
+    /// The last two bytes aren't the CRC of the first six.
     Check,
-    /// A control header of this TYPE, which no control message has.
+    /// A control header with this TYPE, which no control message has.
     BadType(u8),
-    /// A data or maintenance header of COUNT 0.
+    /// A data or maintenance header with COUNT 0.
     CountZero,
 }
 
@@ -185,7 +185,7 @@ fn kind_of(code: u8) -> Option<ControlType>
     }
 }
 
-/// Returns whether the last two of eight bytes are the check of the first six.
+/// Returns whether the last two of eight bytes are the CRC of the first six.
 #[tactic(auto, unfolding(crate::specs::Spelling::is_check_right))]
 #[inline(always)]
 fn check_holds(bytes: &[u8; 8]) -> bool
@@ -240,14 +240,14 @@ fn counted_in(bytes: &[u8; 8]) -> Option<Counted>
 }
 
 impl Header {
-    /// Returns the header that eight bytes are, or the first fault.
+    /// Returns the header that eight bytes encode, or the first fault.
     #[inline(always)]
     pub fn parse(bytes: &[u8; 8]) -> Result<Header, HeaderFault>
-        // A header and its check are read as this header, and nothing else is read as one.
+        // A header and its CRC are read as this header, and nothing else is read as one.
         ensures found { IfOk result (λ h. Spells h (take 6 bytes.now) × HasCheck bytes.now) }
         ensures only { (h : HeaderValue) → Spells h (take 6 bytes.now) → HasCheck bytes.now
             → result ≡ Ok h }
-        // Which fault it is.
+        // Which fault is returned.
         ensures not_a_start { (result ≡ Err HeaderFault.NotAStart)
             ↔ (is_start_byte (slice_index bytes.now 0) ≡ false) }
         ensures check { (result ≡ Err HeaderFault.Check)
@@ -288,7 +288,7 @@ impl Header {
         }
     }
 
-    /// The eight bytes of the header.
+    /// Returns the eight bytes of the header.
     pub fn write(&self) -> [u8; 8]
         ensures spelled { Spells self.now (take 6 result) }
         ensures check { HasCheck result }
@@ -300,8 +300,7 @@ impl Header {
         self.write_exactly()
     }
 
-    /// Returns the number of bytes of a frame with this header, its data and their check among
-    /// them.
+    /// Returns the number of bytes of a frame with this header, with its data and their CRC.
     pub fn frame_length(&self) -> usize
         ensures { result ≡ length_of_frame self.now }
     {
@@ -343,7 +342,7 @@ impl Header {
 }
 
 impl Counted {
-    /// The six bytes of a header that begins with `first`.
+    /// Returns the six bytes of a header that begins with `first`.
     fn write_from(&self, first: u8) -> [u8; 6]
         ensures spelled { SpellsCounted first self.now result }
         ensures exact { result ≡ counted_bytes first self.now }
@@ -359,7 +358,7 @@ impl Counted {
     }
 }
 
-/// The flags as bits 6 and 7 of the third byte.
+/// Returns the flags as bits 6 and 7 of the third byte.
 fn flag_bits(flags: Flags) -> u8
     ensures value { result ≡ flag_bits_of flags }
     ensures high { result % 64 ≡ 0 }

@@ -1,4 +1,4 @@
-//! What both readers do with the bytes of a frame that they hold.
+//! Functions of both readers for the bytes of a frame that they hold.
 ghost use Rattle.std.specs.Prelude.{◌≡◌, ◌+◌, ◌<◌, ◌≤◌, ◌↔◌, ℕ, IfOk, length, drop, Some, None};
 ghost use Rattle.std.specs.Prelude.{vec_len, vec_capacity, if◌then◌else◌};
 ghost use Rattle.ddcmp_frame.specs.Reading.{count_of as count_in, is_data_right as data_right_in};
@@ -11,7 +11,8 @@ use crate::reader::ReaderRefusal;
 use ddcmp_num::{MAX_COUNT, check, check_bytes};
 use std::alloc::Global;
 
-/// The memory for a frame with at most `max` bytes of data, or why no reader takes these.
+/// Allocates memory for a frame with at most `max` bytes of data, or returns why a reader refuses
+/// this size.
 pub(crate) fn frame_buffer(alloc: Global, max: u16) -> Result<Vec<u8>, ReaderRefusal>
     ensures zero { (result ≡ Err ReaderRefusal.MaxZero) ↔ (max ≡ 0) }
     ensures above { (result ≡ Err ReaderRefusal.MaxAbove16383) ↔ (MAX_COUNT < max) }
@@ -31,7 +32,7 @@ pub(crate) fn frame_buffer(alloc: Global, max: u16) -> Result<Vec<u8>, ReaderRef
     }
 }
 
-/// Returns the item of a candidate that fails: the first of a loss of synchronism is reported.
+/// Returns the item of a candidate that fails: only the first in a loss of synchronism is reported.
 pub(crate) fn loss(lost: bool, at: u64) -> Option<Item>
     ensures { result ≡ (if lost then None else Some (Item.HeaderCheck at)) }
 {
@@ -42,7 +43,7 @@ pub(crate) fn loss(lost: bool, at: u64) -> Option<Item>
     }
 }
 
-/// Drops the first byte, and what follows it up to the next start byte.
+/// Drops the first byte, and the bytes after it up to the next start byte.
 pub(crate) fn resume(buffer: &mut Vec<u8>)
     requires { 0 < vec_len buffer.old }
     ensures items { buffer.new.items ≡ from_start (drop 1 buffer.old.items) }
@@ -71,7 +72,7 @@ pub(crate) fn count_of(header: &Header) -> Option<usize>
     }
 }
 
-/// Returns whether the check after `count` bytes of data is theirs.
+/// Returns whether the CRC after `count` bytes of data is right.
 #[tactic(auto, unfolding(crate::specs::Reading::is_data_right))]
 pub(crate) fn data_right(bytes: &[u8], count: usize) -> bool
     requires { count + 10 ≤ length bytes.now }

@@ -1,5 +1,5 @@
-//! What holds of frames and of the reading of texts, for the crates above: functions that do
-//! nothing, whose contracts are the laws.
+//! Laws of frames and of the reading of texts, for the crates above: functions without an effect,
+//! whose contracts are the laws.
 ghost use Rattle.std.specs.Prelude.{◌≡◌, ◌+◌, ◌<◌, ◌≤◌, ◌↔◌, ℕ, Bool, true, false, List, [], ◌∷◌};
 ghost use Rattle.std.specs.Prelude.{◌++◌, length, take, drop, slice_index, replicate};
 ghost use Rattle.std.specs.Prelude.{if◌then◌else◌, Some, None, Result, Ok, Err};
@@ -25,7 +25,7 @@ pub fn items_of_nothing()
     ensures ending { (max : ℕ) → ending max [] ≡ beginning [] }
 {}
 
-/// A text that goes on is read on from where its reading ended: what was yielded stays.
+/// If a text is continued, reading resumes where it ended: the items yielded before stay.
 pub fn items_of_longer()
     ensures items { (max : ℕ) (text more_text : List ℕ)
         → items max (text ++ more_text) ≡ items max text
@@ -35,8 +35,8 @@ pub fn items_of_longer()
         ≡ (read max (with_more (ending max text) more_text)).place }
 {}
 
-/// The table of reading, row by row: what a text yields that begins at an offset, and where reading
-/// goes on. If the text is too short for its row, reading ends there.
+/// The table of reading, row by row: the items that a text yields at an offset, and where reading
+/// resumes. If the text is too short for its row, reading ends there.
 pub fn reading_table()
     ensures nothing { (max o : ℕ) (lost : Bool)
         → read max (place_untold o lost []) ≡ outcome_at_end (place_untold o lost []) }
@@ -66,7 +66,7 @@ pub fn reading_table()
         ((Format o HeaderFault.CountZero, []) ∷ []) (read max (place_untold (o + 8) false
         (drop 8 t))) }
 
-    // A control header is a whole frame; another has data, and their check.
+    // A control header is a whole frame; any other has data, and their CRC.
     ensures control { (max o : ℕ) (lost : Bool) (t : List ℕ) (h : HeaderValue)
         → is_start (slice_index t 0) ≡ true → 8 ≤ length t
         → parsed (take 8 t) ≡ Ok h → count_of h ≡ None
@@ -101,27 +101,27 @@ pub fn reading_table()
         (read max (place_untold (o + (n + 10)) false (drop (n + 10) t))) }
 {}
 
-/// What eight bytes are parsed as is what the spelling of headers says that they are.
+/// Eight bytes are parsed as the encoding of headers defines.
 pub fn parsed_is_the_spelling()
     ensures { (verdict : Result HeaderValue HeaderFaultValue) (bytes : List ℕ) → length bytes ≡ 8
         → (parsed bytes ≡ verdict) ↔ Says verdict bytes }
 {}
 
-/// The good frames of a text that goes on only grow at their end.
+/// If a text is continued, its good frames only grow at their end.
 pub fn good_frames_of_longer()
     ensures { (max : ℕ) (text more_text : List ℕ)
         → good_frames max (text ++ more_text) ≡ good_frames max text
         ++ good_frames_in (read max (with_more (ending max text) more_text)).items }
 {}
 
-/// The place where reading ends counts the bytes that were read.
+/// The offset where reading ends counts the bytes that were read.
 pub fn ending_counts()
     ensures { (max : ℕ) (text : List ℕ) → (ending max text).offset + length (ending max text).rest
         ≡ length text }
 {}
 
-/// If nothing is open, fill and a whole frame are one good item and leave nothing open, whether
-/// synchronism was lost or not.
+/// If no frame is unfinished, fill and a whole frame are one good item and leave none unfinished,
+/// whether synchronism was lost or not.
 pub fn whole_frame()
     ensures item { (max fill : ℕ) (text message : List ℕ) (h : HeaderValue)
         → open_at_end max text ≡ 0 → IsInRange h → IsFrame h message → length message ≤ max
@@ -132,7 +132,7 @@ pub fn whole_frame()
         → open_at_end max (text ++ (replicate fill SYN ++ wire h message)) ≡ 0 }
 {}
 
-/// A header has one spelling, its six bytes, and no six bytes spell two headers.
+/// A header has one encoding, its six bytes, and no six bytes encode two headers.
 pub fn spellings()
     ensures spelled { (h : HeaderValue) → IsInRange h → Spells h (six_bytes h) }
     ensures one { (h : HeaderValue) (bytes : List ℕ) → IsBytes bytes → Spells h bytes → bytes

@@ -1,4 +1,4 @@
-//! Frames of DDCMP: headers and their spelling, frames on the line, and the reader of a line.
+//! Frames of DDCMP: headers and their encoding, frames on the line, and the reader of a line.
 #![tactic(auto)]
 
 pub mod codes;

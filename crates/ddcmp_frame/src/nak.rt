@@ -21,7 +21,7 @@ pub enum Nak {
 }
 
 impl Nak {
-    /// Returns the reason that the SUBTYPE of a NAK names.
+    /// Returns the reason with this SUBTYPE of a NAK.
     pub fn of(sub: u8) -> Nak
         ensures reason { result ≡ reason_of sub }
         ensures subtype { subtype_of result ≡ sub }

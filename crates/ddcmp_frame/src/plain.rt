@@ -1,5 +1,5 @@
-//! The plain reader, which keeps the bytes of the unfinished frame and reads their front again with
-//! each byte: the yardstick for `Reader`, whose contract it has.
+//! The plain reader, which buffers the bytes of the unfinished frame and parses them again from the
+//! front with each byte: a reference for `Reader`, with the same contract.
 ghost use Rattle.std.specs.Prelude.{◌≡◌, ◌+◌, ◌-◌, ◌<◌, ◌≤◌, ◌^◌, ℕ, Bool, true, false, List, []};
 ghost use Rattle.std.specs.Prelude.{◌∷◌, ◌++◌, length, take, drop, Some, None, vec_len};
 ghost use Rattle.std.specs.Prelude.{vec_capacity, if◌then◌else◌};
@@ -17,16 +17,16 @@ use crate::reader::ReaderRefusal;
 use std::alloc::Global;
 use std::marker::Model;
 
-/// A reader of frames that takes one byte at a time. After `new` it doesn't allocate.
+/// A reader of frames that is fed one byte at a time. After `new` it doesn't allocate.
 #[derive(Drop)]
 pub struct PlainReader {
     max: u16,
     offset: u64,
     lost: bool,
-    // The bytes from the start byte of the last frame on, and whether they were read whole.
+    // The bytes from the start byte of the last frame on, and whether that was read whole.
     buffer: Vec<u8>,
     finished: bool,
-    // Of a too long frame, how many bytes have come and how many are to come.
+    // The number of bytes of a frame that is too long: received, and still to come.
     skipped: usize,
     left: usize,
     // How many bytes of data after the header are lent.
@@ -56,23 +56,23 @@ impl Model for PlainReader {
     ghost invariant = { HasPlainRoom };
 }
 
-/// One row of the table, as it is found at the front of the bytes held.
+/// One row of the table, as it applies at the front of the bytes held.
 #[derive(Clone, Copy)]
 enum Step {
     /// The frame that begins here is unfinished.
     Unfinished,
     /// No header begins with the first byte.
     Skips,
-    /// The check of the header is wrong.
+    /// The CRC of the header is wrong.
     Fails,
-    /// A header with more data than the reader takes, this many bytes.
+    /// A header with more data than the reader accepts, this many bytes.
     Announces(Header, usize),
     /// An item, and how many bytes of data are lent beside it.
     Gives(Item, usize),
 }
 
 impl PlainReader {
-    /// Makes a reader of frames with at most `max` bytes of data. It takes memory for one frame.
+    /// Makes a reader of frames with at most `max` bytes of data. Allocates memory for one frame.
     pub fn new(alloc: Global, max: u16) -> Result<PlainReader, ReaderRefusal>
         ensures { MakesReader max result }
     {
@@ -91,7 +91,7 @@ impl PlainReader {
         }
     }
 
-    /// Takes one byte; returns the item that it completes.
+    /// Handles one byte; returns the item that it completes.
     pub fn push(&mut self, byte: u8) -> Option<Item>
         requires { self.old.offset + 1 < 2 ^ 64 }
         ensures { Pushes self.old byte result self.new }
@@ -151,7 +151,7 @@ impl PlainReader {
         }
     }
 
-    /// Returns the data of the good item that the last push completed, else none.
+    /// Returns the data of the good item that the last push completed, otherwise none.
     pub fn data(&self) -> &[u8]
         ensures { result.now ≡ self.now.lent }
     {
@@ -178,7 +178,7 @@ impl PlainReader {
         self.kept() + self.skipped
     }
 
-    /// Returns the number of bytes of the unfinished frame that are kept.
+    /// Returns the number of buffered bytes of the unfinished frame.
     pub fn kept(&self) -> usize
         ensures value { result ≡ kept_of self.now }
         ensures text { (text : List ℕ) → StandsFor self.now text → result
@@ -203,7 +203,7 @@ impl PlainReader {
     }
 }
 
-/// Appends a byte to the bytes held, or replaces them if they were read whole.
+/// Appends a byte to the bytes held, or replaces them if they are a frame that was read whole.
 fn store(buffer: &mut Vec<u8>, finished: bool, byte: u8)
     requires some { 0 < vec_capacity buffer.old }
     requires room { finished ≡ false → vec_len buffer.old < vec_capacity buffer.old }
@@ -219,7 +219,7 @@ fn store(buffer: &mut Vec<u8>, finished: bool, byte: u8)
     }
 }
 
-/// The row that fits at the front of the bytes, which begin at the offset `at`.
+/// Returns the row that applies at the front of the bytes, which begin at the offset `at`.
 fn row(bytes: &[u8], max: u16, at: u64) -> Step
     ensures row { (lost : Bool) → row_at max (place_untold at lost bytes.now)
         ≡ row_of_step result (place_untold at lost bytes.now) }
@@ -245,7 +245,7 @@ fn row(bytes: &[u8], max: u16, at: u64) -> Step
     }
 }
 
-/// The row that fits after a right header.
+/// Returns the row that applies after a right header.
 fn row_after_header(bytes: &[u8], max: u16, at: u64, header: Header) -> Step
     requires front { 8 ≤ length bytes.now }
     requires header { parsed (take 8 bytes.now) ≡ Ok header }

@@ -1,4 +1,4 @@
-//! A reader of frames that takes the bytes of a line in pieces.
+//! A reader of frames that is fed the bytes of a line in chunks of any size.
 ghost use Rattle.std.specs.Prelude.{◌≡◌, ◌+◌, ◌<◌, ◌≤◌, ◌^◌, ℕ, List, [], length, Some, None};
 ghost use Rattle.std.specs.Prelude.{IsSome, IfSome};
 ghost use Rattle.ddcmp_frame.specs.Fields.{CountedFields};
@@ -13,7 +13,7 @@ use crate::scan::{Phase, Scan};
 use std::alloc::Global;
 use std::marker::Model;
 
-/// Why no reader was made.
+/// The reason why no reader was made.
 #[derive(Clone, Copy, Debug, PartialEq, Eq)]
 pub enum ReaderRefusal {
     /// No frame has data of no bytes.
@@ -24,7 +24,7 @@ pub enum ReaderRefusal {
     Memory,
 }
 
-/// A reader of frames that takes a byte stream in chunks of any size. After `new` it doesn't
+/// A reader of frames that is fed a byte stream in chunks of any size. After `new` it doesn't
 /// allocate.
 ///
 /// Pass a chunk to `push_all`, and what it didn't use again; `data` lends the data of the item that
@@ -46,7 +46,7 @@ impl Model for Reader {
 }
 
 impl Reader {
-    /// Makes a reader of frames with at most `max` bytes of data. It takes memory for one frame.
+    /// Makes a reader of frames with at most `max` bytes of data. Allocates memory for one frame.
     pub fn new(alloc: Global, max: u16) -> Result<Reader, ReaderRefusal>
         ensures { MakesReader max result }
     {
@@ -65,7 +65,7 @@ impl Reader {
         }
     }
 
-    /// Takes one byte; returns the item that it completes.
+    /// Handles one byte; returns the item that it completes.
     pub fn push(&mut self, byte: u8) -> Option<Item>
         requires { self.old.offset + 1 < 2 ^ 64 }
         ensures { Pushes self.old byte result self.new }
@@ -75,7 +75,7 @@ impl Reader {
         taken.item
     }
 
-    /// Takes the bytes of a chunk, up to and with the first that completes an item.
+    /// Handles the bytes of a chunk, up to and with the first that completes an item.
     #[inline(always)]
     pub fn push_all(&mut self, piece: &[u8]) -> Pushed
         requires { self.old.offset + length piece.now < 2 ^ 64 }
@@ -85,7 +85,7 @@ impl Reader {
         self.scan.take_all(piece)
     }
 
-    /// Takes the data frame at the front of a chunk, if none is unfinished and this one is whole
+    /// Handles the data frame at the front of a chunk, if none is unfinished and this one is whole
     /// and right; returns its fields. It does what `push_all` does, but the data stay in the chunk,
     /// after the eight bytes of the header.
     #[inline(always)]
@@ -101,7 +101,7 @@ impl Reader {
         self.scan.take_frame(piece)
     }
 
-    /// Returns the data of the good item that the last push completed, else none.
+    /// Returns the data of the good item that the last push completed, otherwise none.
     #[inline(always)]
     pub fn data(&self) -> &[u8]
         ensures { result.now ≡ self.now.lent }
@@ -112,7 +112,7 @@ impl Reader {
         &self.scan.buffer[8..8 + self.scan.lent]
     }
 
-    /// The most data that a frame may have.
+    /// Returns the most data that a frame may have, in bytes.
     pub fn max(&self) -> u16
         ensures { result ≡ self.now.max }
     {
@@ -136,7 +136,7 @@ impl Reader {
         self.scan.open()
     }
 
-    /// Returns the number of bytes of the unfinished frame that are kept.
+    /// Returns the number of buffered bytes of the unfinished frame.
     pub fn kept(&self) -> usize
         ensures value { result ≡ kept_of self.now }
         ensures text { (text : List ℕ) → StandsFor self.now text → result

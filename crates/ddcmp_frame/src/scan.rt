@@ -1,4 +1,4 @@
-//! A scan of a line for frames, step by step. `Reader` is what callers see of it.
+//! A scan of a line for frames, step by step. Callers see it as `Reader`.
 ghost use Rattle.std.specs.Prelude.{◌≡◌, ◌+◌, ◌<◌, ◌≤◌, ◌^◌, ◌++◌, ℕ, true, false, length};
 ghost use Rattle.std.specs.Prelude.{slice_index, take, List, Some, None, IsSome, IfSome, vec_len};
 ghost use Rattle.std.specs.Prelude.{vec_capacity};
@@ -15,33 +15,34 @@ use crate::held::{count_of, data_right, loss, resume};
 use crate::item::{Item, Pushed};
 use memchr::memchr3;
 
-/// What the next byte belongs to.
+/// The phase of a scan: what the next byte belongs to.
 #[derive(Clone, Copy)]
 pub(crate) enum Phase {
     /// A header, if it is a start byte. The frame in the buffer was read whole.
     Seeking,
     /// The header that begins in the buffer.
     Header,
-    /// The data, or their check, of the frame that begins in the buffer with this header.
+    /// The data, or their CRC, of the frame that begins in the buffer with this header.
     Frame { header: Header, count: usize },
-    /// A too long frame: how many of its bytes have come, and how many are to come.
+    /// A frame that is too long: how many of its bytes were received, and how many are still to
+    /// come.
     TooLong { skipped: usize, left: usize },
 }
 
-/// What eight bytes from a start byte on are.
+/// The meaning of eight bytes from a start byte on.
 #[derive(Clone, Copy)]
 enum Candidate {
-    /// Their check is wrong.
+    /// Their CRC is wrong.
     Fails,
-    /// A whole frame, or a header that none is.
+    /// A whole frame, or a header of no known form.
     Gives(Item),
     /// The header of a frame with this COUNT.
     Begins(Header, usize),
-    /// The header of a frame with this COUNT, which is more than the reader takes.
+    /// The header of a frame with this COUNT, which is more than the reader accepts.
     Announces(Header, usize),
 }
 
-/// The bytes of the last frame so far, and the place of the scan.
+/// The bytes of the last frame so far, and the state of the scan.
 #[derive(Drop)]
 pub(crate) struct Scan {
     pub(crate) max: u16,
@@ -54,7 +55,7 @@ pub(crate) struct Scan {
 }
 
 impl Scan {
-    /// Takes bytes of a chunk, up to the first that completes an item.
+    /// Handles bytes of a chunk, up to the first that completes an item.
     #[inline(always)]
     pub(crate) fn take_all(&mut self, piece: &[u8]) -> Pushed
         requires sound { IsSoundScan self.old }
@@ -81,7 +82,7 @@ impl Scan {
         Pushed { used, item: None }
     }
 
-    /// Takes the data frame at the front of a chunk, if none is unfinished and this one is whole
+    /// Handles the data frame at the front of a chunk, if none is unfinished and this one is whole
     /// and right; returns its fields.
     #[inline(always)]
     pub(crate) fn take_frame(&mut self, piece: &[u8]) -> Option<Counted>
@@ -94,7 +95,7 @@ impl Scan {
         ensures found { (h : CountedFields) (message rest : List ℕ) → self.old.phase ≡ Phase.Seeking
             → BeginsWith self.old.max piece.now h message rest → result ≡ Some h }
     {
-        // A frame of another kind costs this test alone.
+        // For any other frame this test is the only cost.
         if piece.is_empty() || piece[0] != DATA_START {
             return None;
         }
@@ -113,7 +114,7 @@ impl Scan {
         }
     }
 
-    /// Takes at least one byte of a piece, and at most those that belong to the same phase.
+    /// Handles at least one byte of a piece, and at most those that belong to the same phase.
     #[inline(always)]
     pub(crate) fn take(&mut self, piece: &[u8]) -> Pushed
         requires ready { IsReady self.old piece.now }
@@ -132,8 +133,8 @@ impl Scan {
         }
     }
 
-    /// Passes over bytes up to the next start byte, or takes the one at the front as the first of a
-    /// header that isn't whole here, or is none.
+    /// Skips bytes up to the next start byte, or buffers the one at the front as the first of a
+    /// header that is incomplete here, or is none.
     fn seek(&mut self, piece: &[u8]) -> Pushed
         requires ready { IsReady self.old piece.now }
         requires phase { self.old.phase ≡ Phase.Seeking }
@@ -159,7 +160,7 @@ impl Scan {
         }
     }
 
-    /// Takes a header that is whole at the front of a chunk. One that is a frame isn't copied.
+    /// Handles a header that is whole at the front of a chunk. One that is a frame isn't copied.
     #[inline(always)]
     fn take_whole_header(&mut self, piece: &[u8], front: &[u8; 8]) -> Pushed
         requires ready { IsReady self.old piece.now }
@@ -203,7 +204,7 @@ impl Scan {
         }
     }
 
-    /// Takes bytes of a header. The eighth decides what follows.
+    /// Handles bytes of a header. The eighth decides what follows.
     #[inline(always)]
     fn take_header(&mut self, piece: &[u8]) -> Pushed
         requires ready { IsReady self.old piece.now }
@@ -252,7 +253,7 @@ impl Scan {
         }
     }
 
-    /// Takes bytes of the data and their CRC. The last one completes the item of the frame.
+    /// Handles bytes of the data and their CRC. The last one completes the item of the frame.
     #[inline(always)]
     fn take_data(&mut self, piece: &[u8], header: Header, count: usize) -> Pushed
         requires ready { IsReady self.old piece.now }
@@ -283,7 +284,7 @@ impl Scan {
         }
     }
 
-    /// Passes over bytes of a too long frame.
+    /// Skips bytes of a frame that is too long.
     fn pass(&mut self, piece: &[u8], skipped: usize, left: usize) -> Pushed
         requires ready { IsReady self.old piece.now }
         requires phase { self.old.phase ≡ Phase.TooLong skipped left }
@@ -305,7 +306,7 @@ impl Scan {
         Pushed { used, item: None }
     }
 
-    /// Returns the number of bytes of the unfinished frame that are kept.
+    /// Returns the number of buffered bytes of the unfinished frame.
     pub(crate) fn kept(&self) -> usize
         requires sound { IsSoundScan self.now }
         ensures value { result ≡ kept_of (view_of self.now) }
@@ -329,7 +330,7 @@ impl Scan {
     }
 }
 
-/// Returns how many bytes come before the first start byte. Inlined, it would have each item
+/// Returns the number of bytes before the first start byte. Inlined, it would have each item
 /// prepare for the search, which few need.
 #[inline(never)]
 fn before_start(piece: &[u8]) -> usize
@@ -341,7 +342,7 @@ fn before_start(piece: &[u8]) -> usize
     memchr3(CONTROL_START, DATA_START, MAINT_START, piece).unwrap_or(piece.len())
 }
 
-/// Returns what the next byte belongs to if these are held, which begin with a start byte.
+/// Returns the phase of a scan that holds these bytes, which begin with a start byte.
 fn phase_of(held: &[u8]) -> Phase
     ensures none { length held.now ≡ 0 → result ≡ Phase.Seeking }
     ensures some { 0 < length held.now → result ≡ Phase.Header }
@@ -391,7 +392,7 @@ fn data_frame(piece: &[u8], max: u16) -> Option<Counted>
 }
 
 /// Returns whether the frame at the front of a chunk, whose header has this COUNT, is whole, with
-/// the right check of its data, which are at most `max` bytes.
+/// at most `max` bytes of data and a right CRC of these.
 #[inline(always)]
 fn is_whole(piece: &[u8], count: u16, max: u16) -> bool
     ensures bytes { result ≡ true → IsBytes (take (count + 10) piece.now) }
@@ -404,7 +405,7 @@ fn is_whole(piece: &[u8], count: u16, max: u16) -> bool
     count <= max && end <= piece.len() && data_right(&piece[..end], count as usize)
 }
 
-/// Returns what eight bytes are that begin with a start byte, at the offset `at`.
+/// Returns the meaning of eight bytes that begin with a start byte, at the offset `at`.
 #[inline(always)]
 fn candidate_at(front: &[u8; 8], max: u16, at: u64) -> Candidate
     requires start { is_start_byte (slice_index front.now 0) ≡ true }

@@ -1,4 +1,4 @@
-//! Frames as they go on the line.
+//! Frames as they are written to the line.
 ghost use Rattle.std.specs.Prelude.{◌≡◌, ◌+◌, ◌≤◌, ◌++◌, length, take, drop};
 ghost use Rattle.ddcmp_frame.specs.Wire.{wire, IsFrame};
 
@@ -36,7 +36,7 @@ pub fn write_around(header: &Header, count: usize, out: &mut [u8]) -> usize
     }
 }
 
-/// Writes `bytes` into `out` from `from` on; returns where they end.
+/// Writes `bytes` into `out` from `from` on; returns their end.
 fn put(out: &mut [u8], from: usize, bytes: &[u8]) -> usize
     requires { from + length bytes.now ≤ length out.old }
     ensures end { result ≡ from + length bytes.now }

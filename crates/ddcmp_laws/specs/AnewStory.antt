@@ -1,5 +1,5 @@
 -- One run of two sessions that are connected twice, written out: a frame is lost with the first
--- line, and over the second one a message comes through.
+-- line, and a message is delivered over the second.
 use Rattle.std.specs.Prelude.{◌≡◌, true, List, [], ◌∷◌, ◌++◌}
 use Rattle.ddcmp_frame.specs.Reader.{ReaderView}
 use Rattle.ddcmp_pair.specs.declared.event.End.{End}
@@ -30,8 +30,8 @@ small_connections line other_line = first_connections (small_made line) (small_m
 abbrev pub steps_anew : ReaderView → ReaderView → List (End × SessionStep)
 steps_anew line other_line = steps_anew_by calls_anew (small_connections line other_line)
 
--- How it ends: since it was connected again A has read a message, B has delivered the same, and A
--- may end as delivered.
+-- How it ends: since it was connected again A has read a message, B has delivered the same, and
+-- `is_delivered` holds for A.
 pub record HasComeThroughAnew (line : ReaderView) (p : Connections) : Type 0 where
   pub read : read_since (small_made line) p.a ≡ abc ∷ []
   pub delivered : delivered_since p.b ≡ abc ∷ []

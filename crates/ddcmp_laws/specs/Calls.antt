@@ -1,4 +1,4 @@
--- What is done to one station, call by call, and what goes in and comes out.
+-- One station, call by call: what each call changes, accepts and returns.
 use Rattle.std.specs.Prelude.{◌≡◌, ◌⊎◌, ℕ, List, [], ◌∷◌, ◌++◌, map, if◌then◌else◌, option_to_list}
 use Rattle.ddcmp_core.specs.Store.{first_message}
 use Rattle.ddcmp_core.specs.Table.{Limits, StationState, Frame, Data, Acked, Naked, Strt, Maint}
@@ -6,8 +6,8 @@ use Rattle.ddcmp_core.specs.Table.{Received, Good, on, next, next_frame, after_n
 use Rattle.ddcmp_core.specs.Table.{may_send_maintenance, after_accept, after_take, after_expire}
 use Rattle.ddcmp_core.specs.Table.{after_take_arm}
 
--- The user sends a message or a maintenance message or takes one, a frame is asked for, something
--- comes, the timer expires, or its start is taken note of.
+-- The user sends a message or a maintenance message, or takes one; a frame is asked for; something
+-- is received; the timer expires; or its start is noted.
 pub data Call : Type 0 where
   Sending : List ℕ → Call
   SendingMaintenance : List ℕ → Call
@@ -32,7 +32,7 @@ unfoldable pub after_calls : Limits → List Call → StationState → StationSt
 after_calls l [] s = s
 after_calls l (c ∷ rest) s = after_calls l rest (after_call l c s)
 
--- ---- what goes in and comes out
+-- ---- what is accepted, sent and taken
 
 abbrev pub accepted_by : Limits → Call → StationState → List (List ℕ)
 accepted_by l (Sending message) s = if may_send l s message then message ∷ [] else []
@@ -61,37 +61,37 @@ unfoldable pub taken_in : Limits → List Call → StationState → List (List �
 taken_in l [] s = []
 taken_in l (c ∷ rest) s = taken_by l c s ++ taken_in l rest (after_call l c s)
 
--- the maintenance messages that come
+-- the maintenance messages that are received
 unfoldable pub maintenance_in : List Call → List (List ℕ)
 maintenance_in [] = []
 maintenance_in (Coming (Good (Maint message)) ∷ rest) = message ∷ maintenance_in rest
 maintenance_in (c ∷ rest) = maintenance_in rest
 
--- ---- what the laws say of them
+-- ---- what the laws state about them
 
--- Messages are others in their order, of which some may be missing.
+-- The messages are the received ones in their order, of which some may be missing.
 abbrev pub IsOrLost : List (List ℕ) → List (List ℕ) → Type 0
 IsOrLost [] came = Unit {0}
 IsOrLost (message ∷ rest) [] = ⊥
 IsOrLost (message ∷ rest) (first ∷ came) =
     ((message ≡ first) × IsOrLost rest came) ⊎ IsOrLost (message ∷ rest) came
 
--- What is sent are maintenance messages; after those that were to be sent, they are the accepted
--- ones in their order, each once, and what isn't sent yet is still to be sent.
+-- All frames sent are maintenance messages. Those sent, and then those still queued, are the
+-- messages that were queued before, and then the accepted ones, in their order and each once.
 pub record SendsInOrder (l : Limits) (calls : List Call) (s : StationState) : Type 0 where
   pub messages : List (List ℕ)
   pub frames : sent_in l calls s ≡ map (λ message. Maint message) messages
   pub order : messages ++ (after_calls l calls s).out ≡ s.out ++ accepted_in l calls s
 
--- What was delivered, taken or still in the inbox, is after the received messages that were there
--- what came, in its order and each once, or lost.
+-- The messages taken, and then those still in the inbox, are the messages that were in the inbox
+-- before, and then the received ones in their order, each once or lost.
 pub record HandsUpInOrder (l : Limits) (calls : List Call) (s : StationState) : Type 0 where
   pub messages : List (List ℕ)
   pub handed_up : taken_in l calls s ++ (after_calls l calls s).inbox ≡ s.inbox ++ messages
   pub order : IsOrLost messages (maintenance_in calls)
 
--- These calls leave a message that was sent unanswered: what comes acknowledges nothing after a
--- and is no NAK and no STRT, and the timer doesn't expire.
+-- These calls leave a message that was sent unanswered: no input acknowledges anything after a, or
+-- is a NAK or a STRT, and the timer doesn't expire.
 abbrev pub LeavesUnanswered : ℕ → List Call → Type 0
 LeavesUnanswered a [] = Unit {0}
 LeavesUnanswered a (Coming (Good (Acked resp)) ∷ rest) = (resp ≡ a) × LeavesUnanswered a rest

@@ -1,5 +1,5 @@
--- Two runs over one connection, which gives its bytes in order: without a word of frames, what the
--- input of one gave is what the output of the other took.
+-- Two runs over one connection, which yields its bytes in order: the input of one is the output of
+-- the other. No premise about frames is needed.
 use Rattle.std.specs.Prelude.{◌≡◌, ℕ, ◌+◌, ◌≤◌, ⊤, List, [], ◌∷◌, None}
 use Rattle.ddcmp_proto.specs.Config.{first_refusal}
 use Rattle.ddcmp_pair.specs.declared.event.End.{End}
@@ -24,13 +24,14 @@ IsConnectedOnce ran = connections_in ran.steps ≤ 1
 
 -- ---- one run
 
--- nothing was read, and no message delivered, before the session was connected
+-- before the session was connected, nothing was read from its input and no message was delivered
 pub record IsBareBefore (c : Connection) : Type 0 where
   pub none_read : c.input_before ≡ []
   pub none_delivered : mail_in c.shown_before ≡ []
 
 -- The calls of a run, in which `connected` clears the line, are a history of its session, in which
--- the line was clear; and all that it has had and given, it has since it was connected.
+-- the line was clear already; and all that the session read and delivered was after it was
+-- connected.
 pub record IsOneHistory (ran : Ran) : Type 0 where
   pub calls : IsSessionHistory ran.steps (session_of ran.made)
   pub same : (got_to ran).history ≡ after_session_steps ran.steps (session_of ran.made)
@@ -38,7 +39,7 @@ pub record IsOneHistory (ran : Ran) : Type 0 where
 
 -- ---- two runs in some order of their calls
 
--- what both have had and given since they were connected
+-- the histories of both since they were connected
 abbrev pub histories_of : Connections → Sessions
 histories_of p = record { a = p.a.history; b = p.b.history }
 
@@ -49,16 +50,16 @@ AreOverStreams (step ∷ rest) p =
     AreSessionStreams (histories_of (after_step_at step.0 step.1 p))
     × AreOverStreams rest (after_step_at step.0 step.1 p)
 
--- After each call, what each has used of its line is a beginning of what the line of the other has
--- taken.
+-- After each call, the bytes that each has used from its line are a prefix of those that the other
+-- has written to its line.
 pub record RanOverStreams (a b : Ran) : Type 0 where
   pub steps : List (End × SessionStep)
   pub of_a : calls_of A steps ≡ a.steps
   pub of_b : calls_of B steps ≡ b.steps
   pub streams : AreOverStreams steps (first_connections a.made b.made)
 
--- A promise about two runs is kept over one connection: of new sessions of any sizes in range, each
--- connected at most once, whatever their calls.
+-- A promise about two runs is kept over one connection, for new sessions of any sizes in range,
+-- each connected at most once, whatever their calls.
 abbrev pub IsKeptOverOneConnection : (Ran → Ran → Type 0) → Type 0
 IsKeptOverOneConnection Promise = (a b : Ran)
     → first_refusal a.made.options.config ≡ None → first_refusal b.made.options.config ≡ None
@@ -66,7 +67,7 @@ IsKeptOverOneConnection Promise = (a b : Ran)
     → IsConnectedOnce a → IsConnectedOnce b
     → RanOverStreams a b → Promise a b
 
--- Calls of two sessions as in the laws of sessions over connections are two such runs.
+-- These steps, which are calls of two sessions over one connection, are two such runs.
 pub record AreTwoRuns (first second : Made) (steps : List (End × SessionStep)) : Type 0 where
   pub of_a : AreDone (calls_of A steps) (first_connection first)
   pub of_b : AreDone (calls_of B steps) (first_connection second)
@@ -74,7 +75,7 @@ pub record AreTwoRuns (first second : Made) (steps : List (End × SessionStep)) 
   pub once_b : connections_in (calls_of B steps) ≤ 1
   pub streams : AreOverStreams steps (first_connections first second)
 
--- Two runs in binary are in files: over the lines before, of which there is none, no message came.
+-- If two runs are in binary, they satisfy `InFiles`, since there was no line before.
 abbrev pub BinaryIsInFiles : Ran → Ran → Type 0
 BinaryIsInFiles giver taker = giver.made.options.form ≡ form.Binary
     → taker.made.options.form ≡ form.Binary → InFiles giver taker

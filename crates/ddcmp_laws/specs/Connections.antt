@@ -1,5 +1,5 @@
--- Two sessions that are connected as often as their users like: what is promised since each was
--- connected last.
+-- Two sessions that are connected any number of times: what is promised since each was connected
+-- last.
 use Rattle.std.specs.Prelude.{◌≡◌, ℕ, Bool, true, List, [], ◌∷◌, ◌++◌, length, drop, None}
 use Rattle.ddcmp_proto.specs.Config.{first_refusal}
 use Rattle.ddcmp_pair.specs.declared.event.End.{End}
@@ -55,29 +55,29 @@ link_steps (step ∷ rest) p =
     (link_steps_of step.1.call (at step.0 p).history.session step.1.session.link)
     ++ link_steps rest (after_step_at step.0 step.1 p)
 
--- the messages that its input has had since
+-- the messages read from its input since then
 abbrev pub read_since : Made → Connection → List (List ℕ)
 read_since made c =
     drop (length (messages_of made.options.form made.options.config.max c.input_before))
     (messages_of made.options.form made.options.config.max c.history.input)
 
--- the messages that it has delivered since
+-- the messages that it has delivered since then
 abbrev pub delivered_since : Connection → List (List ℕ)
 delivered_since c = drop (length (mail_in c.shown_before)) (mail_in c.history.shown)
 
--- What one session has delivered since it was connected are the first of the messages that the
--- input of the other has had since that one was, in their order, each once and unchanged.
+-- The messages that one session has delivered since it was connected are a prefix of those read
+-- from the other's input since that was connected, each once and unchanged.
 abbrev pub PipesAnew : Made → Connection → Connection → Type 0
 PipesAnew made giver taker = IsPrefixOf (delivered_since taker) (read_since made giver)
 
--- If one session may end as delivered, the other has received all of the messages that its input
--- has had since: these, and no others.
+-- If `is_delivered` holds for one session, the other has received all messages read from its input
+-- since then: these, and no others.
 abbrev pub PipesAllAnew : Made → Connection → Connection → Type 0
 PipesAllAnew made giver taker = is_delivered giver.history.session ≡ true
     → delivered_since taker ++ undelivered taker.history ≡ read_since made giver
 
--- If one session is closed then, and nothing was lost, the other has received all of the messages
--- that its input has had since, and what was left of the input has none.
+-- If one session is closed and nothing was lost, the other has received all messages read from its
+-- input since then, and the rest of the input has no message.
 abbrev pub PipesClosedAnew : Made → Connection → Connection → Type 0
 PipesClosedAnew made giver taker =
     (left : List ℕ) (is_at_end is_reported : Bool) (closed : SessionView)
@@ -86,15 +86,15 @@ PipesClosedAnew made giver taker =
     × (lost_among left giver.history.session ≡ 0)
     × (lost_at_end left is_at_end giver.history.session ≡ 0)
 
--- In binary, what the output took and what waits for it is what it had of messages before, and then
--- those that were delivered since.
+-- In binary, the bytes written to the output and those queued for it are the messages that were
+-- delivered before, and then those delivered since.
 abbrev pub WritesAnew : Made → Connection → Type 0
 WritesAnew made c = made.options.form ≡ form.Binary
     → c.history.written ++ c.history.session.output.waiting
     ≡ in_binary (mail_in c.shown_before) ++ in_binary (delivered_since c)
 
--- A promise about two sessions is kept however often they are connected: it holds for two new
--- sessions of any sizes in range, whatever the calls, the moments and the cuts, if the line is
+-- A promise about two sessions is kept however often they are connected, for two new sessions of
+-- any sizes in range, whatever the calls, the moments and the chunks of bytes, if the line is
 -- honest and the run clean since the lines were cleared.
 abbrev pub IsKeptAnew : (Made → Made → Connections → Type 0) → Type 0
 IsKeptAnew Promise = (first second : Made) (steps : List (End × SessionStep))

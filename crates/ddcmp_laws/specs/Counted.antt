@@ -1,4 +1,4 @@
--- What the counters of a station say of what comes, and those of an end of its histories.
+-- What the counters of a station count of its input, and those of an end of its histories.
 use Rattle.std.specs.Prelude.{◌≡◌, ℕ, ◌+◌, ◌≤◌, Bool, true, false, List, [], ◌∷◌, ◌++◌, length}
 use Rattle.std.specs.Prelude.{sum_by, replicate, if◌then◌else◌}
 use Rattle.ddcmp_frame.specs.declared.nak.Nak.TheVariants as reason
@@ -48,14 +48,14 @@ all_naks c =
     c.header_check + (c.data_check + (c.reply_to_rep + (c.no_buffer + (c.overrun
     + (c.too_long + (c.format + c.other))))))
 
--- ---- what comes
+-- ---- input
 
--- what a station has counted after all this came, one after another
+-- the counters of a station after all this input
 unfoldable pub counted_after : Limits → List Received → StationState → Counters → Counters
 counted_after l [] s c = c
 counted_after l (h ∷ rest) s c = counted_after l rest (on l s h) (counters_on l s h c)
 
--- each fault as often as no other
+-- each fault a different number of times
 abbrev pub written_faults : List Received
 written_faults =
     BadHeader ∷ BadData true ∷ BadData false ∷ TooLong true ∷ TooLong false ∷ TooLong true
@@ -72,7 +72,7 @@ counts_of_faults = record no_counts {
 abbrev pub times : ℕ → Frame → List Received
 times n frame = replicate n (Good frame)
 
--- each reason of a NAK as often as no other, and REPs
+-- each reason of a NAK a different number of times, and REPs
 abbrev pub written_replies : List Received
 written_replies =
     times 1 (Naked reason.HeaderCheck 0) ++ (times 2 (Naked reason.DataCheck 0)
@@ -98,15 +98,15 @@ counts_of_replies = record no_counts {
 
 -- ---- a run
 
--- the line is never cleared, which would begin the histories again and not the counters
+-- the line is never cleared, which would restart the histories and not the counters
 abbrev pub NeverClears : List Event → Type 0
 NeverClears [] = Unit {0}
 NeverClears (event.Clear ∷ rest) = ⊥
 NeverClears (e ∷ rest) = NeverClears rest
 
--- If it sent no more frames, and delivered no more messages, than a counter can hold, an end
--- has counted each REP, each NAK and each message that it sent, for the first time or again, and
--- each that was delivered.
+-- If an end sent no more frames, and delivered no more messages, than a counter can hold, it has
+-- counted each REP, each NAK and each message that it sent, for the first time or again, and each
+-- that was delivered.
 pub record HasCounted (x : EndState) : Type 0 where
   pub reps : length x.sent ≤ 4294967295 → x.core.counters.rep_sent ≡ frames_of is_rep x.sent
   pub naks : length x.sent ≤ 4294967295

@@ -2,8 +2,8 @@
 use Rattle.std.specs.Prelude.{◌≡◌, ◌≢◌, ℕ, ◌<◌, ◌≤◌, Bool, List, ◌∷◌, ◌++◌, length}
 use Rattle.ddcmp_num.specs.Check.{bits, check_of, check_pair}
 
--- The bits of two texts, in the order in which they go on the line, are the same but for at most 16
--- in a row.
+-- The bits of two texts, in the order in which they are sent, are equal except for at most 16 in a
+-- row.
 pub record DiffersInABurst (old new : List ℕ) : Type 0 where
   pub front : List Bool
   pub sent : List Bool
@@ -15,7 +15,7 @@ pub record DiffersInABurst (old new : List ℕ) : Type 0 where
   pub as_long : length came ≡ length sent
   pub other : sent ≢ came
 
--- two texts are the same but for one byte
+-- two texts are equal except for one byte
 pub record DiffersInOneByte (old new : List ℕ) : Type 0 where
   pub front : List ℕ
   pub sent : ℕ
@@ -27,6 +27,6 @@ pub record DiffersInOneByte (old new : List ℕ) : Type 0 where
   pub came_byte : came < 256
   pub other : sent ≢ came
 
--- six bytes and their check
+-- six bytes and their CRC
 abbrev pub with_check : List ℕ → List ℕ
 with_check six = six ++ check_pair (check_of six)

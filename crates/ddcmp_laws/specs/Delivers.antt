@@ -31,8 +31,8 @@ runs_out end [] = false
 runs_out end (e ∷ rest) = is_expiry end e || runs_out end rest
 
 -- The events of a round in any order: nothing is lost, no end starts or halts, the timer of each
--- end expires once or more, at any time (if it is off that does nothing), and the line comes to
--- rest.
+-- end expires at least once, at any time (an expiry has no effect if the timer is off), and the
+-- line comes to rest.
 pub record IsRoundInAnyOrder (events : List Event) (l : Line) : Type 0 where
   pub goes_on : GoesOn events
   pub loss_free : IsLossFree events l
@@ -40,13 +40,12 @@ pub record IsRoundInAnyOrder (events : List Event) (l : Line) : Type 0 where
   pub expires_b : runs_out B events ≡ true
   pub rests : IsAtRest (run_on_line events l)
 
--- An end runs, and as many messages were reported acknowledged to it as were delivered at the
--- other.
+-- An end runs, and the number of its messages reported acknowledged is that delivered at the other.
 pub record IsTold (from to : EndState) : Type 0 where
   pub runs : from.core.station.state ≡ Running
   pub acknowledged : from.acknowledged ≡ length (handed_up to)
 
--- both ends run, and know what was delivered at the other
+-- both ends run, and all that was delivered is reported acknowledged
 pub record AreTold (p : PairState) : Type 0 where
   pub from_a : IsTold p.a p.b
   pub from_b : IsTold p.b p.a

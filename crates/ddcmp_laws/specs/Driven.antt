@@ -1,4 +1,4 @@
--- Driven stations: which calls the turns of `drive` are, and what their users saw.
+-- Driven stations: which calls each turn of `drive` makes, and what their users saw.
 use Rattle.std.specs.Prelude.{◌≡◌, ℕ, ◌≤◌, ◌&&◌, nat_le, if◌then◌else◌, List, [], ◌∷◌, ◌++◌, length}
 use Rattle.std.specs.Prelude.{map, replicate, option_to_list, Option, Some, None}
 use Rattle.std.specs.List.{flat_map}
@@ -27,8 +27,8 @@ use Rattle.ddcmp_laws.specs.PairCalls.{after_calls_here, after_call_here, calls_
 
 -- ---- what a user sees of calls
 
--- A user offers a message that is sent, gets the notices of an arrival, and is passed what is
--- taken.
+-- A user offers a message to be sent, is passed the notices of received bytes, and is passed the
+-- message that is taken.
 abbrev pub shown_by : Call → EndState → List UserCall
 shown_by (Send message) x = calls_of_offer x.core message
 shown_by (Arrive bytes) x = calls_of_notices (notices_at bytes x)
@@ -39,7 +39,8 @@ unfoldable pub shown_in : List Call → EndState → List UserCall
 shown_in [] x = []
 shown_in (c ∷ rest) x = shown_by c x ++ shown_in rest (after_call_here c x)
 
--- A message that a user gave is accepted if it has a byte, and no more than there was room for.
+-- A message that a user returned is accepted if it has at least one byte, and at most the number
+-- for which there was room.
 abbrev pub accepted_of : UserCall → List (List ℕ)
 accepted_of (Asked room message) =
     if nat_le 1 (length message) && nat_le (length message) room then message ∷ [] else []
@@ -53,7 +54,7 @@ abbrev pub told_of : UserCall → List Notice
 told_of (Told n) = n ∷ []
 told_of _ = []
 
--- the messages that were accepted of a user, and those that it was handed
+-- the messages that were accepted from a user, and those that it was passed
 abbrev pub accepted_from : List UserCall → List (List ℕ)
 accepted_from seen = flat_map accepted_of seen
 
@@ -64,8 +65,8 @@ handed_to seen = flat_map handed_of seen
 abbrev pub acknowledged_to : List UserCall → ℕ
 acknowledged_to seen = acknowledged_in (flat_map told_of seen)
 
--- One user was handed the first of the messages that were accepted of the other, in their order,
--- each once and unchanged; and no more of them was reported acknowledged to the other.
+-- The messages that one user was passed are a prefix of those accepted from the other, each once
+-- and unchanged; and no more of them were reported acknowledged to the other.
 pub record Reaches (giver taker : List UserCall) : Type 0 where
   pub order : IsPrefixOf (handed_to taker) (accepted_from giver)
   pub acknowledged : acknowledged_to giver ≤ length (handed_to taker)
@@ -79,8 +80,7 @@ calls_of_timer now deadline k =
 abbrev pub calls_of_message : List ℕ → CoreView → List Call
 calls_of_message offered k = if is_user_asked k then Send offered ∷ [] else []
 
--- up to its read: the timer is looked after, a user that is asked gives a message, a frame is
--- written
+-- up to its read: the timer is handled, a user that is asked returns a message, a frame is written
 abbrev pub calls_before_read : ℕ → DriveTurn → Driving → List Call
 calls_before_read milliseconds turn d =
     (Arm ∷ calls_of_timer turn.now
@@ -88,7 +88,7 @@ calls_before_read milliseconds turn d =
     (core_after_take_arm d.core))
     ++ (calls_of_message turn.offered (before_offer milliseconds turn d) ++ Poll ∷ [])
 
--- its read: what came arrives, and all received messages are taken
+-- its read: the bytes that were read arrive, and all received messages are taken
 abbrev pub calls_of_read : List ℕ → Driving → List Call
 calls_of_read came d =
     Arrive came ∷ replicate (length (after_piece d.text came d.core).station.inbox) Take
@@ -125,7 +125,7 @@ abbrev pub calls_of_last : ℕ → Option DriveTurn → Driving → List Call
 calls_of_last milliseconds None d = []
 calls_of_last milliseconds (Some turn) d = calls_before_read milliseconds turn d ++ Halt ∷ []
 
--- what it did to a station, if this text came before
+-- what it did to a station that had read this text before
 abbrev pub after_all_turns : ℕ → DriveCall → CoreView → List ℕ → Driving
 after_all_turns syn call k text =
     after_turns call.milliseconds syn call.turns (driving_from k text)
@@ -139,7 +139,7 @@ calls_of_drive syn call k text =
     calls_of_turns call.milliseconds syn call.turns (driving_from k text)
     ++ calls_of_last call.milliseconds call.last (after_all_turns syn call k text)
 
--- with what was written and seen before
+-- the same, after what was written and seen before
 abbrev pub after_drive : ℕ → DriveCall → Driving → Driving
 after_drive syn call d = record (driven syn call d.core d.text) {
   written = d.written ++ (driven syn call d.core d.text).written;
@@ -156,18 +156,19 @@ calls_of_drives syn [] d = []
 calls_of_drives syn (call ∷ rest) d =
     calls_of_drive syn call d.core d.text ++ calls_of_drives syn rest (after_drive syn call d)
 
--- ---- calls and turns are the same
+-- ---- turns as calls
 
--- These calls at an end leave the station and the text of its line as they are driven, write the
--- same bytes after those before, and the user sees the same.
+-- These calls at an end lead to the same station and the same text of its line as the turns, write
+-- the same bytes after those before, and the user sees the same.
 pub record Does (calls : List Call) (x : EndState) (d : Driving) : Type 0 where
   pub core : (after_calls_here calls x).core ≡ d.core
   pub text : (after_calls_here calls x).arrived ≡ d.text
   pub written : written (after_calls_here calls x) ≡ written x ++ d.written
   pub seen : shown_in calls x ≡ d.seen
 
--- A station was driven by this call of `drive`, as its contract says: it took from the source what
--- its turns read and brought the sink what they wrote, or if it broke off a beginning of that.
+-- A station was driven by this call of `drive`, as its contract states: the source lost the bytes
+-- that its turns read, and the sink got the bytes that they wrote, or if the call broke off a
+-- prefix of these.
 pub record IsDriven (milliseconds : ℕ) (call : DriveCall) (old new : StationView)
     (devices : Devices) (saw : List UserCall → Type 0) : Type 0 where
   pub timer : call.milliseconds ≡ milliseconds
@@ -195,7 +196,7 @@ abbrev pub begun : Config → Driving
 begun config =
     driving_from (record (core_made config) { station = after_start new_station }) []
 
--- what its user saw in all, if it was driven so
+-- everything that its user saw, if it was driven by these calls
 abbrev pub seen_of : Config → List DriveCall → List UserCall
 seen_of config drives = (after_drives config.syn drives (begun config)).seen
 

@@ -26,8 +26,9 @@ use Rattle.ddcmp_laws.specs.LinkLines.{calls_at_end}
 
 -- ---- parts of turns
 
--- A turn up to its read: the timer, the message of the user, the frame. Or its read. Or the call of
--- `drive` returns, and another is made. The other end may have parts of its turns between them.
+-- A part of a turn: the turn up to its read, which handles the timer, the message of the user and a
+-- frame; its read; or the return of the call of `drive`, after which another is made. Parts of the
+-- other end's turns may be between them.
 pub data TurnPart : Type 0 where
   Writes : (turn : DriveTurn) → TurnPart
   Reads : (came : List ℕ) → TurnPart
@@ -87,7 +88,7 @@ unfoldable pub run_on_driven : List (End × TurnPart) → DrivenLine → DrivenL
 run_on_driven [] l = l
 run_on_driven (step ∷ rest) l = run_on_driven rest (after_on_driven step.0 step.1 l)
 
--- what is read comes first of what is in flight
+-- the bytes that are read are a prefix of those in flight
 abbrev pub ReadsTheFirst : End → TurnPart → DrivenLine → Type 0
 ReadsTheFirst A part l = ComesFirst (read_by part) l.to_a
 ReadsTheFirst B part l = ComesFirst (read_by part) l.to_b
@@ -105,7 +106,8 @@ abbrev pub calls_of_accepted : List ℕ → CoreView → List Call
 calls_of_accepted offered k =
     if may_send k.limits k.station offered then Send offered ∷ [] else []
 
--- The calls that a part of a turn is. A message that is refused changes nothing, and is left out.
+-- The calls that a part of a turn makes. A message that is refused changes nothing, and is left
+-- out.
 abbrev pub calls_of_part : TurnPart → DrivenEnd → List Call
 calls_of_part (Writes turn) x =
     (Arm ∷ calls_of_timer turn.now
@@ -116,14 +118,14 @@ calls_of_part (Writes turn) x =
 calls_of_part (Reads came) x = calls_of_read came x.driving
 calls_of_part Again x = []
 
--- the events that parts of turns are
+-- the events of these parts of turns
 unfoldable pub events_of_parts : List (End × TurnPart) → DrivenLine → List Event
 events_of_parts [] l = []
 events_of_parts (step ∷ rest) l =
     events_in (calls_at_end step.0 (calls_of_part step.1 (driven_at step.0 l)))
     ++ events_of_parts rest (after_on_driven step.0 step.1 l)
 
--- between two stations that are a pair, the same bytes are in flight
+-- the line between the two stations as a pair: the same bytes are in flight
 abbrev pub line_of_driven : PairState → DrivenLine → Line
 line_of_driven p l = record { pair = p; to_a = l.to_a; to_b = l.to_b }
 
@@ -138,7 +140,7 @@ new_driven first milliseconds second other_milliseconds = record {
   to_b = [];
 }
 
--- What they are after these parts of turns, whatever was lost, with such bytes in flight.
+-- The stations after these parts of turns, whatever was lost, with these bytes in flight.
 abbrev pub driven_after : List (End × TurnPart) → DrivenLine → List ℕ → List ℕ → DrivenLine
 driven_after before l to_a to_b =
     record (run_on_driven before l) { to_a = to_a; to_b = to_b }
@@ -147,16 +149,17 @@ abbrev pub pair_after : Config → Config → List (End × TurnPart) → DrivenL
 pair_after first second before l =
     run (event.Start A ∷ event.Start B ∷ events_of_parts before l) (new_pair first second)
 
--- It holds of two driven stations and their pair, if what is in flight comes whole, and they are
--- under way.
+-- The promise holds for two driven stations and their pair, if what is in flight arrives whole, and
+-- they are under way.
 abbrev pub KeepsFrom : (Line → DrivenLine → Type 0) → PairState → DrivenLine → Type 0
 KeepsFrom Promise p l =
     IsWhole (line_of_driven p l) → IsUnderWay (line_of_driven p l)
     → Promise (line_of_driven p l) l
 
 -- A promise about two driven stations under way: these turns led to them from two new stations of
--- any sizes in range, each started once, and this many bytes are in flight to each. What was lost
--- before is free, but the line was honest, neither is halted, and what is in flight comes whole.
+-- any sizes in range, each started once, and these bytes are in flight to each. Anything may have
+-- been lost before, but the line was honest, neither is halted, and what is in flight arrives
+-- whole.
 abbrev pub IsKeptWhileDriven : (Line → DrivenLine → Type 0) → Type 0
 IsKeptWhileDriven Promise = (first second : Config) (milliseconds other_milliseconds : ℕ)
     (before : List (End × TurnPart)) (to_a to_b : List ℕ)
@@ -166,14 +169,14 @@ IsKeptWhileDriven Promise = (first second : Config) (milliseconds other_millisec
     (new_driven first milliseconds second other_milliseconds))
     (driven_after before (new_driven first milliseconds second other_milliseconds) to_a to_b)
 
--- A station runs, and each message that was accepted of its user was handed to the other's, and it
--- was reported acknowledged.
+-- A station runs, and each message that was accepted from its user was delivered to the other's,
+-- and was reported acknowledged.
 pub record DrivenIsDelivered (giver taker : Driving) : Type 0 where
   pub runs : giver.core.station.state ≡ Running
   pub handed : handed_to taker.seen ≡ accepted_from giver.seen
   pub acknowledged : acknowledged_to giver.seen ≡ length (accepted_from giver.seen)
 
--- of both
+-- the same for both
 pub record DrivenAreDone (l : DrivenLine) : Type 0 where
   pub from_a : DrivenIsDelivered l.a.driving l.b.driving
   pub from_b : DrivenIsDelivered l.b.driving l.a.driving
@@ -226,15 +229,15 @@ pub record IsSweepOfTurns (parts : List (End × TurnPart)) (l : DrivenLine) : Ty
   pub turn_a : is_driven_in A parts ≡ true
   pub turn_b : is_driven_in B parts ≡ true
 
--- The shortest: each reads what is in flight to it, and then has a turn at this moment in which its
--- user offers nothing.
+-- The shortest sweep: each reads what is in flight to it, and then has a turn at this moment in
+-- which its user offers nothing.
 abbrev pub sweep_at : ℕ → DrivenLine → List (End × TurnPart)
 sweep_at now l =
     (A, Reads l.to_a) ∷ (B, Reads l.to_b)
     ∷ (A, Writes (record { now = now; offered = []; came = [] }))
     ∷ (B, Writes (record { now = now; offered = []; came = [] })) ∷ []
 
--- a moment before the deadline of an end, if one is set, and of which a clock can return a later
+-- a moment before the deadline of an end, if one is set, and before the last moment of a clock
 pub record IsEarly (now : ℕ) (x : DrivenEnd) : Type 0 where
   pub waits : 1 ≤ x.milliseconds
   pub later : now < 18446744073709551615
@@ -253,7 +256,7 @@ unfoldable pub turns_in_a_row : List (List (End × TurnPart)) → List (End × T
 turns_in_a_row [] = []
 turns_in_a_row (sweep ∷ rest) = sweep ++ turns_in_a_row rest
 
--- the events that sweeps are
+-- the events of these sweeps
 unfoldable pub events_of_sweeps : List (List (End × TurnPart)) → DrivenLine → List (List Event)
 events_of_sweeps [] l = []
 events_of_sweeps (sweep ∷ rest) l =
@@ -268,7 +271,7 @@ items_in_flight l =
     length (items_added l.a.driving.core.limits.longest l.a.driving.text l.to_a)
     + length (items_added l.b.driving.core.limits.longest l.b.driving.text l.to_b)
 
--- Sweeps of turns, as many as are enough for the line to come to rest.
+-- Enough sweeps of turns for the line to come to rest.
 pub record AreEnoughTurns (sweeps : List (List (End × TurnPart))) (l : DrivenLine) : Type 0 where
   pub each : AreSweepsOfTurns sweeps l
   pub enough : 8 * window_of l * window_of l + 32 * window_of l + 26
@@ -291,7 +294,7 @@ expires_in end (step ∷ rest) l =
     expires_by end step.0 step.1 (driven_at step.0 l)
     || expires_in end rest (after_on_driven step.0 step.1 l)
 
--- or it is off as they begin
+-- the same, or the timer is off as they begin
 abbrev pub ExpiresOrIsOff : End → List (End × TurnPart) → DrivenLine → Type 0
 ExpiresOrIsOff end parts l =
     (expires_in end parts l ≡ true)

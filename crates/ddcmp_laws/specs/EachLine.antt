@@ -14,15 +14,14 @@ EndsALine Connected = ⊤
 EndsALine (LineEnded is_reported) = ⊤
 EndsALine _ = ⊥
 
--- The line of a run that goes on so is over: it ends now, or the session is connected again, or the
--- run ends.
+-- The line of a run is over if these steps follow: it ends now, or the session is connected again,
+-- or the run ends.
 abbrev pub LineIsOver : List SessionStep → Type 0
 LineIsOver [] = ⊤
 LineIsOver (step ∷ rest) = EndsALine step.call
 
--- If the line of one run is over, and the run goes on until it is ended and has lost nothing, the
--- other has received all of the messages that the one's input had over that line: these, and no
--- others.
+-- If the line of one run is over, and the run continues until it is ended and has lost nothing, the
+-- other has received all messages read from that one's input over that line: these, and no others.
 abbrev pub DeliversLine : Ran → Ran → Type 0
 DeliversLine giver taker = (rest : List SessionStep) → AreDone rest (got_to giver)
     → LineIsOver rest
@@ -32,18 +31,18 @@ DeliversLine giver taker = (rest : List SessionStep) → AreDone rest (got_to gi
     → delivered_since (got_to taker) ++ undelivered (got_to taker).history
     ≡ read_since giver.made (got_to giver)
 
--- if it is connected again, the messages that its input has had over the line before
+-- if the session is connected again, the messages read from its input over the line before
 abbrev pub read_before : SessionCall → Made → Connection → List (List ℕ)
 read_before Connected made c = read_since made c
 read_before _ made c = []
 
--- the messages that its input has had over its lines, one line after the other
+-- the messages read from the input over all lines, one line after the other
 unfoldable pub read_over_lines : Made → List SessionStep → Connection → List (List ℕ)
 read_over_lines made [] c = read_since made c
 read_over_lines made (step ∷ rest) c =
     read_before step.call made c ++ read_over_lines made rest (after_step step c)
 
--- If a run was ended and nothing was lost, these are all of the messages that its input gave.
+-- If a run was ended and nothing was lost, these are all messages read from its input.
 abbrev pub IsReadOverLines : Ran → Type 0
 IsReadOverLines ran = (held : BuffersView) (t : Traffic) (closed : SessionView)
     → WasEnded ran held t closed → closed.course.lost ≡ 0

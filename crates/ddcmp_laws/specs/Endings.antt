@@ -1,4 +1,4 @@
--- Runs over devices to their end: all that was received is delivered, and the output takes it.
+-- Runs over devices to their end: all received messages are delivered and written to the output.
 use Rattle.std.specs.Prelude.{◌≡◌, ◌⊎◌, ℕ, Bool, true, false, List, [], ◌++◌, map, Some}
 use Rattle.std.specs.List.{All}
 use Rattle.ddcmp_input.specs.InBinary.{in_binary, Fits}
@@ -13,27 +13,27 @@ use Rattle.ddcmp_laws.specs.Pipe.{undelivered}
 use Rattle.ddcmp_laws.specs.SessionRuns.{InFiles, Ran, WasEnded, got_to}
 use Rattle.ddcmp_laws.specs.Sessions.{texts_of}
 
--- A run was ended, and finished: `t` is what its devices had given and taken before that, and
--- `after` what they have at last.
+-- A run was ended and finished: `t` is the traffic of its devices before that, and `after` their
+-- traffic in the end.
 pub record WasFinished (is_well : Bool) (ran : Ran) (held : BuffersView) (t : Traffic)
     (last : SessionView) (after : Traffic) : Type 0 where
   pub closed : SessionView
   pub ended : WasEnded ran held t closed
   pub finishes : Finishes is_well closed (Some t) last (Some after)
 
--- all that a session has shown: until it was closed, what was lost then, and the messages that it
--- had received
+-- all that a session delivers and reports: what it did until it was closed, the loss reported then,
+-- and the messages that it had received
 abbrev pub shown_at_last : Bool → SessionHistory → List Shown
 shown_at_last is_reported h =
     h.shown ++ (losses is_reported h.session ++ map Mail (undelivered h))
 
--- in binary the last lines are no part of the output
+-- the last lines of the output; in binary they are no part of it
 abbrev pub last_text : Form → SessionView → List ℕ
 last_text form.Digits s = end_text s.options.counters s.link
 last_text form.Binary s = []
 
--- Nothing waits. The output took the text of all that, and then the last lines, unless these found
--- no room.
+-- Nothing is queued. The text of all that was written to the output, and then the last lines,
+-- unless there was no room for these.
 pub record TookAll (is_reported : Bool) (ran : Ran) (last : SessionView) (after : Traffic) : Type 0
   where
     pub none_waits : last.output.waiting ≡ []
@@ -43,8 +43,8 @@ pub record TookAll (is_reported : Bool) (ran : Ran) (last : SessionView) (after 
         ≡ texts_of ran.made.options.form (shown_at_last is_reported (got_to ran).history)
         ++ last_text ran.made.options.form last
 
--- Of two runs that ended well, the one of which lost nothing: in binary, if the one's input gave a
--- file of messages that fit, that file is what the other's output took.
+-- Two runs ended well, and the first lost nothing: in binary, if the input of the first was a file
+-- of messages that fit, that file is the output of the other.
 abbrev pub FilesArrive : Ran → Ran → Type 0
 FilesArrive giver taker = InFiles giver taker
     → (messages : List (List ℕ)) → All (Fits giver.made.options.config.max) messages

@@ -15,7 +15,7 @@ bytes_of fill (f ∷ rest) = (replicate fill SYN ++ wire f.0 f.1) ++ bytes_of fi
 abbrev pub written : EndState → List ℕ
 written x = bytes_of x.syn x.sent
 
--- these bytes and some more are the whole text
+-- these bytes are a prefix of the text
 abbrev pub Begins : List ℕ → List ℕ → Type 0
 Begins front text = (rest : List ℕ) × (front ++ rest ≡ text)
 
@@ -24,7 +24,7 @@ pub record IsFaithful (p : PairState) : Type 0 where
   pub to_a : Begins p.a.arrived (written p.b)
   pub to_b : Begins p.b.arrived (written p.a)
 
--- it is so after each of these events
+-- the line is faithful after each of these events
 abbrev pub StaysFaithful : List Event → PairState → Type 0
 StaysFaithful [] p = Unit {0}
 StaysFaithful (e ∷ rest) p =

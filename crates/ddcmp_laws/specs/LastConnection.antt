@@ -1,5 +1,5 @@
--- Two runs over one connection after the other: what is promised of the last, since both were
--- connected, without a word of frames.
+-- Two runs over one connection after the other: what is promised of the last one, since both were
+-- connected. No premise about frames is needed.
 use Rattle.std.specs.Prelude.{◌≡◌, true, ⊤, List, [], ◌∷◌, None}
 use Rattle.ddcmp_proto.specs.Config.{first_refusal}
 use Rattle.ddcmp_pair.specs.declared.event.End.{End}
@@ -13,12 +13,12 @@ use Rattle.ddcmp_laws.specs.Connections.{first_connections}
 use Rattle.ddcmp_laws.specs.Pipe.{AreSessionStreams, connects}
 use Rattle.ddcmp_laws.specs.SessionRuns.{Ran, calls_of}
 
--- a call that connects a session starts it: no received message was left to deliver
+-- A call that connects a session starts it, since no received message was undelivered.
 abbrev pub StartsIf : SessionCall → SessionView → Type 0
 StartsIf Connected s = starts s ≡ true
 StartsIf _ s = ⊤
 
--- When its session was connected last, that returned true.
+-- The last call that connected the session started it.
 abbrev pub StartsLast : List SessionStep → Connection → Type 0
 StartsLast [] c = ⊤
 StartsLast (step ∷ rest) c =
@@ -31,7 +31,7 @@ StartsEach [] c = ⊤
 StartsEach (step ∷ rest) c =
     StartsIf step.call c.history.session × StartsEach rest (after_step step c)
 
--- After each of these calls after which neither is connected again, the lines are streams.
+-- After each of these calls, if no later one connects either session, the lines are streams.
 abbrev pub EndOverStreams : List (End × SessionStep) → Connections → Type 0
 EndOverStreams [] p = ⊤
 EndOverStreams (step ∷ rest) p =
@@ -39,16 +39,16 @@ EndOverStreams (step ∷ rest) p =
     → AreSessionStreams (histories_of (after_step_at step.0 step.1 p)))
     × EndOverStreams rest (after_step_at step.0 step.1 p)
 
--- Since both were connected last, after each call, what each has used of its line is a beginning of
--- what the line of the other has taken.
+-- Since both were connected last, after each call, the bytes that each has used from its line are a
+-- prefix of those that the other has written to its line.
 pub record RanOverConnections (a b : Ran) : Type 0 where
   pub steps : List (End × SessionStep)
   pub of_a : calls_of A steps ≡ a.steps
   pub of_b : calls_of B steps ≡ b.steps
   pub streams : EndOverStreams steps (first_connections a.made b.made)
 
--- A promise about two runs is kept over the last connection: of new sessions of any sizes in range,
--- connected as often as their users like, whatever their calls.
+-- A promise about two runs is kept over the last connection, for new sessions of any sizes in
+-- range, connected any number of times, whatever their calls.
 abbrev pub IsKeptOverLastConnection : (Ran → Ran → Type 0) → Type 0
 IsKeptOverLastConnection Promise = (a b : Ran)
     → first_refusal a.made.options.config ≡ None → first_refusal b.made.options.config ≡ None

@@ -1,4 +1,4 @@
--- Two links over lines that may lose, cut and damage what they carry, and invent nothing.
+-- Two links over lines that may lose, cut and damage what they carry, and forge nothing.
 use Rattle.std.specs.Prelude.{◌≡◌, ◌≢◌, ℕ, true, false, List, [], ◌∷◌, ◌++◌, length, map, None}
 use Rattle.ddcmp_frame.specs.Reader.{ReaderView}
 use Rattle.ddcmp_core.specs.declared.state.State.TheVariants.{Halted, Running}
@@ -13,7 +13,7 @@ use Rattle.ddcmp_laws.specs.Links.{LinkStep, LinkHistory, Links, station_calls, 
 use Rattle.ddcmp_laws.specs.Links.{after_step_at, after_steps, AreStartedOnce, new_links}
 use Rattle.ddcmp_laws.specs.Links.{received}
 
--- Each step is a call of one of two links, as its contract says.
+-- Each step is a call of one of two links, which does what its contract states.
 abbrev pub AreLinkCalls : List (End × LinkStep) → Links → Type 0
 AreLinkCalls [] p = Unit {0}
 AreLinkCalls (step ∷ rest) p =
@@ -30,9 +30,10 @@ calls_of_steps (step ∷ rest) p =
     calls_at_end step.0 (station_calls step.1.call (link_at step.0 p).link)
     ++ calls_of_steps rest (after_step_at step.0 step.1 p)
 
--- A promise about two links' histories is kept over honest lines: it holds for two new links of any
--- sizes in range, each started at most once, whatever the calls, the moments and the cuts, if the
--- good frames that each received are, in their order, among those that the other sent.
+-- A promise about two links' histories is kept over honest lines, for two new links of any sizes in
+-- range, each started at most once, whatever the calls, the moments and the chunks of bytes. The
+-- line is honest if the good frames that each received are, in their order, among those that the
+-- other sent.
 abbrev pub IsKeptOverHonestLines : (Links → Type 0) → Type 0
 IsKeptOverHonestLines Promise = (first second : Config) (milliseconds other_milliseconds : ℕ)
     (line other_line : ReaderView) (steps : List (End × LinkStep))
@@ -53,13 +54,14 @@ pub record LinksAreUp (p : Links) : Type 0 where
   pub a : p.a.link.station.core.station.state ≢ Halted
   pub b : p.b.link.station.core.station.state ≢ Halted
 
--- A link sleeps if it has no moment to wake at and puts no frame, though there is room for one.
+-- A link sleeps if it has no moment to wake at and would queue no frame, though there is room for
+-- one.
 pub record LinkIsAsleep (d : LinkView) : Type 0 where
   pub no_moment : wakes_at d ≡ None
   pub room : fits d ≡ true
   pub no_frame : puts_frame d ≡ false
 
--- its user has left its inbox full
+-- its inbox is full, since its user hasn't taken the messages
 abbrev pub InboxIsFull : LinkView → Type 0
 InboxIsFull d = has_room d.station.core.limits d.station.core.station ≡ false
 

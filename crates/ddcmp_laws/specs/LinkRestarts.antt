@@ -1,4 +1,4 @@
--- Links that restart as often as their users like: each time their histories begin again.
+-- Links that restart any number of times: each time their histories begin again.
 use Rattle.std.specs.Prelude.{◌≡◌, ℕ, true, List, [], ◌∷◌, ◌++◌, map, None}
 use Rattle.ddcmp_frame.specs.Reader.{ReaderView}
 use Rattle.ddcmp_proto.specs.Config.{first_refusal}
@@ -13,12 +13,12 @@ use Rattle.ddcmp_laws.specs.Links.{LinkCall, BeginsAnew, station_calls, HasDone,
 use Rattle.ddcmp_laws.specs.Links.{LinkStep, after_step, Links, link_at, new_links}
 use Rattle.ddcmp_laws.specs.StationRuns.{station_call, run_station_calls}
 
--- What the contract of each call says that it does; `restart` does it on any line.
+-- What each call does by its contract; `restart` may be called on any line.
 abbrev pub Does : LinkCall → List ℕ → LinkView → LinkView → Type 0
 Does BeginsAnew text old new = new ≡ anew new.station.line old
 Does call text old new = HasDone call text old new
 
--- the calls of its station, of which `restart` makes three
+-- the calls of the station that a call makes, of which `restart` makes three
 abbrev pub all_calls : LinkCall → LinkView → List StationCall
 all_calls BeginsAnew d = HaltsStation ∷ ClearsLine ∷ StartsStation ∷ []
 all_calls call d = map station_call (station_calls call d)
@@ -62,9 +62,9 @@ unfoldable pub after_links : List (End × LinkStep) → Links → Links
 after_links [] p = p
 after_links (step ∷ rest) p = after_links rest (history_at step.0 step.1 p)
 
--- A promise about two links' histories is kept by links that restart: it holds for two new links
--- of any sizes in range, whatever the calls, the moments and the cuts, if the line is honest and
--- the run clean since the lines were cleared.
+-- A promise about two links' histories is kept by links that restart, for two new links of any
+-- sizes in range, whatever the calls, the moments and the chunks of bytes, if the line is honest
+-- and the run clean since the lines were cleared.
 abbrev pub IsKeptAnew : (Links → Type 0) → Type 0
 IsKeptAnew Promise = (first second : Config) (milliseconds other_milliseconds : ℕ)
     (line other_line : ReaderView) (steps : List (End × LinkStep))

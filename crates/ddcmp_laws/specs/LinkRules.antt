@@ -1,4 +1,4 @@
--- What the laws of a link's own rules say.
+-- Definitions for the laws of a link's own rules.
 use Rattle.std.specs.Prelude.{◌≡◌, true, ◌++◌}
 use Rattle.ddcmp_core.specs.Naks.{subtype_of}
 use Rattle.ddcmp_core.specs.Table.{Frame, Naked, next, after_next}
@@ -11,7 +11,7 @@ abbrev pub AsksForABuffer : Frame → Type 0
 AsksForABuffer (Naked why resp) = subtype_of why ≡ 8
 AsksForABuffer _ = ⊥
 
--- The frame is put after what waits for the line, whole, and the station has sent it.
+-- The whole frame is queued after the bytes pending for the line, and the station has sent it.
 pub record PutsFrame (f : Frame) (before after : LinkView) : Type 0 where
   pub puts : puts_frame before ≡ true
   pub waiting : after.outbox.waiting

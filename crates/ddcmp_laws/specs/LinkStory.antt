@@ -1,4 +1,4 @@
--- One run of two links, written out: both are started, and one message gets across.
+-- One run of two links, written out: both are started, and one message is transferred.
 use Rattle.std.specs.Prelude.{◌≡◌, ℕ, true, false, List, [], ◌∷◌, ◌++◌}
 use Rattle.ddcmp_frame.specs.Reader.{ReaderView}
 use Rattle.ddcmp_core.specs.Table.{after_halt}
@@ -53,15 +53,15 @@ small = record { window = 1; max = 5; inbox = 1; syn = 0; restart = false }
 abbrev pub small_links : ReaderView → ReaderView → Links
 small_links line other_line = new_links small 1000 line small 1000 other_line
 
--- A frame is put, the line takes it, and the other link is fed with it.
+-- A frame is queued, the line takes it, and the other link is fed with it.
 abbrev pub carried_from_a : ℕ → List ℕ → List (End × LinkCall)
 carried_from_a n bytes = (A, FillsOne) ∷ (A, IsSent n) ∷ (B, Feeds bytes) ∷ []
 
 abbrev pub carried_from_b : ℕ → List ℕ → List (End × LinkCall)
 carried_from_b n bytes = (B, FillsOne) ∷ (B, IsSent n) ∷ (A, Feeds bytes) ∷ []
 
--- B is started as well when the STRT of A comes, and replies with a STACK. A runs then, and accepts
--- a message, whose acknowledgement comes back.
+-- B is started as well when the STRT of A arrives, and replies with a STACK. Then A runs, and
+-- accepts a message, whose acknowledgement it receives.
 abbrev pub story_calls : List (End × LinkCall)
 story_calls =
     (A, Starts) ∷ (B, Starts) ∷ []
@@ -75,8 +75,8 @@ story_calls =
 abbrev pub story_steps : ReaderView → ReaderView → List (End × LinkStep)
 story_steps line other_line = steps_of story_calls (small_links line other_line)
 
--- How it ends: A accepted one message, the user of B took that one, A reports it acknowledged and
--- all delivered, neither link is halted, and both sleep.
+-- How it ends: A accepted one message, the user of B took it, A reports it acknowledged and all
+-- delivered, neither link is halted, and both sleep.
 pub record HasGotAcross (p : Links) : Type 0 where
   pub accepted : p.a.accepted ≡ abc ∷ []
   pub taken : p.b.taken ≡ abc ∷ []

@@ -17,8 +17,8 @@ use Rattle.ddcmp_laws.specs.LinkLines.{AreLinkCalls, calls_of_steps, LinkIsDeliv
 
 -- ---- what is in flight
 
--- Two links, and the bytes in flight to each: the line of the other took them, and it hasn't used
--- them yet.
+-- Two links, and the bytes in flight to each: the other has written them to its line, and it hasn't
+-- used them yet.
 pub record LinkLine : Type 0 where
   pub links : Links
   pub to_a : List ℕ
@@ -41,12 +41,13 @@ unfoldable pub run_on_links : List (End × LinkStep) → LinkLine → LinkLine
 run_on_links [] l = l
 run_on_links (step ∷ rest) l = run_on_links rest (after_on_links step.0 step.1 l)
 
--- what a call uses comes first of what is in flight
+-- the bytes that a call uses are a prefix of those in flight
 abbrev pub UsesTheFirst : End → LinkCall → LinkLine → Type 0
 UsesTheFirst A call l = ComesFirst (used_by call) l.to_a
 UsesTheFirst B call l = ComesFirst (used_by call) l.to_b
 
--- Each step is a call of one of the links, as its contract says, and nothing is lost.
+-- Each step is a call of one of the links, which does what its contract states, and nothing is
+-- lost.
 abbrev pub LinksLoseNothing : List (End × LinkStep) → LinkLine → Type 0
 LinksLoseNothing [] l = Unit {0}
 LinksLoseNothing (step ∷ rest) l =
@@ -56,11 +57,11 @@ LinksLoseNothing (step ∷ rest) l =
 
 -- ---- the line of their stations
 
--- the events that calls of links are
+-- the events of these calls of links
 abbrev pub events_of_steps : List (End × LinkStep) → Links → List Event
 events_of_steps steps p = events_in (calls_of_steps steps p)
 
--- Between two stations that are a pair, what waits in an outbox is in flight too.
+-- The line between the two stations as a pair: bytes queued in an outbox are in flight, too.
 abbrev pub line_of : PairState → LinkLine → Line
 line_of p l = record {
   pair = p;
@@ -68,7 +69,7 @@ line_of p l = record {
   to_b = l.to_b ++ l.links.a.link.outbox.waiting;
 }
 
--- The line of the stations of two new links after these steps, with such bytes in flight.
+-- The line of the stations of two new links after these steps, with these bytes in flight.
 abbrev pub line_after : Config → Config → List (End × LinkStep) → Links → List ℕ → List ℕ → Line
 line_after first second steps p to_a to_b =
     line_of (run (events_of_steps steps p) (new_pair first second))
@@ -77,8 +78,8 @@ line_after first second steps p to_a to_b =
 -- ---- two links under way
 
 -- A promise about two links under way: these steps led to them from two new links of any sizes in
--- range, and this many bytes are in flight to each. What was lost before is free, but the line was
--- honest, neither was started twice, neither is halted, and what is in flight comes whole.
+-- range, and these bytes are in flight to each. Anything may have been lost before, but the line
+-- was honest, neither started twice, neither is halted, and what is in flight arrives whole.
 abbrev pub IsKeptUnderWay : (Line → LinkLine → Type 0) → Type 0
 IsKeptUnderWay Promise = (first second : Config) (milliseconds other_milliseconds : ℕ)
     (line other_line : ReaderView) (before : List (End × LinkStep)) (to_a to_b : List ℕ)

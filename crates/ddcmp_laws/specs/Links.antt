@@ -1,4 +1,4 @@
--- Links as callers of their stations: which calls of its station each call of a link is, and two
+-- Links as callers of their stations: which calls of its station each call of a link makes, and two
 -- links over streams.
 use Rattle.std.specs.Prelude.{◌≡◌, ℕ, ◌+◌, ◌≤◌, if◌then◌else◌, List, [], ◌∷◌, ◌++◌, length, take}
 use Rattle.std.specs.Prelude.{None, option_to_list}
@@ -22,9 +22,9 @@ use Rattle.ddcmp_laws.specs.Driven.{calls_of_timer}
 
 -- ---- calls of a link
 
--- A call of a link, by its name: with the moment that it was reported, the message that it was
--- given, the bytes that it used, or how many bytes its line took. A call of `fill` is some of
--- `fill_one`.
+-- A call of a link, by its name. Its fields are the moment that it was passed, the message that it
+-- was offered, the bytes that it used, or how many bytes its line took. A call of `fill` is a
+-- number of calls of `fill_one`.
 pub data LinkCall : Type 0 where
   Starts : LinkCall
   BeginsAnew : LinkCall
@@ -36,7 +36,7 @@ pub data LinkCall : Type 0 where
   Feeds : (used : List ℕ) → LinkCall
   Takes : LinkCall
 
--- The calls of its station that it makes, in their order.
+-- The calls of the station that a call of the link makes, in their order.
 abbrev pub station_calls : LinkCall → LinkView → List Call
 station_calls Starts d = Start ∷ []
 station_calls BeginsAnew d = Halt ∷ Start ∷ []
@@ -51,15 +51,15 @@ station_calls (IsSent n) d = []
 station_calls (Feeds used) d = Arrive used ∷ []
 station_calls Takes d = Take ∷ []
 
--- ---- what the contract of each call says that it does
+-- ---- what each call does by its contract
 
--- bytes were used, if this text came before
+-- bytes were used after this text
 pub record HasFed (text used : List ℕ) (old new : LinkView) : Type 0 where
   pub core : new.station.core ≡ after_piece text used old.station.core
   pub syn : new.station.syn ≡ old.station.syn
   pub stays : new ≡ record old { station = new.station; totals = new.totals }
 
--- `restart` clears the line: here it begins a link whose line is clear.
+-- `restart` clears the line; here it must be clear already.
 abbrev pub HasDone : LinkCall → List ℕ → LinkView → LinkView → Type 0
 HasDone Starts text old new = new ≡ with_state (started old.station.core.station) old
 HasDone BeginsAnew text old new =
@@ -74,9 +74,9 @@ HasDone Takes text old new = new ≡ after_taking old
 
 -- ---- the history of a link
 
--- A link, and what has been since it was made: the bytes of its line that it used, those that its
--- line took, the messages that it accepted, those that its user took, and how many it reported
--- acknowledged.
+-- A link, and what happened since it was made: the bytes that it used from its line, the bytes that
+-- were written to its line, the messages that it accepted, those that its user took, and how many
+-- it reported acknowledged.
 pub record LinkHistory : Type 0 where
   pub link : LinkView
   pub used : List ℕ
@@ -108,18 +108,18 @@ abbrev pub gone_by : LinkCall → LinkView → List ℕ
 gone_by (IsSent n) d = take n d.outbox.waiting
 gone_by _ d = []
 
--- `offer` accepts a message exactly if it returns so
+-- the message of `offer`, if the link accepts it
 abbrev pub accepted_by : LinkCall → LinkView → List (List ℕ)
 accepted_by (Offers message) d =
     if may_send d.station.core.limits d.station.core.station message then message ∷ [] else []
 accepted_by _ d = []
 
--- `take` returns the first received message
+-- the message that `take` returns, the first received one
 abbrev pub taken_by : LinkCall → LinkView → List (List ℕ)
 taken_by Takes d = option_to_list (first_message d.station.core.station.inbox)
 taken_by _ d = []
 
--- `feed` returns the notice of the bytes
+-- how many messages the notice that `feed` returns reports acknowledged
 abbrev pub acknowledged_after : LinkCall → LinkHistory → ℕ
 acknowledged_after (Feeds used) h =
     acknowledged_in (notices_of_piece h.used used h.link.station.core)
@@ -135,8 +135,8 @@ after_step step h = record {
   acknowledged = h.acknowledged + acknowledged_after step.call h;
 }
 
--- An end of the model and a link with its history are the same: the end has written the bytes that
--- the link's line took and those that wait for it.
+-- An end of the model and a link with its history agree: the end has written the bytes that the
+-- link's line took and those queued for it.
 pub record IsSameEnd (x : EndState) (h : LinkHistory) : Type 0 where
   pub core : x.core ≡ h.link.station.core
   pub syn : x.syn ≡ h.link.station.syn
@@ -148,7 +148,7 @@ pub record IsSameEnd (x : EndState) (h : LinkHistory) : Type 0 where
 
 -- ---- one link, call by call
 
--- Each step is a call, as its contract says.
+-- Each step is a call that does what its contract states.
 abbrev pub IsHistory : List LinkStep → LinkHistory → Type 0
 IsHistory [] h = Unit {0}
 IsHistory (step ∷ rest) h =
@@ -163,7 +163,7 @@ calls_in_history [] h = []
 calls_in_history (step ∷ rest) h =
     station_calls step.call h.link ++ calls_in_history rest (after_step step h)
 
--- the messages that were offered, and those that went to `send`
+-- the messages that were offered, and those passed to `send`
 abbrev pub offered_in_call : LinkCall → List (List ℕ)
 offered_in_call (Offers message) = message ∷ []
 offered_in_call _ = []
@@ -195,13 +195,13 @@ abbrev pub after_step_at : End → LinkStep → Links → Links
 after_step_at A step p = record { a = after_step step p.a; b = p.b }
 after_step_at B step p = record { a = p.a; b = after_step step p.b }
 
--- what each used is a prefix of what the line of the other took
+-- the bytes that each used are a prefix of those that the other wrote to its line
 pub record AreStreams (p : Links) : Type 0 where
   pub to_a : Begins p.a.used p.b.gone
   pub to_b : Begins p.b.used p.a.gone
 
--- Each step is a call of one of two links, as its contract says, and after each the lines are
--- streams.
+-- Each step is a call of one of two links, which does what its contract states, and after each the
+-- lines are streams.
 abbrev pub LinkOverStreams : List (End × LinkStep) → Links → Type 0
 LinkOverStreams [] p = Unit {0}
 LinkOverStreams (step ∷ rest) p =
@@ -241,8 +241,8 @@ new_links first milliseconds line second other_milliseconds other_line = record 
   b = new_history second other_milliseconds other_line;
 }
 
--- A promise about two links' histories is kept over streams: it holds for two new links of any
--- sizes in range, each started at most once, whatever the calls, the moments and the cuts.
+-- A promise about two links' histories is kept over streams, for two new links of any sizes in
+-- range, each started at most once, whatever the calls, the moments and the chunks of bytes.
 abbrev pub IsKeptOverStreams : (Links → Type 0) → Type 0
 IsKeptOverStreams Promise = (first second : Config) (milliseconds other_milliseconds : ℕ)
     (line other_line : ReaderView) (steps : List (End × LinkStep))
@@ -253,12 +253,12 @@ IsKeptOverStreams Promise = (first second : Config) (milliseconds other_millisec
     → Promise (after_steps steps
     (new_links first milliseconds line second other_milliseconds other_line))
 
--- the messages that a link's user took, and after them the received messages that wait for it
+-- the messages that a link's user took, and after them the received messages not taken yet
 abbrev pub received : LinkHistory → List (List ℕ)
 received h = h.taken ++ h.link.station.core.station.inbox
 
--- What one link received are the first of the messages that the other accepted, in their order,
--- each once and unchanged; and the other reported no more of them acknowledged.
+-- The messages that one link received are a prefix of those that the other accepted, each once and
+-- unchanged; and the other reported no more of them acknowledged.
 pub record LinkReaches (giver taker : LinkHistory) : Type 0 where
   pub order : IsPrefixOf (received taker) giver.accepted
   pub acknowledged : giver.acknowledged ≤ length (received taker)

@@ -12,7 +12,7 @@ use Rattle.ddcmp_session.specs.Lines.{Closes}
 use Rattle.ddcmp_laws.specs.Pipe.{Made, session_of, undelivered}
 use Rattle.ddcmp_laws.specs.Sessions.{mail_in, messages_of}
 
--- Nothing was given or taken yet.
+-- No bytes were read or written yet.
 abbrev pub no_traffic : Traffic
 no_traffic = record {
   read = [];
@@ -31,8 +31,8 @@ pub record HasRun (made : Made) (new : SessionView) (held : BuffersView) (t : Tr
     pub session : (after_session_steps steps (session_of made)).session ≡ new
     pub agrees : Agrees held (after_session_steps steps (session_of made)) t
 
--- In binary, if what one's input gave begins a file of messages that fit, then what the other's
--- output took begins that file too.
+-- In binary, if the bytes read from one's input are a prefix of a file of messages that fit, then
+-- those written to the other's output are a prefix of that file, too.
 abbrev pub DevicesPipe : Made → Made → SessionHistory → SessionHistory → Type 0
 DevicesPipe made other giver taker = made.options.form ≡ form.Binary
     → other.options.form ≡ form.Binary
@@ -41,8 +41,8 @@ DevicesPipe made other giver taker = made.options.form ≡ form.Binary
     → Agrees held giver t → Agrees other_held taker other_t
     → Begins t.read (in_binary messages) → Begins other_t.written (in_binary messages)
 
--- And if the input gave all of the file, of which nothing is held, and the one may end as
--- delivered, then the other's output took all of it, once nothing waits there.
+-- And if the whole file was read and none of it is held, and `is_delivered` holds for that session,
+-- then the whole file was written to the other's output, once nothing is queued there.
 abbrev pub DevicesPipeAll : Made → Made → SessionHistory → SessionHistory → Type 0
 DevicesPipeAll made other giver taker = made.options.form ≡ form.Binary
     → other.options.form ≡ form.Binary
@@ -55,14 +55,14 @@ DevicesPipeAll made other giver taker = made.options.form ≡ form.Binary
 
 -- ---- until the session is closed
 
--- the messages that an input gave; its end ends a last line
+-- the messages in the bytes read from the input, whose end ends a last line
 abbrev pub messages_given : Made → Traffic → List (List ℕ)
 messages_given made t =
     messages_of made.options.form made.options.config.max
     (t.read ++ (if t.is_over then end_in made.options.form else []))
 
--- If the one, which no call before had closed, is closed then, with what is held of its input, and
--- nothing was lost, the other has received all of the messages that the input gave: these, in their
+-- If one session, which no call had closed before, is closed with the input that is held, and
+-- nothing was lost, the other has received all messages read from that input: these, in their
 -- order, each once and unchanged, and no others.
 abbrev pub DevicesDeliver : Made → SessionHistory → SessionHistory → Type 0
 DevicesDeliver made giver taker = (held : BuffersView) (t : Traffic) (closed : SessionView)
@@ -70,8 +70,8 @@ DevicesDeliver made giver taker = (held : BuffersView) (t : Traffic) (closed : S
     → Agrees held giver t → Closes held giver.session closed → closed.course.lost ≡ 0
     → mail_in taker.shown ++ undelivered taker ≡ messages_given made t
 
--- And in binary, if the input gave all of a file of messages that fit, the other's output took all
--- of the file, once nothing waits there.
+-- And in binary, if the input was a whole file of messages that fit, that file was written to the
+-- other's output, once nothing is queued there.
 abbrev pub DevicesPipeClosed : Made → Made → SessionHistory → SessionHistory → Type 0
 DevicesPipeClosed made other giver taker = made.options.form ≡ form.Binary
     → other.options.form ≡ form.Binary

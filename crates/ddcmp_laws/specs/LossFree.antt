@@ -1,5 +1,5 @@
--- A line without loss: what an end writes is in flight to the other, and what arrives there is
--- the front of what is in flight, in chunks of any size.
+-- A line without loss: the bytes that an end writes are in flight to the other, and arrive there
+-- from the front, in chunks of any size.
 use Rattle.std.specs.Prelude.{◌≡◌, ℕ, List, [], ◌∷◌, ◌++◌, length, drop, Option, Some, None}
 use Rattle.std.specs.List.{All}
 use Rattle.ddcmp_frame.specs.Reading.{ReadItem, open_at_end}
@@ -49,18 +49,18 @@ after_on_line (event.Arrive B bytes) l = record {
 }
 after_on_line e l = record { pair = after_event e l.pair; to_a = l.to_a; to_b = l.to_b }
 
--- these bytes are the front of what is in flight
+-- these bytes are a prefix of those in flight
 abbrev pub ComesFirst : List ℕ → List ℕ → Type 0
 ComesFirst bytes way = (rest : List ℕ) × (bytes ++ rest ≡ way)
 
--- What arrives is what comes first. The line isn't cleared.
+-- Bytes arrive from the front of those in flight. The line isn't cleared.
 abbrev pub LosesNothing : Event → Line → Type 0
 LosesNothing (event.Arrive A bytes) l = ComesFirst bytes l.to_a
 LosesNothing (event.Arrive B bytes) l = ComesFirst bytes l.to_b
 LosesNothing event.Clear l = ⊥
 LosesNothing e l = Unit {0}
 
--- each of these events loses nothing
+-- none of these events loses anything
 abbrev pub IsLossFree : List Event → Line → Type 0
 IsLossFree [] l = Unit {0}
 IsLossFree (e ∷ rest) l = LosesNothing e l × IsLossFree rest (after_on_line e l)
@@ -70,17 +70,17 @@ unfoldable pub run_on_line : List Event → Line → Line
 run_on_line [] l = l
 run_on_line (e ∷ rest) l = run_on_line rest (after_on_line e l)
 
--- ---- from where
+-- ---- where it starts
 
--- What is in flight ends what is half read at this end and leaves no frame unfinished, and the
--- station can receive all that it brings, as it can whatever bytes bring.
+-- The bytes in flight to this end complete any frame that is partly read and leave none unfinished,
+-- and the station can receive each item in them.
 pub record ComesWhole (x : EndState) (way : List ℕ) : Type 0 where
   pub closed : open_at_end x.core.limits.longest (x.arrived ++ way) ≡ 0
   pub receivable : All (λ (g : ReadItem). IsReceivable x.core.limits (received_of g))
       (items_added x.core.limits.longest x.arrived way)
 
--- Both stations are sound and take messages of the same lengths, and all that is in flight comes
--- whole.
+-- Both stations are sound and accept messages of the same lengths, and all that is in flight
+-- arrives whole.
 pub record IsWhole (l : Line) : Type 0 where
   pub sound_a : IsSound l.pair.a.core.limits l.pair.a.core.station
   pub sound_b : IsSound l.pair.b.core.limits l.pair.b.core.station

@@ -7,8 +7,8 @@ use Rattle.ddcmp_session.specs.Devices.{Agrees, BuffersView, Traffic}
 use Rattle.ddcmp_laws.specs.Connections.{first_connection}
 use Rattle.ddcmp_laws.specs.Pipe.{Made}
 
--- A history of a session from its beginning, over as many lines as it was connected on, which
--- agrees with its devices at its end.
+-- A history of a session from its beginning, over every line that it was connected on, which agrees
+-- with its devices at its end.
 pub record HasRunOver (made : Made) (new : SessionView) (held : BuffersView) (t : Traffic) : Type 0
   where
     pub steps : List SessionStep

@@ -1,5 +1,5 @@
 -- Calls of the stations at two ends, whoever makes them: what each does, and which event of a run
--- it is.
+-- it is, if any.
 use Rattle.std.specs.Prelude.{◌≡◌, ℕ, ◌≤◌, Bool, true, ◌&&◌, is_some, List, [], ◌∷◌, ◌++◌, sum_by}
 use Rattle.ddcmp_frame.specs.Reading.{good_frames}
 use Rattle.ddcmp_core.specs.Table.{StationState, after_take_arm}
@@ -43,7 +43,7 @@ after_call_here Take x = after_take_here x
 after_call_here Arm x = after_arm_here x
 after_call_here Ask x = x
 
--- whether it is honest, if the other end has sent these frames
+-- whether a call is honest, if the other end has sent these frames
 abbrev pub is_call_honest : Call → EndState → List WholeFrame → Bool
 is_call_honest (Arrive bytes) x sent =
     is_some (place_of (good_frames x.core.limits.longest (x.arrived ++ bytes)) sent)
@@ -73,7 +73,7 @@ unfoldable pub after_calls_here : List Call → EndState → EndState
 after_calls_here [] x = x
 after_calls_here (c ∷ rest) x = after_calls_here rest (after_call_here c x)
 
--- those of them that are made at this end
+-- the calls that are made at this end
 abbrev pub calls_if : End → End → Call → List Call
 calls_if A A c = c ∷ []
 calls_if A B c = []
@@ -110,20 +110,20 @@ events_of e Take = event.Take e ∷ []
 events_of e Arm = []
 events_of e Ask = []
 
--- the events that calls are, in their order
+-- the events of these calls, in their order
 unfoldable pub events_in : List (End × Call) → List Event
 events_in [] = []
 events_in (step ∷ rest) = events_of step.0 step.1 ++ events_in rest
 
--- ---- the same but for Arm
+-- ---- equal except for Arm
 
--- Two stations are the same, but that one may know already that its timer was started.
+-- Two stations are equal, except that one may have reported already that its timer was started.
 abbrev pub IsSameStation : StationState → StationState → Type 0
 IsSameStation s t = after_take_arm s ≡ after_take_arm t
 
 abbrev pub noted : PairState → PairState
 noted p = record { a = after_arm_here p.a; b = after_arm_here p.b; honest = p.honest }
 
--- the same of both ends of two pairs
+-- the same for both ends of two pairs
 abbrev pub IsSamePair : PairState → PairState → Type 0
 IsSamePair p q = noted p ≡ noted q

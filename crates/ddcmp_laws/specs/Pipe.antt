@@ -1,4 +1,4 @@
--- Two sessions on a line, as pipes: what comes out of one is what went into the other.
+-- Two sessions on a line, as pipes: the output of one is the input of the other.
 use Rattle.std.specs.Prelude.{◌≡◌, ℕ, ◌+◌, ◌≤◌, Bool, true, false, List, [], ◌∷◌, ◌++◌, map, None}
 use Rattle.std.specs.List.{All}
 use Rattle.ddcmp_frame.specs.Reader.{ReaderView}
@@ -21,7 +21,7 @@ use Rattle.ddcmp_session.specs.Calls.{SessionHistory}
 use Rattle.ddcmp_session.specs.Calls.{new_session, SessionStep, after_session_step}
 use Rattle.ddcmp_laws.specs.Sessions.{messages_of, mail_in, link_steps_of}
 
--- how a session is made, whose messages are of data
+-- how a session of data messages is made
 pub record Made : Type 0 where
   pub options : Options
   pub of_data : options.maintenance ≡ false
@@ -52,7 +52,7 @@ abbrev pub after_session_at : End → SessionStep → Sessions → Sessions
 after_session_at A step p = record { a = after_session_step step p.a; b = p.b }
 after_session_at B step p = record { a = p.a; b = after_session_step step p.b }
 
--- Each step is a call of one of two sessions, as its contract says.
+-- Each step is a call of one of two sessions, which does what its contract states.
 abbrev pub AreSessionCalls : List (End × SessionStep) → Sessions → Type 0
 AreSessionCalls [] p = Unit {0}
 AreSessionCalls (step ∷ rest) p =
@@ -88,9 +88,10 @@ pub record AreConnectedOnce (steps : List (End × SessionStep)) : Type 0 where
   pub at_a : connects A steps ≤ 1
   pub at_b : connects B steps ≤ 1
 
--- A promise about two sessions is kept over honest lines: it holds for two new sessions of any
--- sizes in range, each connected at most once, whatever the calls, the moments and the cuts, if the
--- good frames that each received are, in their order, among those that the other sent.
+-- A promise about two sessions is kept over honest lines, for two new sessions of any sizes in
+-- range, each connected at most once, whatever the calls, the moments and the chunks of bytes. The
+-- line is honest if the good frames that each received are, in their order, among those that the
+-- other sent.
 abbrev pub IsKeptByPipes : (Made → Made → Sessions → Type 0) → Type 0
 IsKeptByPipes Promise = (first second : Made) (steps : List (End × SessionStep))
     → first_refusal first.options.config ≡ None → first_refusal second.options.config ≡ None
@@ -101,13 +102,13 @@ IsKeptByPipes Promise = (first second : Made) (steps : List (End × SessionStep)
     → AreConnectedOnce steps
     → Promise first second (after_sessions steps (new_sessions first second))
 
--- what each used is a beginning of what the line of the other took
+-- the bytes that each used are a prefix of those that the other wrote to its line
 pub record AreSessionStreams (p : Sessions) : Type 0 where
   pub to_a : Begins p.a.used p.b.gone
   pub to_b : Begins p.b.used p.a.gone
 
--- Each step is a call of one of two sessions, as its contract says, and after each the lines are
--- streams.
+-- Each step is a call of one of two sessions, which does what its contract states, and after each
+-- the lines are streams.
 abbrev pub SessionsOverStreams : List (End × SessionStep) → Sessions → Type 0
 SessionsOverStreams [] p = Unit {0}
 SessionsOverStreams (step ∷ rest) p =
@@ -115,7 +116,7 @@ SessionsOverStreams (step ∷ rest) p =
     × AreSessionStreams (after_session_at step.0 step.1 p)
     × SessionsOverStreams rest (after_session_at step.0 step.1 p)
 
--- The same over connections, which give their bytes in order: no other premise is needed.
+-- The same over connections, which yield their bytes in order: no other premise is needed.
 abbrev pub IsKeptOverConnections : (Made → Made → Sessions → Type 0) → Type 0
 IsKeptOverConnections Promise = (first second : Made) (steps : List (End × SessionStep))
     → first_refusal first.options.config ≡ None → first_refusal second.options.config ≡ None
@@ -123,26 +124,26 @@ IsKeptOverConnections Promise = (first second : Made) (steps : List (End × Sess
     → AreConnectedOnce steps
     → Promise first second (after_sessions steps (new_sessions first second))
 
--- the received messages that wait to be delivered
+-- the received messages that aren't delivered yet
 abbrev pub undelivered : SessionHistory → List (List ℕ)
 undelivered h = h.session.link.station.core.station.inbox
 
--- What one session delivered are the first of the messages that the input of the other has, in
--- their order, each once and unchanged.
+-- The messages that one session delivered are a prefix of those read from the other's input, each
+-- once and unchanged.
 abbrev pub Pipes : Made → SessionHistory → SessionHistory → Type 0
 Pipes made giver taker =
     IsPrefixOf (mail_in taker.shown)
     (messages_of made.options.form made.options.config.max giver.input)
 
--- If one session may end as delivered, the other has received all of the messages that its input
--- has: these, and no others.
+-- If `is_delivered` holds for one session, the other has received all messages read from its input:
+-- these, and no others.
 abbrev pub PipesAll : Made → SessionHistory → SessionHistory → Type 0
 PipesAll made giver taker = is_delivered giver.session ≡ true
     → mail_in taker.shown ++ undelivered taker
     ≡ messages_of made.options.form made.options.config.max giver.input
 
--- If one session is closed then, and nothing was lost, the other has received all of the messages
--- that its input has, and what was left of the input has none.
+-- If one session is closed and nothing was lost, the other has received all messages read from its
+-- input, and the rest of the input has no message.
 abbrev pub PipesClosed : Made → SessionHistory → SessionHistory → Type 0
 PipesClosed made giver taker = (left : List ℕ) (is_at_end is_reported : Bool) (closed : SessionView)
     → HasClosed left is_at_end is_reported giver.session closed → closed.course.lost ≡ 0
@@ -151,8 +152,8 @@ PipesClosed made giver taker = (left : List ℕ) (is_at_end is_reported : Bool) 
     × (lost_among left giver.session ≡ 0)
     × (lost_at_end left is_at_end giver.session ≡ 0)
 
--- In binary, if what was read of one's input begins a file of messages that fit, then what the
--- other's output took begins that file too.
+-- In binary, if the bytes read from one's input are a prefix of a file of messages that fit, then
+-- those written to the other's output are a prefix of that file, too.
 abbrev pub PipesBytes : Made → Made → SessionHistory → SessionHistory → Type 0
 PipesBytes made other giver taker = made.options.form ≡ form.Binary
     → other.options.form ≡ form.Binary
@@ -160,8 +161,8 @@ PipesBytes made other giver taker = made.options.form ≡ form.Binary
     → Begins giver.input (in_binary messages)
     → Begins taker.written (in_binary messages)
 
--- And if all of the file was read, and the one may end as delivered, then the other's output has
--- all of it, once nothing waits there.
+-- And if the whole file was read, and `is_delivered` holds for that session, then the whole file
+-- was written to the other's output, once nothing is queued there.
 abbrev pub PipesWhole : Made → Made → SessionHistory → SessionHistory → Type 0
 PipesWhole made other giver taker = made.options.form ≡ form.Binary
     → other.options.form ≡ form.Binary

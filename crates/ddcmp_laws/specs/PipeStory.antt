@@ -1,4 +1,4 @@
--- One run of two sessions, written out: both are connected, and one message comes through.
+-- One run of two sessions, written out: both are connected, and one message is transferred.
 use Rattle.std.specs.Prelude.{◌≡◌, refl, ℕ, true, false, List, [], ◌∷◌, ◌++◌}
 use Rattle.ddcmp_frame.specs.Reader.{ReaderView}
 use Rattle.ddcmp_input.specs.InBinary.{behind_length}
@@ -116,14 +116,14 @@ small_made line =
 abbrev pub small_sessions : ReaderView → ReaderView → Sessions
 small_sessions line other_line = new_sessions (small_made line) (small_made other_line)
 
--- A frame is put, the line takes it, and the other session receives it.
+-- A frame is queued, the line takes it, and the other session receives it.
 abbrev pub carried_from_a : ℕ → List ℕ → List (End × SessionCall)
 carried_from_a n bytes = (A, Filled 1) ∷ (A, LineTook n) ∷ (B, Received bytes) ∷ []
 
 abbrev pub carried_from_b : ℕ → List ℕ → List (End × SessionCall)
 carried_from_b n bytes = (B, Filled 1) ∷ (B, LineTook n) ∷ (A, Received bytes) ∷ []
 
--- A has one message in its input, which comes through, and its acknowledgement comes back.
+-- A has one message in its input, which B receives, and A receives the acknowledgement.
 abbrev pub pipe_calls : List (End × SessionCall)
 pipe_calls =
     (A, Connected) ∷ (B, Connected) ∷ []
@@ -137,8 +137,8 @@ pipe_calls =
 abbrev pub pipe_steps : ReaderView → ReaderView → List (End × SessionStep)
 pipe_steps line other_line = steps_by pipe_calls (small_sessions line other_line)
 
--- How it ends: all of A's input was read, B's output took the same bytes, and A may end as
--- delivered.
+-- How it ends: all of A's input was read, the same bytes were written to B's output, and
+-- `is_delivered` holds for A.
 pub record HasComeThrough (p : Sessions) : Type 0 where
   pub input : p.a.input ≡ behind_length abc
   pub written : p.b.written ≡ behind_length abc

@@ -38,13 +38,13 @@ bytes_of_numbers numbers = map (λ k. k % 256) numbers
 
 -- ---- what messages carry
 
--- A data message carries the position of its message among those given, modulo 256.
+-- A data message carries the position of its message among the accepted ones, modulo 256.
 abbrev pub CarriesPosition : List (List ℕ) → Frame → Type 0
 CarriesPosition given (Data resp num message) =
     (k : ℕ) × ((1 ≤ k) × (k ≤ length given) × (num ≡ k % 256) × (message ≡ message_at k given))
 CarriesPosition given f = Unit {0}
 
--- all data messages among these frames do
+-- all data messages among these frames do so
 abbrev pub CarryPositions : List (List ℕ) → List WholeFrame → Type 0
 CarryPositions given [] = Unit {0}
 CarryPositions given (f ∷ rest) =
@@ -52,8 +52,9 @@ CarryPositions given (f ∷ rest) =
 
 -- ---- one direction
 
--- An end that began has as N and T the highest position that it sent and the next one that it
--- sends, and as A the number of messages that were acknowledged to it; it keeps those after.
+-- At an end that was started, N is the highest position that it sent, T the next one that it sends,
+-- and A the number of its messages that were acknowledged, all modulo 256; it queues the messages
+-- after those.
 pub record HasPositions (x : EndState) (sent next : ℕ) : Type 0 where
   pub n : x.core.station.n ≡ sent % 256
   pub t : x.core.station.t ≡ next % 256
@@ -62,9 +63,9 @@ pub record HasPositions (x : EndState) (sent next : ℕ) : Type 0 where
   pub next_low : x.acknowledged < next
   pub next_high : next ≤ sent + 1
 
--- What one end accepted and the other delivered is a run of a link without bounds, and all numbers
--- are those of the link modulo 256: those of the end that gives, R at the other, and those of the
--- frames that each end sent after the place of what arrived at the other.
+-- The messages that one end accepted and the other delivered are a run of a link with unbounded
+-- numbers. All numbers are those of the link modulo 256: those of the sending end, R at the other,
+-- and those of the frames that each end sent after the last that arrived at the other.
 pub record IsNumberedLink (from to : EndState) : Type 0 where
   pub sent : ℕ
   pub next : ℕ

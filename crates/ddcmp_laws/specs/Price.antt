@@ -1,5 +1,5 @@
--- The price of a line: how many frames its two ends will send at most before they rest, if nothing
--- is lost. Each number is what one thing leads to, w being the larger window.
+-- The price of a line: how many frames its two ends send at most before they rest, if nothing is
+-- lost. Each number counts the frames that one thing causes, w being the larger window.
 use Rattle.std.specs.Prelude.{ℕ, ◌+◌, ◌-◌, ◌*◌, Bool, true, false, List, [], ◌∷◌, length, sum_by}
 use Rattle.std.specs.Prelude.{Option, Some}
 use Rattle.ddcmp_frame.specs.declared.nak.Nak.{Nak as Reason}
@@ -21,8 +21,8 @@ use Rattle.ddcmp_laws.specs.LossFree.{Line}
 
 -- ---- what is in flight
 
--- A NAK may send a whole window again, each message of which is answered. A REP is answered by
--- such a NAK at the worst, a STRT by a STACK, a STACK and a message by an ACK.
+-- A NAK may cause a whole window to be retransmitted, and each message of it to be answered. A REP
+-- is answered by such a NAK in the worst case, a STRT by a STACK, a STACK and a message by an ACK.
 abbrev pub price_of_frame : ℕ → Frame → ℕ
 price_of_frame w (Data resp num message) = 1
 price_of_frame w (Acked resp) = 0
@@ -32,7 +32,7 @@ price_of_frame w Strt = 2
 price_of_frame w Stack = 1
 price_of_frame w (Maint message) = 0
 
--- what is damaged is answered by a NAK
+-- anything damaged is answered by a NAK
 abbrev pub price_of_received : ℕ → Received → ℕ
 price_of_received w (Good f) = price_of_frame w f
 price_of_received w _ = 1 + 2 * w
@@ -47,7 +47,7 @@ price_of_due IStart true = 3
 price_of_due AStart true = 2
 price_of_due _ _ = 0
 
--- what a NAK leads to once it is sent, but for a NAK that says that there was no room
+-- what a NAK causes once it is sent, except for one of a full inbox
 abbrev pub price_of_nak : ℕ → Reason → ℕ
 price_of_nak w reason.NoBuffer = 0
 price_of_nak w _ = 2 * w
@@ -61,7 +61,7 @@ abbrev pub price_of_rep : ℕ → Bool → ℕ
 price_of_rep w true = 2 + 2 * w
 price_of_rep w false = 0
 
--- each message kept that isn't sent since the last NAK, and its answer
+-- the last term counts each queued message that is to be sent, or sent again, and its answer
 abbrev pub price_of_station : ℕ → StationState → ℕ
 price_of_station w s =
     price_of_due s.state s.due + price_of_reply w s.reply + price_of_rep w s.rep
@@ -83,26 +83,26 @@ items_on_way l =
     length (items_added l.pair.a.core.limits.longest l.pair.a.arrived l.to_a)
     + length (items_added l.pair.b.core.limits.longest l.pair.b.arrived l.to_b)
 
--- ---- what events give and what they add
+-- ---- frames that events yield, and what events add
 
--- a poll gives a frame
+-- whether a poll yields a frame
 abbrev pub frames_of : Reply → ℕ
 frames_of (reply.Wrote bytes) = 1
 frames_of _ = 0
 
--- how many polls of these events give a frame
+-- how many polls of these events yield a frame
 unfoldable pub frames_given : List Event → PairState → ℕ
 frames_given [] p = 0
 frames_given (e ∷ rest) p = frames_of (reply_to e p) + frames_given rest (after_event e p)
 
--- a frame that refuses a message for which there was no room
+-- the price of a NAK of a full inbox
 abbrev pub refusal_price : ℕ → Option Frame → ℕ
 refusal_price w (Some (Naked reason.NoBuffer resp)) = 2 * w
 refusal_price w _ = 0
 
--- What an event adds to the price: a timer that expires a REP, or a STRT or STACK, and what that
--- leads to; a NAK that says that there was no room the window that it sends again; a message and a
--- start what they lead to.
+-- What an event adds to the price: a timeout adds a REP, or a STRT or STACK, and what that causes;
+-- a NAK of a full inbox adds the window that is retransmitted; a message and a start add what they
+-- cause.
 abbrev pub added_by : ℕ → Event → PairState → ℕ
 added_by w (event.Expire e) p = 2 * w + 2
 added_by w (event.Poll e) p = refusal_price w (next_frame (next (at e p).core.station))

@@ -8,7 +8,8 @@ use Rattle.ddcmp_pair.specs.Settle.{other}
 use Rattle.ddcmp_pair.specs.Recovery.{recovered, IsDone}
 use Rattle.ddcmp_laws.specs.Story.{number}
 
--- An end accepts this message, under the number after those of all that it accepted before.
+-- An end accepts this message, under the number that follows those of all messages that it accepted
+-- before.
 abbrev pub Accepts : End → List ℕ → PairState → Type 0
 Accepts end message p =
     reply_to (event.Send end message) p
@@ -18,8 +19,8 @@ Accepts end message p =
 abbrev pub sent_over : End → List ℕ → PairState → PairState
 sent_over end message p = recovered (after_event (event.Send end message) p)
 
--- This message is delivered at the other end, after all that was; nothing else is delivered at
--- either end, and nothing is left to be done.
+-- This message is delivered at the other end, after those delivered before; nothing else is
+-- delivered at either end, and nothing is left to do.
 pub record HandsOver (end : End) (message : List ℕ) (before after : PairState) : Type 0 where
   pub there : handed_up (at (other end) after)
       ≡ handed_up (at (other end) before) ++ message ∷ []

@@ -15,8 +15,8 @@ GoesOn (event.Start e ∷ rest) = ⊥
 GoesOn (event.Halt e ∷ rest) = ⊥
 GoesOn (e ∷ rest) = GoesOn rest
 
--- What happened was honest and clean, both ends have begun, and all good frames in flight stand,
--- in their order, among those that were sent, after those that arrived.
+-- The run was honest and clean, neither end is halted, and all good frames in flight are, in their
+-- order, among those that were sent after those that arrived.
 pub record IsUnderWay (l : Line) : Type 0 where
   pub honest : l.pair.honest ≡ true
   pub clean : is_clean l.pair ≡ true

@@ -1,4 +1,4 @@
--- A served station as one that was driven.
+-- A served station as a driven one.
 use Rattle.std.specs.Prelude.{◌≡◌, ℕ, Bool, List, [], ◌∷◌, Result}
 use Rattle.std.specs.Io.KnownBytes.{Appends, Consumes}
 use Rattle.ddcmp_io.specs.Written.{Known}
@@ -10,9 +10,9 @@ use Rattle.ddcmp_net.specs.Serving.{default_config, OffersOnce, WritesOut, repor
 use Rattle.ddcmp_laws.specs.Faithful.{Begins}
 use Rattle.ddcmp_laws.specs.Driven.{DriveCall, after_drives, begun, seen_of}
 
--- A served station is a new one that was started and driven by this call: it took from the source
--- what its turns read and brought the sink what they wrote, or if it broke off a beginning of
--- that. Its user gave the message once, and what the user saw is the report.
+-- A served station is a new one that was started and driven by this call: the source lost the bytes
+-- that its turns read, and the sink got the bytes that they wrote, or if the call broke off a
+-- prefix of these. Its user offered the message once, and what the user saw is the report.
 pub record IsServed (milliseconds : ℕ) (restart counted : Bool) (send : List ℕ) (call : DriveCall)
     (devices : Devices) (failed : Bool) (report report_after : Known) : Type 0 where
   pub timer : call.milliseconds ≡ milliseconds

@@ -1,5 +1,5 @@
--- Two runs over devices, over one line after the other: what the input of one gave is what the
--- output of the other took.
+-- Two runs over devices, over one line after the other: the input of one is the output of the
+-- other.
 use Rattle.std.specs.Prelude.{◌≡◌, ℕ, true, List, [], ◌∷◌, ◌++◌, length}
 use Rattle.std.specs.Prelude.{drop, None}
 use Rattle.std.specs.List.{All}
@@ -24,7 +24,7 @@ use Rattle.ddcmp_laws.specs.Connections.{first_connection, first_connections, li
 use Rattle.ddcmp_laws.specs.Connections.{delivered_since}
 use Rattle.ddcmp_laws.specs.Loops.{messages_given}
 
--- a run: how its session was made, and the calls of it
+-- a run: how its session was made, and its calls
 pub record Ran : Type 0 where
   pub made : Made
   pub steps : List SessionStep
@@ -59,20 +59,21 @@ pub record RanTogether (a b : Ran) : Type 0 where
       (links_made a.made b.made))
       (new_pair a.made.options.config b.made.options.config)) ≡ true
 
--- A promise about two runs is kept: of new sessions of any sizes in range, whatever their calls.
+-- A promise about two runs is kept, for new sessions of any sizes in range, whatever their calls.
 abbrev pub IsKeptByRuns : (Ran → Ran → Type 0) → Type 0
 IsKeptByRuns Promise = (a b : Ran)
     → first_refusal a.made.options.config ≡ None → first_refusal b.made.options.config ≡ None
     → AreDone a.steps (first_connection a.made) → AreDone b.steps (first_connection b.made)
     → RanTogether a b → Promise a b
 
--- the messages that an input gave and that its session had not had when it was connected last
+-- the messages in the bytes read from the input, without those that the session had read before it
+-- was connected last
 abbrev pub given_since : Made → Connection → Traffic → List (List ℕ)
 given_since made c t =
     drop (length (messages_of made.options.form made.options.config.max c.input_before))
     (messages_given made t)
 
--- The run was ended: its session, which no call before had closed, was closed with what was held.
+-- The run was ended: its session, which no call had closed before, was closed with the input held.
 pub record WasEnded (ran : Ran) (held : BuffersView) (t : Traffic) (closed : SessionView) : Type 0
   where
     pub only : AllKeepOpen ran.steps
@@ -81,29 +82,29 @@ pub record WasEnded (ran : Ran) (held : BuffersView) (t : Traffic) (closed : Ses
 
 -- ---- the promises
 
--- What one has delivered since it was connected are the first of the messages that the input of the
--- other has given since that one was, in their order, each once and unchanged.
+-- The messages that one has delivered since it was connected are a prefix of those read from the
+-- other's input since that was connected, each once and unchanged.
 abbrev pub DeliversFirst : Ran → Ran → Type 0
 DeliversFirst giver taker = (held : BuffersView) (t : Traffic)
     → Agrees held (got_to giver).history t
     → IsPrefixOf (delivered_since (got_to taker)) (given_since giver.made (got_to giver) t)
 
--- If that one was ended, and nothing was lost, the one has received all of them.
+-- If that other run was ended and lost nothing, the one has received all of them.
 abbrev pub DeliversAll : Ran → Ran → Type 0
 DeliversAll giver taker = (held : BuffersView) (t : Traffic) (closed : SessionView)
     → WasEnded giver held t closed → closed.course.lost ≡ 0
     → delivered_since (got_to taker) ++ undelivered (got_to taker).history
     ≡ given_since giver.made (got_to giver) t
 
--- both in binary, and over the lines before no message came
+-- both are in binary, and no message went over an earlier line
 pub record InFiles (giver taker : Ran) : Type 0 where
   pub giver_form : giver.made.options.form ≡ form.Binary
   pub taker_form : taker.made.options.form ≡ form.Binary
   pub none_read : (got_to giver).input_before ≡ []
   pub none_delivered : mail_in (got_to taker).shown_before ≡ []
 
--- If what one's input gave begins a file of messages that fit, what the other's output took begins
--- that file too.
+-- If the bytes read from one's input are a prefix of a file of messages that fit, those written to
+-- the other's output are a prefix of that file, too.
 abbrev pub FilesBegin : Ran → Ran → Type 0
 FilesBegin giver taker = InFiles giver taker
     → (messages : List (List ℕ)) → All (Fits giver.made.options.config.max) messages
@@ -111,8 +112,8 @@ FilesBegin giver taker = InFiles giver taker
     → Agrees held (got_to giver).history t → Agrees other_held (got_to taker).history other_t
     → Begins t.read (in_binary messages) → Begins other_t.written (in_binary messages)
 
--- If it gave all of the file, and the one was ended and lost nothing, the other's output took all
--- of the file, once nothing waits there.
+-- If the whole file was read, and that run was ended and lost nothing, the whole file was written
+-- to the other's output, once nothing is queued there.
 abbrev pub FilesPass : Ran → Ran → Type 0
 FilesPass giver taker = InFiles giver taker
     → (messages : List (List ℕ)) → All (Fits giver.made.options.config.max) messages

@@ -33,7 +33,7 @@ unfoldable pub got_in : List Told → List (List ℕ)
 got_in [] = []
 got_in (told ∷ rest) = got told ++ got_in rest
 
--- the messages of at most `max` bytes that an input has
+-- the messages of at most `max` bytes in an input
 abbrev pub messages_of : Form → ℕ → List ℕ → List (List ℕ)
 messages_of Digits max input =
     got_in (map (λ (told : ℕ × Told). told.1) (lines.told_in input (hex.begun max)))
@@ -62,7 +62,7 @@ texts_of form (one ∷ rest) = text_of form one ++ texts_of form rest
 abbrev pub link_step : LinkCall → LinkView → LinkStep
 link_step call new = record { call = call; link = new }
 
--- a message that was read is offered, and nothing else is
+-- a message that was read is offered to the link, and nothing else is
 abbrev pub offers_of : List Entry → List ℕ → LinkView → List LinkStep
 offers_of (Message ∷ rest) message new = link_step (Offers message) new ∷ []
 offers_of _ message new = []
@@ -71,7 +71,7 @@ unfoldable pub frames_put : ℕ → LinkView → List LinkStep
 frames_put zero d = []
 frames_put (suc n) d = link_step FillsOne (after_frame d) ∷ frames_put n (after_frame d)
 
--- the calls of its link that a call makes of a session, whose link is this one then
+-- the calls of the link that a call of a session makes; the link is `new` after them
 abbrev pub link_steps_of : SessionCall → SessionView → LinkView → List LinkStep
 link_steps_of (Typed used) s new =
     offers_of (entries_of_input used s.messages) (message_in (after_input used s.messages)) new
@@ -98,8 +98,9 @@ link_steps_in (step ∷ rest) h =
     link_steps_of step.call h.session step.session.link
     ++ link_steps_in rest (after_session_step step h)
 
--- The history of a session and that of its link are the same: it used these bytes of the line, and
--- its line took those; it accepted the messages of the input, and gave those that were delivered.
+-- The history of a session and that of its link agree: the same bytes of the line were used and
+-- written; the link accepted the messages of the input, and the messages taken from it were
+-- delivered.
 pub record IsOfLink (form : Form) (max : ℕ) (h : SessionHistory) (l : LinkHistory) : Type 0 where
   pub link : l.link ≡ h.session.link
   pub used : l.used ≡ h.used

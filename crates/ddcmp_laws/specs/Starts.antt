@@ -15,7 +15,7 @@ both_start = event.Start A ∷ event.Start B ∷ []
 abbrev pub started : Config → Config → PairState
 started first second = run (map event_in startup) (new_pair first second)
 
--- both ends run, over an honest line, and neither began twice
+-- both ends run, over an honest line, and neither started twice
 pub record IsUp (p : PairState) : Type 0 where
   pub honest : p.honest ≡ true
   pub clean : is_clean p ≡ true

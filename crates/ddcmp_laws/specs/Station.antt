@@ -1,4 +1,4 @@
--- What the laws of one station say, in words of their own.
+-- Definitions for the laws of one station, independent of the state table.
 use Rattle.std.specs.Prelude.{◌≡◌, ◌≢◌, ℕ, ◌+◌, ◌%◌, ◌<◌, ◌≤◌, Bool, true, false, List, [], ◌∷◌}
 use Rattle.std.specs.Prelude.{◌++◌, length}
 use Rattle.std.specs.Prelude.{drop, slice_index_or, Option, Some}
@@ -21,8 +21,8 @@ use Rattle.ddcmp_core.specs.Table.{Frame, Rep, Good, acknowledged_by, Maint}
 
 -- ---- what a halt leaves
 
--- A station that halted owes nothing and waits for nothing, and keeps its numbers, its messages to
--- send and its received messages.
+-- A station that halted has no pending frame and no timer, and keeps its numbers, its queued
+-- messages and its received messages.
 pub record HasHalted (before after : StationState) : Type 0 where
   pub state : after.state ≡ Halted
   pub due : after.due ≡ false
@@ -38,14 +38,14 @@ pub record HasHalted (before after : StationState) : Type 0 where
 
 -- ---- acknowledgements
 
--- what comes acknowledges up to this number: an ACK, a NAK or data with this RESP
+-- the input acknowledges up to this number: an ACK, a NAK or data with this RESP
 abbrev pub Responds : Received → ℕ → Type 0
 Responds (Good (Acked resp)) q = resp ≡ q
 Responds (Good (Naked why resp)) q = resp ≡ q
 Responds (Good (Data resp num message)) q = resp ≡ q
 Responds _ q = ⊥
 
--- an ACK or data with this RESP, which ask for nothing
+-- an ACK or data with this RESP, which request nothing
 abbrev pub Acknowledges : Received → ℕ → Type 0
 Acknowledges (Good (Acked resp)) q = resp ≡ q
 Acknowledges (Good (Data resp num message)) q = resp ≡ q
@@ -57,7 +57,8 @@ OnlyResponds (Good (Acked resp)) q = resp ≡ q
 OnlyResponds (Good (Naked why resp)) q = resp ≡ q
 OnlyResponds _ q = ⊥
 
--- Exactly the messages up to q leave, q is the last that is acknowledged, and as many are reported.
+-- Exactly the messages up to q leave the queue, q is the last that is acknowledged, and their
+-- number is reported.
 pub record AcknowledgesUpTo (q : ℕ) (before after : StationState)
     (notice_told : Option Notice) : Type 0 where
   pub a : after.a ≡ q
@@ -65,7 +66,7 @@ pub record AcknowledgesUpTo (q : ℕ) (before after : StationState)
   pub out : after.out ≡ drop (distance before.a q) before.out
   pub told : acknowledged_by notice_told ≡ distance before.a q
 
--- nothing leaves, and nothing is reported acknowledged
+-- no message leaves the queue, and none is reported acknowledged
 pub record AcknowledgesNothing (before after : StationState)
     (notice_told : Option Notice) : Type 0 where
   pub a : after.a ≡ before.a
@@ -82,9 +83,9 @@ WantsAnswer Stack = Unit {0}
 WantsAnswer (Rep num) = Unit {0}
 WantsAnswer _ = ⊥
 
--- ---- messages that come
+-- ---- received messages
 
--- that a message is in the inbox
+-- whether a notice reports a received message
 abbrev pub tells_mail : Option Notice → Bool
 tells_mail (Some notice.HandedUp) = true
 tells_mail (Some (notice.HandedUpAndAcknowledged m)) = true
@@ -92,7 +93,7 @@ tells_mail (Some notice.RunningAndHandedUp) = true
 tells_mail (Some notice.MaintenanceHandedUp) = true
 tells_mail _ = false
 
--- One message more is in the inbox, and is reported; R is one more, and an ACK is owed.
+-- One more message is in the inbox, and is reported; R is one more, and an ACK is pending.
 pub record HandsUp (message : List ℕ) (before after : StationState)
     (notice_told : Option Notice) : Type 0 where
   pub inbox : after.inbox ≡ before.inbox ++ message ∷ []
@@ -100,19 +101,19 @@ pub record HandsUp (message : List ℕ) (before after : StationState)
   pub told : tells_mail notice_told ≡ true
   pub owed : after.reply ≡ Ack
 
--- the inbox and R stay, and no received message is reported
+-- the inbox and R are unchanged, and no received message is reported
 pub record HandsUpNothing (before after : StationState) (notice_told : Option Notice) : Type 0 where
   pub inbox : after.inbox ≡ before.inbox
   pub r : after.r ≡ before.r
   pub told : tells_mail notice_told ≡ false
 
--- what comes is no data message, and no STRT
+-- the input is neither a data message nor a STRT
 abbrev pub IsNoMessage : Received → Type 0
 IsNoMessage (Good (Data resp num message)) = ⊥
 IsNoMessage (Good Strt) = ⊥
 IsNoMessage _ = Unit {0}
 
--- what comes is a maintenance message, good, damaged or too long
+-- the input is a maintenance message, good, damaged or too long
 abbrev pub IsMaintenance : Received → Type 0
 IsMaintenance (Good (Maint message)) = Unit {0}
 IsMaintenance (BadData false) = Unit {0}
@@ -123,15 +124,15 @@ abbrev pub IsGoodMaintenance : Received → Type 0
 IsGoodMaintenance (Good (Maint message)) = Unit {0}
 IsGoodMaintenance _ = ⊥
 
--- what comes is no good maintenance message
+-- the input is no good maintenance message
 abbrev pub IsNoMaintenance : Received → Type 0
 IsNoMaintenance (Good (Maint message)) = ⊥
 IsNoMaintenance _ = Unit {0}
 
--- ---- what is asked for
+-- ---- faults that are answered by a NAK
 
--- What can't be read, and the SUBTYPE of the NAK that it calls for: a header whose check fails 1, a
--- damaged data message 2, one too long 16, a header of no form 17.
+-- An input that can't be received, and the SUBTYPE of the NAK for it: 1 for a header with a wrong
+-- CRC, 2 for damaged data, 16 for a message that is too long, 17 for a header of no known form.
 abbrev pub CallsFor : Received → ℕ → Type 0
 CallsFor BadHeader k = k ≡ 1
 CallsFor (BadData true) k = k ≡ 2
@@ -147,8 +148,8 @@ pub record SendsNak (k r : ℕ) (s : StationState) : Type 0 where
 
 -- ---- the peer restarts
 
--- The station restarts as well: its next frame is a STACK, what it was to send is dropped, and
--- how many messages that were is reported.
+-- The station restarts as well: its next frame is a STACK, its queued messages are dropped, and
+-- their number is reported.
 pub record BeginsAnew (before after : StationState) (notice_told : Option Notice) : Type 0 where
   pub state : after.state ≡ AStart
   pub frame : next_frame (next after) ≡ Some Stack
@@ -162,8 +163,8 @@ pub record HaltsAtRestart (before after : StationState) (notice_told : Option No
 
 -- ---- the numbers of messages
 
--- A station keeps a message under a number: it stands at some place among those that are kept, and
--- the number is as many after A, counted modulo 256.
+-- A station has a message queued under a number: the message is at some place in the queue, and its
+-- number is that many after A, modulo 256.
 pub record KeepsUnder (s : StationState) (number : ℕ) (message : List ℕ) : Type 0 where
   pub place : ℕ
   pub there : place < length s.out
@@ -172,13 +173,13 @@ pub record KeepsUnder (s : StationState) (number : ℕ) (message : List ℕ) : T
 
 -- ---- what the user is refused
 
--- why `start` is refused, of two reasons the first that fits
+-- why `start` is refused: the first of two reasons that applies
 abbrev pub IsStartRefused : StationState → StartRefusal → Type 0
 IsStartRefused s NotHalted = s.state ≢ Halted
 IsStartRefused s Untaken = (s.state ≡ Halted) × (0 < length s.inbox)
 
--- Why a message isn't accepted by a call that takes it in this state alone, of four reasons the
--- first that fits.
+-- Why a call that accepts messages only in this state refuses a message: the first of four reasons
+-- that applies.
 abbrev pub IsRefused : State → Limits → StationState → List ℕ → SendRefusal → Type 0
 IsRefused state l s message refusal.WrongState = s.state ≢ state
 IsRefused state l s message refusal.Empty = (s.state ≡ state) × (message ≡ [])

@@ -1,5 +1,5 @@
--- Two stations by every call that a station has, also those that clear a line or concern
--- maintenance: what each call does to an end of a run, and which ends stations are.
+-- Two stations and every call that a station has, also those that clear a line or concern
+-- maintenance: what each call does to an end of a run, and when an end and a station agree.
 use Rattle.std.specs.Prelude.{◌≡◌, ℕ, ◌+◌, ◌≤◌, Bool, true, ◌&&◌, if◌then◌else◌, ◌==◌, List, []}
 use Rattle.std.specs.Prelude.{◌∷◌, ◌++◌, length, map, None, option_to_list}
 use Rattle.ddcmp_frame.specs.Reader.{StandsFor}
@@ -23,7 +23,7 @@ use Rattle.ddcmp_laws.specs.PairCalls.{Call, Start, Halt, Send, Poll, Arrive, Ex
 use Rattle.ddcmp_laws.specs.PairCalls.{Ask}
 use Rattle.ddcmp_laws.specs.PairCalls.{after_call_here, is_call_honest}
 
--- ---- the calls that are no event of a run, at their end
+-- ---- the calls that aren't events of a run, at their end
 
 -- A halted end whose line is cleared begins new histories. If it has messages that weren't taken it
 -- counts as started twice: the run isn't clean until that line is cleared again.
@@ -67,8 +67,8 @@ abbrev pub has_heard_none : EndState → Bool
 has_heard_none x = length (good_frames x.core.limits.longest x.arrived) == 0
 
 -- Whether the line is honest after a call, y being the other end. A halted end that clears its line
--- begins a new line, on which the other end may have sent frames. It is honest unless the other end
--- has heard a frame, which is one of the old line.
+-- begins a new line, on which the other end may have sent frames already. It is honest unless the
+-- other end has received a frame, which is one of the old line.
 abbrev pub is_honest_after : StationCall → EndState → EndState → Bool → Bool
 is_honest_after (Feeds used) x y honest = is_call_honest (Arrive used) x y.sent && honest
 is_honest_after ClearsLine x y honest =
@@ -111,7 +111,8 @@ station_calls calls = map (λ step. (step.0, station_call step.1)) calls
 
 -- ---- stations
 
--- An end of a run and a station are the same: what arrived there is what its reader stands for.
+-- An end of a run and a station agree: the state of its reader is that after the bytes that
+-- arrived.
 pub record IsStationAt (x : EndState) (v : StationView) : Type 0 where
   pub core : x.core ≡ v.core
   pub syn : x.syn ≡ v.syn
@@ -119,8 +120,9 @@ pub record IsStationAt (x : EndState) (v : StationView) : Type 0 where
 
 -- ---- the history of a station
 
--- A station, and what has been since its line was cleared: the bytes of the line that it used, the
--- messages that it accepted, those that were taken from it, and how many it reported acknowledged.
+-- A station, and what happened since its line was cleared: the bytes that it used from the line,
+-- the messages that it accepted, those that were taken from it, and how many it reported
+-- acknowledged.
 pub record StationHistory : Type 0 where
   pub station : StationView
   pub used : List ℕ
@@ -156,7 +158,7 @@ acknowledged_after (Feeds used) h =
     acknowledged_in (notices_of_piece h.used used h.station.core)
 acknowledged_after _ h = 0
 
--- what it keeps: nothing, if the line is cleared
+-- what is kept of the history: nothing, if the line is cleared
 abbrev pub kept_by : {A : Type 0} → StationCall → StationView → A → A → A
 kept_by ClearsLine v nothing old = if is_halted v.core.station.state then nothing else old
 kept_by _ v nothing old = old
@@ -176,7 +178,7 @@ after_station_step step h = record {
       kept_by step.call h.station 0 h.acknowledged + acknowledged_after step.call h;
 }
 
--- An end of a run and a station with its history are the same.
+-- An end of a run and a station with its history agree.
 pub record IsSameStation (x : EndState) (h : StationHistory) : Type 0 where
   pub at : IsStationAt x h.station
   pub used : x.arrived ≡ h.used
@@ -198,7 +200,7 @@ abbrev pub after_step_at : End → StationStep → Stations → Stations
 after_step_at A step q = record { a = after_station_step step q.a; b = q.b }
 after_step_at B step q = record { a = q.a; b = after_station_step step q.b }
 
--- Each step is a call of one of two stations, as its contract says.
+-- Each step is a call of one of two stations, which does what its contract states.
 abbrev pub AreStationCalls : List (End × StationStep) → Stations → Type 0
 AreStationCalls [] q = Unit {0}
 AreStationCalls (step ∷ rest) q =
@@ -212,24 +214,23 @@ after_station_steps (step ∷ rest) q = after_station_steps rest (after_step_at 
 abbrev pub calls_of_stations : List (End × StationStep) → List (End × StationCall)
 calls_of_stations steps = map (λ step. (step.0, step.1.call)) steps
 
--- both ends of a run
+-- the same for both ends of a run
 pub record AreSameStations (p : PairState) (q : Stations) : Type 0 where
   pub a : IsSameStation p.a q.a
   pub b : IsSameStation p.b q.b
 
--- the messages that were taken from a station, and after them those that wait in its inbox
+-- the messages that were taken from a station, and after them those in its inbox
 abbrev pub received : StationHistory → List (List ℕ)
 received h = h.taken ++ h.station.core.station.inbox
 
--- What one station received are the first of the messages that the other accepted, in their order,
--- each once and unchanged; and the other reported no more of them acknowledged.
+-- The messages that one station received are a prefix of those that the other accepted, each once
+-- and unchanged; and the other reported no more of them acknowledged.
 pub record StationReaches (giver taker : StationHistory) : Type 0 where
   pub order : IsPrefixOf (received taker) giver.accepted
   pub acknowledged : giver.acknowledged ≤ length (received taker)
 
--- A promise about the histories of two stations is kept: it holds for two new stations of any sizes
--- in range, whatever the calls, if the line is honest and the run clean since the lines were
--- cleared.
+-- A promise about the histories of two stations is kept, for two new stations of any sizes in
+-- range, whatever the calls, if the line is honest and the run clean since the lines were cleared.
 abbrev pub IsKeptByStations : (Stations → Type 0) → Type 0
 IsKeptByStations Promise = (first second : Config) (v w : StationView)
     (steps : List (End × StationStep))

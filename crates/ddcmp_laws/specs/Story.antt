@@ -1,4 +1,4 @@
--- One run of two ends, written out: what happens, and what is answered.
+-- One run of two ends, written out: the events, and the reply to each.
 use Rattle.std.specs.Prelude.{◌≡◌, ℕ, true, false, List, [], ◌∷◌, ◌++◌, take, drop}
 use Rattle.ddcmp_core.specs.declared.notice.Notice.{Notice}
 use Rattle.ddcmp_core.specs.declared.notice.Notice.TheVariants as notice
@@ -16,7 +16,7 @@ use Rattle.ddcmp_pair.specs.Recovery.{is_done}
 use Rattle.ddcmp_pair.specs.Run.{PairState, after_event, reply_to, handed_up, is_clean}
 use Rattle.ddcmp_laws.specs.Vectors.{abc}
 
--- ---- what goes over the line
+-- ---- the bytes on the line
 
 -- STRT
 abbrev pub strt_bytes : List ℕ
@@ -98,12 +98,12 @@ abbrev pub ack_3_bytes : List ℕ
 ack_3_bytes =
     0x05 ∷ 0x01 ∷ 0x00 ∷ 0x03 ∷ 0x00 ∷ 0x01 ∷ 0x0C ∷ 0x55 ∷ []
 
--- eight bytes whose check is wrong
+-- eight bytes whose CRC is wrong
 abbrev pub wrong_check_bytes : List ℕ
 wrong_check_bytes =
     0x05 ∷ 0x01 ∷ 0x00 ∷ 0x00 ∷ 0x00 ∷ 0x01 ∷ 0xFC ∷ 0x54 ∷ []
 
--- a header with a TYPE that there isn't, 4
+-- a header with an unknown TYPE, 4
 abbrev pub wrong_type_bytes : List ℕ
 wrong_type_bytes =
     0x05 ∷ 0x04 ∷ 0x00 ∷ 0x00 ∷ 0x00 ∷ 0x01 ∷ 0x30 ∷ 0x55 ∷ []
@@ -119,12 +119,12 @@ abbrev pub nak_1_bytes : List ℕ
 nak_1_bytes =
     0x05 ∷ 0x02 ∷ 0x01 ∷ 0x00 ∷ 0x00 ∷ 0x01 ∷ 0xB9 ∷ 0xA9 ∷ []
 
--- NAK 17, for a header of no form, with RESP 0
+-- NAK 17, for a header of no known form, with RESP 0
 abbrev pub nak_17_bytes : List ℕ
 nak_17_bytes =
     0x05 ∷ 0x02 ∷ 0x11 ∷ 0x00 ∷ 0x00 ∷ 0x01 ∷ 0xBD ∷ 0x69 ∷ []
 
--- NAK 16, for a message too long, with RESP 0
+-- NAK 16, for a message that is too long, with RESP 0
 abbrev pub nak_16_bytes : List ℕ
 nak_16_bytes =
     0x05 ∷ 0x02 ∷ 0x10 ∷ 0x00 ∷ 0x00 ∷ 0x01 ∷ 0xBC ∷ 0x95 ∷ []
@@ -154,7 +154,7 @@ g = 0x67 ∷ []
 abbrev pub default_sizes : Config
 default_sizes = record { window = 7; inbox = 8; max = 1500; syn = 0; restart = false }
 
--- what happens, and what is answered
+-- the events, and the reply to each
 abbrev pub Happening : Type 0
 Happening = Event × Reply
 
@@ -180,8 +180,8 @@ startup =
     ∷ (event.Poll B, reply.Idle)
     ∷ []
 
--- A sends two messages, and the first is lost. Its timer expires, so it asks by a REP, gets a NAK,
--- and retransmits both.
+-- A sends two messages, and the first is lost. Its timer expires, so it sends a REP, receives a
+-- NAK, and retransmits both.
 abbrev pub loss : List Happening
 loss =
     (event.Send A abc, reply.Accepted (number 1))
@@ -217,8 +217,8 @@ answer =
     ∷ (event.Expire B, reply.Expired false)
     ∷ []
 
--- A message is damaged in flight, and B asks for it at once by a NAK. Then the ACK is lost, so A
--- asks by a REP, which is answered by an ACK: nothing is retransmitted.
+-- A message is damaged in flight, and B sends a NAK at once. Then the ACK is lost, so A sends a
+-- REP, which is answered by an ACK: nothing is retransmitted.
 abbrev pub damage : List Happening
 damage =
     (event.Send A g, reply.Accepted (number 3))
@@ -257,7 +257,8 @@ written_run = startup ++ (loss ++ (answer ++ (damage ++ mail)))
 abbrev pub tight : Config
 tight = record { window = 7; inbox = 1; max = 3; syn = 0; restart = false }
 
--- What can't be read comes to B, which asks at once, by its reason. A has nothing to send again.
+-- B receives what it can't read, and replies at once by a NAK with its reason. A has nothing to
+-- retransmit.
 abbrev pub faults : List Happening
 faults =
     (event.Arrive B wrong_check_bytes, told [])
@@ -274,7 +275,7 @@ faults =
     ∷ (event.Poll A, reply.Idle)
     ∷ []
 
--- The second message finds no room, and is retransmitted once there is some.
+-- There is no room for the second message, and it is retransmitted once there is some.
 abbrev pub want_of_room : List Happening
 want_of_room =
     (event.Send A abc, reply.Accepted (number 1))
@@ -298,8 +299,8 @@ second_run = startup ++ (faults ++ want_of_room)
 
 -- ---- a third run, over a line that loses nothing
 
--- Both ends start at once. A sends a message, and its timer expires before the message has come,
--- which it does in two pieces. The REP after it is answered by the same ACK.
+-- Both ends start at once. A sends a message, and its timer expires before the message arrives in
+-- two chunks. The REP after it is answered by the same ACK.
 abbrev pub clear_run : List Happening
 clear_run =
     (event.Start A, reply.Started 0)
@@ -335,14 +336,14 @@ event_in h = h.0
 abbrev pub reply_in : Happening → Reply
 reply_in h = h.1
 
--- what a pair answers to events, one after another
+-- the replies of a pair to events, one after another
 unfoldable pub replies_to : List Event → PairState → List Reply
 replies_to [] p = []
 replies_to (e ∷ rest) p = reply_to e p ∷ replies_to rest (after_event e p)
 
 -- ---- how they end
 
--- A sent 3 messages of 6 bytes, and these 3 again; it sent two REPs, and received two NAKs.
+-- A sent 3 messages of 6 bytes, and retransmitted these 3; it sent two REPs, and received two NAKs.
 abbrev pub counts_of_a : Counters
 counts_of_a = record no_counts {
   messages_sent = 3;
@@ -356,7 +357,7 @@ counts_of_a = record no_counts {
   expiries = 2;
 }
 
--- B sent 1 message of 1 byte; it was asked twice by a REP, and once the data were damaged.
+-- B sent 1 message of 1 byte; it received two REPs, and damaged data once.
 abbrev pub counts_of_b : Counters
 counts_of_b = record no_counts {
   messages_sent = 1;
@@ -368,7 +369,8 @@ counts_of_b = record no_counts {
   data_checks = 1;
 }
 
--- In the second run A sent 2 messages of 5 bytes, and one of them, of 2, again; four NAKs came.
+-- In the second run A sent 2 messages of 5 bytes, and retransmitted one of them, of 2; it received
+-- four NAKs.
 abbrev pub four_naks : NakCounts
 four_naks = record no_naks { header_check = 1; no_buffer = 1; too_long = 1; format = 1 }
 
@@ -403,8 +405,8 @@ clear_counts_of_a = record no_counts {
 abbrev pub clear_counts_of_b : Counters
 clear_counts_of_b = record no_counts { messages_up = 1; bytes_up = 3; rep_received = 1 }
 
--- All was delivered and acknowledged: these messages at each end. The line was honest, and neither
--- end began twice. And the ends have counted this.
+-- All was delivered and acknowledged: these messages at each end. The line was honest, neither end
+-- started twice, and the ends have these counters.
 pub record EndsWell (p : PairState) (mail_of_a mail_of_b : List (List ℕ))
     (counts_at_a counts_at_b : Counters) : Type 0 where
   pub honest : p.honest ≡ true

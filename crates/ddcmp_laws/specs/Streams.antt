@@ -1,4 +1,5 @@
--- Two stations over streams, each of which gives what it took, in its order.
+-- Two stations over streams, each of which yields the bytes that were written to it, in their
+-- order.
 use Rattle.std.specs.Prelude.{ℕ, List, [], ◌∷◌, ◌++◌}
 use Rattle.ddcmp_station.specs.Driving.{Driving}
 use Rattle.ddcmp_pair.specs.declared.event.End.{End}
@@ -29,8 +30,8 @@ unfoldable pub drives_at : End → List (End × DriveCall) → List DriveCall
 drives_at e [] = []
 drives_at e (step ∷ rest) = drives_if e step.0 step.1 ++ drives_at e rest
 
--- A call at one end reads no more than a beginning of what the other had written. The ends have so
--- much fill and were driven so far.
+-- A call at one end reads a prefix of what the other had written. The numbers are the fill of each
+-- end, and the last arguments how each was driven so far.
 abbrev pub ReadsWhatIsWritten : End → ℕ → ℕ → DriveCall → Driving → Driving → Type 0
 ReadsWhatIsWritten A m n call a b = Begins (after_drive m call a).text b.written
 ReadsWhatIsWritten B m n call a b = Begins (after_drive n call b).text a.written
@@ -43,7 +44,7 @@ abbrev pub driven_b : End → ℕ → DriveCall → Driving → Driving
 driven_b A n call b = b
 driven_b B n call b = after_drive n call b
 
--- Each of these calls does so.
+-- Each of these calls reads only such a prefix.
 abbrev pub DrivenInTurn : ℕ → ℕ → List (End × DriveCall) → Driving → Driving → Type 0
 DrivenInTurn m n [] a b = Unit {0}
 DrivenInTurn m n (step ∷ rest) a b =

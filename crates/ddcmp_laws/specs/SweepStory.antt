@@ -31,8 +31,8 @@ after_loss = empty_line (run until_loss (new_pair small small))
 abbrev pub quiet : List Event
 quiet = event.Poll A ∷ event.Poll B ∷ []
 
--- The line is at rest. A asks by REP, which B ignores, and B repeats its STACK, which A
--- acknowledges: both run. A asks again, B replies with a NAK, and the message and its
+-- The line is at rest. A sends a REP, which B ignores, and B retransmits its STACK, which A
+-- acknowledges: both run. A sends another REP, B replies with a NAK, and the message and its
 -- acknowledgement arrive.
 abbrev pub at_first : List (List Event)
 at_first = quiet ∷ quiet ∷ []

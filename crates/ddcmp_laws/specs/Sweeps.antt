@@ -26,7 +26,7 @@ OnlyCarries (event.Arrive e bytes ∷ rest) = OnlyCarries rest
 OnlyCarries (event.Take e ∷ rest) = OnlyCarries rest
 OnlyCarries (e ∷ rest) = ⊥
 
--- how many bytes an event brings this end
+-- how many bytes arrive at this end by an event
 abbrev pub bytes_to : End → Event → ℕ
 bytes_to A (event.Arrive A bytes) = length bytes
 bytes_to B (event.Arrive B bytes) = length bytes
@@ -42,7 +42,7 @@ is_poll A (event.Poll A) = true
 is_poll B (event.Poll B) = true
 is_poll _ _ = false
 
--- among these events
+-- the same among these events
 unfoldable pub is_asked : End → List Event → Bool
 is_asked end [] = false
 is_asked end (e ∷ rest) = is_poll end e || is_asked end rest
@@ -66,15 +66,15 @@ unfoldable pub in_a_row : List (List Event) → List Event
 in_a_row [] = []
 in_a_row (sweep ∷ rest) = sweep ++ in_a_row rest
 
--- The shortest: what is in flight to each end arrives at once, and then each is polled.
+-- The shortest sweep: what is in flight to each end arrives at once, and then each is polled.
 abbrev pub sweep_of : Line → List Event
 sweep_of l =
     event.Arrive A l.to_a ∷ event.Arrive B l.to_b ∷ event.Poll A ∷ event.Poll B ∷ []
 
 -- ---- how many are enough
 
--- Twice as many as frames may be sent, and two more: the frames are the price of the line and, for
--- each NAK of a full inbox, the window that is retransmitted.
+-- Two more than twice the number of frames that may be sent: the frames are the price of the line
+-- and, for each NAK of a full inbox, the window that is retransmitted.
 pub record AreEnough (sweeps : List (List Event)) (l : Line) : Type 0 where
   pub each : AreSweeps sweeps l
   pub enough : 2 * (price (larger_window l.pair) l
@@ -90,14 +90,14 @@ abbrev pub AreTakenInTime : List Event → PairState → Type 0
 AreTakenInTime [] p = Unit {0}
 AreTakenInTime (e ∷ rest) p = FindsRoom e p × AreTakenInTime rest (after_event e p)
 
--- In numbers, if received messages are taken in time, w being the larger window.
+-- Enough sweeps in numbers, if received messages are taken in time, w being the larger window.
 pub record AreInTime (sweeps : List (List Event)) (l : Line) : Type 0 where
   pub each : AreSweeps sweeps l
   pub taken : AreTakenInTime (in_a_row sweeps) l.pair
   pub enough : 8 * larger_window l.pair * larger_window l.pair + 32 * larger_window l.pair + 26
       + (4 * larger_window l.pair + 2) * items_on_way l ≤ length sweeps
 
--- as bytes arrive, the inbox has room for as many messages as items come
+-- as bytes arrive, the inbox has room for one message per item that they complete
 abbrev pub HasRoomForAll : List ℕ → EndState → Type 0
 HasRoomForAll bytes x =
     length x.core.station.inbox + length (items_added x.core.limits.longest x.arrived bytes)
@@ -107,13 +107,13 @@ abbrev pub FindsRoomForAll : Event → PairState → Type 0
 FindsRoomForAll (event.Arrive e bytes) p = HasRoomForAll bytes (at e p)
 FindsRoomForAll e p = Unit {0}
 
--- Received messages are taken at once: whenever bytes arrive, there is room for all that they
--- bring.
+-- Received messages are taken at once: whenever bytes arrive, there is room for all messages in
+-- them.
 abbrev pub AreTakenAtOnce : List Event → PairState → Type 0
 AreTakenAtOnce [] p = Unit {0}
 AreTakenAtOnce (e ∷ rest) p = FindsRoomForAll e p × AreTakenAtOnce rest (after_event e p)
 
--- In numbers, if they are taken at once.
+-- Enough sweeps in numbers, if received messages are taken at once.
 pub record AreAtOnce (sweeps : List (List Event)) (l : Line) : Type 0 where
   pub each : AreSweeps sweeps l
   pub taken : AreTakenAtOnce (in_a_row sweeps) l.pair
@@ -127,8 +127,8 @@ abbrev pub RunsOutOrIsOff : End → List Event → PairState → Type 0
 RunsOutOrIsOff end events p =
     (runs_out end events ≡ true) ⊎ ((at end p).core.station.timer ≡ Off)
 
--- A round by sweeps: some events, by which no end starts or halts and the timer of each end
--- expires, unless it is off; and then enough sweeps.
+-- A round by sweeps: events in which no end starts or halts and the timer of each end expires,
+-- unless it is off; and then enough sweeps.
 pub record IsRoundBySweeps (waking : List Event) (sweeps : List (List Event)) (l : Line)
     : Type 0 where
   pub goes_on : GoesOn waking

@@ -10,7 +10,7 @@ use Rattle.ddcmp_frame.specs.Reading.{items}
 use Rattle.ddcmp_core.specs.Table.{Frame, Good}
 use Rattle.ddcmp_proto.specs.Bytes.{frame_on_line, received_of}
 
--- the text `123456789`, whose check is published with each CRC
+-- the text `123456789`, whose CRC is published for each kind of CRC
 abbrev pub nine_digits : List ℕ
 nine_digits = 0x31 ∷ 0x32 ∷ 0x33 ∷ 0x34 ∷ 0x35 ∷ 0x36 ∷ 0x37 ∷ 0x38 ∷ 0x39 ∷ []
 
@@ -55,13 +55,13 @@ maintenance_of count q s resp num addr =
       addr = addr;
     })
 
--- These eight bytes are this header, written and read.
+-- This header is written as these eight bytes, and they are read as this header.
 pub record IsHeader (h : Header) (bytes : List ℕ) : Type 0 where
   pub written : eight_bytes h ≡ bytes
   pub read : parsed bytes ≡ Ok h
 
--- These bytes are this frame as a station writes it with no fill, and as a station reads it whose
--- messages have at most 1500 bytes.
+-- A station without fill writes this frame as these bytes, and a station whose messages have at
+-- most 1500 bytes reads them as this frame.
 pub record IsOnLine (f : Frame) (bytes : List ℕ) : Type 0 where
   pub written : frame_on_line 0 f ≡ bytes
   pub read : map received_of (items 1500 bytes) ≡ Good f ∷ []

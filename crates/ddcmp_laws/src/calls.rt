@@ -18,10 +18,10 @@ ghost use Rattle.ddcmp_pair.specs.InOrder.{IsInOrder, IsLink};
 ghost use Rattle.ddcmp_laws.specs.PairCalls.{Call, Arrive, after_call, run_calls, events_in};
 ghost use Rattle.ddcmp_laws.specs.PairCalls.{IsStartedOnce, IsSameStation, IsSamePair};
 
-/// Whether a station knows already that its timer was started makes no difference but to the call
-/// that asks: every other call takes two stations that are the same but for that to two such
-/// stations, and returns, writes, reports and counts the same. That call reports a start once, and
-/// neither starts the timer nor stops it.
+/// Whether a station has reported already that its timer was started makes a difference only to the
+/// call that asks for this: every other call takes two stations that are equal except for that to
+/// two such stations, and returns, writes, reports and counts the same. That call reports a start
+/// once, and neither starts the timer nor stops it.
 pub fn fresh_is_on()
     ensures receives { (l : Limits) (s t : StationState) (h : Received) → IsSameStation s t
         → IsSameStation (on l s h) (on l t h) × (notice_of l s h ≡ notice_of l t h) }
@@ -53,10 +53,10 @@ pub fn fresh_is_on()
         × (counters_after_expire s c ≡ counters_after_expire t c) }
 {}
 
-/// The headline for every caller. For two new stations of any sizes in range, after every list of
-/// calls: what is promised of a run's events. If each end is started at most once, an honest line
-/// makes the calls clean. Calls do what the events do that they are, but that those don't ask for
-/// the start of a timer.
+/// The main law for every caller. For two new stations of any sizes in range, what is promised for
+/// the events of a run holds after every list of calls. If each end is started at most once, an
+/// honest line makes the calls clean. Calls do what their events do, except that events don't ask
+/// for the start of a timer.
 pub fn every_caller()
     ensures order { (first second : ConfigValue) (calls : List (EndValue × Call))
         → first_refusal first ≡ None → first_refusal second ≡ None

@@ -1,5 +1,5 @@
-//! Two runs over one connection: without a word of frames, what the input of one gave is what the
-//! output of the other took.
+//! Two runs over one connection: the input of one is the output of the other, with no premise about
+//! frames.
 ghost use Rattle.std.specs.Prelude.{List};
 ghost use Rattle.ddcmp_pair.specs.declared.event.End.{End};
 ghost use Rattle.ddcmp_session.specs.Calls.{SessionStep};
@@ -13,27 +13,28 @@ ghost use Rattle.ddcmp_laws.specs.SessionRuns.{DeliversAll, DeliversFirst, Files
 ghost use Rattle.ddcmp_laws.specs.SessionRuns.{Ran};
 
 /// The calls of a new session that is connected at most once, on any line, are a history as in the
-/// laws of sessions, in which that line was clear: before, the session has used no bytes of a line,
-/// and none waited for one. Nor has it read anything of its input then, or delivered a message.
+/// laws of sessions, in which that line was clear: before, the session has used no bytes of a line
+/// and had none queued for one. Nor has it read any input then, or delivered a message.
 pub fn one_connection_is_a_history()
     ensures { (ran : Ran) → AreDone ran.steps (first_connection ran.made) → IsConnectedOnce ran
         → IsOneHistory ran }
 {}
 
-/// Whatever calls of two new sessions the laws of sessions over connections are of, they are those
-/// of two runs of the next law: its premises are no more than theirs.
+/// The calls of two new sessions to which the laws of sessions over connections apply are calls of
+/// two runs to which the next law applies: it has no further premises.
 pub fn sessions_over_connections_are_runs()
     ensures { (first second : Made) (steps : List (End × SessionStep))
         → SessionsOverStreams steps (new_sessions first second) → AreConnectedOnce steps
         → AreTwoRuns first second steps }
 {}
 
-/// Two runs, each connected at most once, in an order of their calls in which after each call, what
-/// each has used of its line is a beginning of what the line of the other has taken, as of a
-/// connection: what one has delivered is a beginning of what the other's input has given, and it
-/// has received all of that if the other's run was ended and lost nothing, as `run_lines` returns
-/// `Ok` for. In binary, what the output took is a beginning of each file of messages that fit that
-/// the input gave a beginning of, and then, once nothing waits, the file.
+/// Two runs, each connected at most once, in an order of their calls such that after each call, the
+/// bytes that each has used from its line are a prefix of those that the other has written to its
+/// line, as over a connection. The messages that one has delivered are a prefix of those read from
+/// the other's input, and it has received all of them if the other's run was ended and lost
+/// nothing, as when `run_lines` returns `Ok`. In binary, if the bytes read from the input are a
+/// prefix of a file of messages that fit, the output is a prefix of that file; and it is the whole
+/// file if that was read, the run ended and lost nothing, and nothing is queued.
 pub fn runs_over_connections()
     ensures to_b { IsKeptOverOneConnection (λ a b. DeliversFirst a b) }
     ensures to_a { IsKeptOverOneConnection (λ a b. DeliversFirst b a) }
@@ -47,10 +48,10 @@ pub fn runs_over_connections()
     ensures whole_to_a { IsKeptOverOneConnection (λ a b. FilesPass b a) }
 {}
 
-/// Two runs, connected as often as their users like, if `connected` returned true when each was
-/// connected last: the same holds of the last connection, if since both were connected, after each
-/// call, what each has used of its line is a beginning of what the line of the other has taken; of
-/// bytes if before that the one delivered and the other read nothing.
+/// Two runs, connected any number of times, if `connected` returned true when each was connected
+/// last. The same holds for the last connection, if since both were connected, after each call, the
+/// bytes that each has used from its line are a prefix of those that the other has written to its
+/// line; and for bytes if before that the one delivered nothing and the other read nothing.
 pub fn runs_over_the_last_connection()
     ensures to_b { IsKeptOverLastConnection (λ a b. DeliversFirst a b) }
     ensures to_a { IsKeptOverLastConnection (λ a b. DeliversFirst b a) }

@@ -10,10 +10,10 @@ ghost use Rattle.ddcmp_laws.specs.LossFree.{Line, run_on_line, IsWhole};
 ghost use Rattle.ddcmp_laws.specs.Rests.{IsUnderWay};
 ghost use Rattle.ddcmp_laws.specs.Delivers.{IsAtRest, IsRoundInAnyOrder, AreTold, IsTwoRounds};
 
-/// Two stations that any events led to, that are under way and at rest: nothing is in flight, and
+/// Two stations, after any events, that are under way and at rest: nothing is in flight, and
 /// neither has a frame to send. After a round in any order, in which each timer expires, nothing is
-/// lost and the line comes to rest again, both run and each knows how much was delivered at the
-/// other. After a second such round all that was accepted, also meanwhile, is delivered and
+/// lost and the line comes to rest again, both run, and all that was delivered is reported
+/// acknowledged. After a second such round all that was accepted, also meanwhile, is delivered and
 /// reported acknowledged.
 pub fn delivers_in_any_order()
     ensures told { (first second : ConfigValue) (before once : List EventValue) (l : Line)
@@ -27,9 +27,9 @@ pub fn delivers_in_any_order()
         → IsDone (run_on_line twice (run_on_line once l)).pair }
 {}
 
-/// A recovery in lock step is one such order. If a pair that any events led to is ready and its
-/// stations are sound, the events of a recovery settle a line on which nothing is in flight, and
-/// then are two rounds in any order.
+/// A recovery in lock step is one such order. If a pair is ready after any events and its stations
+/// are sound, the events of a recovery settle a line on which nothing is in flight, and then are
+/// two rounds in any order.
 pub fn a_recovery_is_two_rounds()
     ensures { (first second : ConfigValue) (events : List EventValue) (p : PairState)
         → first_refusal first ≡ None → first_refusal second ≡ None

@@ -35,7 +35,7 @@ pub fn turns_lose_nothing()
 {}
 
 /// Turns in which no timer expires and no message is accepted are a sweep if each station has one
-/// and all that was in flight is read.
+/// and all bytes that were in flight are read.
 pub fn turns_are_a_sweep()
     ensures { (parts : List (EndValue × TurnPart)) (p : PairState) (l : DrivenLine)
         → IsSweepOfTurns parts l → IsSweep (events_of_parts parts l) (line_of_driven p l) }
@@ -50,8 +50,8 @@ pub fn each_line_has_a_sweep_of_turns()
 {}
 
 /// Each turn delivers all received messages, so there is room for a message whenever bytes are
-/// read. So sweeps of turns, as many as `AreEnoughTurns` says, are in time, and by `comes_to_rest`
-/// the line comes to rest.
+/// read. So sweeps of turns, as many as `AreEnoughTurns` requires, are in time, and by
+/// `comes_to_rest` the line comes to rest.
 pub fn turns_are_in_time()
     ensures { IsKeptWhileDriven (λ line l. (sweeps : List (List (EndValue × TurnPart)))
         → TurnsLoseNothing (turns_in_a_row sweeps) l → AreEnoughTurns sweeps l
@@ -69,9 +69,9 @@ pub fn driven_recover()
 {}
 
 /// The same in turns: enough sweeps of turns, and two rounds, each of turns in which the timer of
-/// each expires by its clock, unless it is off, and of enough sweeps. Enough are
-/// 8 * w * w + 32 * w + 26 sweeps, w being the larger window, and 4 * w + 2 more for each item in
-/// flight as they begin. The body names the laws that it stands on.
+/// each expires by its clock, unless it is off, and of enough sweeps. Enough are 8 * w * w + 32 * w
+/// + 26 sweeps, w being the larger window, and 4 * w + 2 more for each item in flight as they
+/// begin. The body names the laws that this one is derived from.
 pub fn driven_recover_in_turns()
     ensures { IsKeptWhileDriven (λ line l. (parts : List (EndValue × TurnPart))
         → TurnsLoseNothing parts l → IsRecoveryOfTurns parts l

@@ -1,4 +1,4 @@
-//! Runs over devices to their end: what one's input gave is what the other's output took.
+//! Runs over devices to their end: the input of one is the output of the other.
 ghost use Rattle.std.specs.Prelude.{◌≡◌, Bool, true, List, [], Option, Some};
 ghost use Rattle.ddcmp_frame.specs.Reader.{StandsFor};
 ghost use Rattle.ddcmp_session.specs.Session.{SessionView};
@@ -14,8 +14,8 @@ ghost use Rattle.ddcmp_laws.specs.Loops.{no_traffic};
 ghost use Rattle.ddcmp_laws.specs.Pipe.{Made, session_of};
 ghost use Rattle.ddcmp_laws.specs.SessionRuns.{IsKeptByRuns, Ran};
 
-/// A new session that `ddcmp_session::Buffers::run_to_end` has run was ended as `runs_end` has
-/// it, and then finished.
+/// A new session that `ddcmp_session::Buffers::run_to_end` has run was ended in the sense of
+/// `runs_end`, and then finished.
 pub fn runs_finish()
     ensures { (made : Made) (is_well : Bool) (held : BuffersView) (last : SessionView)
         (known : Option Traffic) → StandsFor made.line []
@@ -26,9 +26,9 @@ pub fn runs_finish()
         × WasFinished is_well (record { made = made; steps = steps }) held t last after }
 {}
 
-/// If such a run ends well, its output took the text of all messages that came to the session, of
-/// all notices, and of the last lines, in lines if these had room, and nothing waits: a message of
-/// any length has room in an output that is empty.
+/// If such a run ends well, the text of all messages that the session received, of all notices, and
+/// of the last lines (in lines, if there was room for these) was written to its output, and nothing
+/// is queued: an empty output has room for a message of any length.
 pub fn finished_runs_write_all()
     ensures { (ran : Ran) (held : BuffersView) (t after : Traffic) (last : SessionView)
         → AreDone ran.steps (first_connection ran.made)
@@ -37,9 +37,9 @@ pub fn finished_runs_write_all()
 {}
 
 /// Two such runs that end well, over an honest line in a clean run, with their messages in binary:
-/// the file that the one's input gave is what the other's output took, if no message came over a
-/// line before; over one connection, or the last one, it needs no premise of frames. Of runs in
-/// either form `runs_are_pipes` and `runs_over_connections` have the messages.
+/// the file that was the one's input is the other's output, if no message went over an earlier
+/// line. Over one connection, or the last one, no premise about frames is needed. For the messages
+/// of runs in either form see `runs_are_pipes` and `runs_over_connections`.
 pub fn files_arrive()
     ensures to_b { IsKeptByRuns (λ a b. FilesArrive a b) }
     ensures to_a { IsKeptByRuns (λ a b. FilesArrive b a) }

@@ -1,10 +1,10 @@
-//! What an engineer of the protocol expects of its definitions, stated apart from their tables, and
-//! recovery in any order: what a line without loss comes to, whatever the order in which its ends
-//! are asked and bytes arrive; and the promise for whoever calls two stations: any calls, the turns
-//! of `drive`, two driven stations over streams, two links, and two sessions, each of which writes
-//! what the other reads, as through a pipe. Functions that do nothing, whose contracts are the
-//! laws; and in `station_steps`, `link_steps` and `session_steps` one for each call of a station,
-//! of a link and of a session, which makes it.
+//! What a protocol engineer expects of the definitions, stated apart from their tables; recovery in
+//! any order: what becomes of a line without loss, whatever the order in which its ends are polled
+//! and bytes arrive; and the promise for every caller of two stations: any calls, the turns of
+//! `drive`, two driven stations over streams, two links, and two sessions, each of which writes
+//! what the other reads, as through a pipe. The laws are functions without an effect, whose
+//! contracts state them. For each call of a station, of a link and of a session a function in
+//! `station_steps`, `link_steps` or `session_steps` makes that call.
 #![tactic(auto)]
 
 pub mod calls;

@@ -1,5 +1,5 @@
-//! What joins the laws of links to the code: for each call of a link a function that makes it,
-//! whose contract says that it is that call of a history.
+//! The connection between the laws of links and the code: for each call of a link a function that
+//! makes it, whose contract states that it is that call of a history.
 ghost use Rattle.std.specs.Prelude.{◌≡◌, ◌≤◌, ◌∷◌, ◌++◌, ℕ, List, [], if◌then◌else◌, is_ok, None};
 ghost use Rattle.std.specs.Prelude.{min, length, take, option_map, option_to_list};
 ghost use Rattle.ddcmp_frame.specs.Reader.{StandsFor};
@@ -22,7 +22,7 @@ pub fn starts(link: &mut Link) -> Result<u8, StartRefusal>
     link.start()
 }
 
-/// Starts a link whose line is clear and whose outbox is empty; or starts it again on a new line.
+/// Starts a link whose line is clear and whose outbox is empty; or restarts it on a new line.
 pub fn begins_anew(link: &mut Link) -> Result<u8, StartRefusal>
     ensures done { link.old.outbox.waiting ≡ [] → HasDone BeginsAnew [] link.old link.new }
     ensures again { (text : List ℕ) → Does BeginsAnew text link.old link.new }
@@ -32,7 +32,7 @@ pub fn begins_anew(link: &mut Link) -> Result<u8, StartRefusal>
     link.restart()
 }
 
-/// Halts it.
+/// Halts a link.
 pub fn halts(link: &mut Link)
     ensures done { (text : List ℕ) → HasDone Halts text link.old link.new }
     ensures line { link.new.station.line ≡ link.old.station.line }
@@ -48,7 +48,7 @@ pub fn wakes(link: &mut Link, now: u64)
     link.wake(now);
 }
 
-/// Offers a message. The history has it as accepted exactly if that is returned.
+/// Offers a message. The history has it as accepted exactly if the call returns that.
 pub fn offers(link: &mut Link, message: &[u8]) -> Result<(), SendRefusal>
     ensures done { (text : List ℕ) → HasDone (Offers message.now) text link.old link.new }
     ensures line { link.new.station.line ≡ link.old.station.line }
@@ -59,7 +59,7 @@ pub fn offers(link: &mut Link, message: &[u8]) -> Result<(), SendRefusal>
     link.offer(message)
 }
 
-/// Puts a frame into the outbox, or none.
+/// Queues a frame in the outbox, or none.
 pub fn fills_one(link: &mut Link) -> bool
     ensures done { (text : List ℕ) → HasDone FillsOne text link.old link.new }
     ensures line { link.new.station.line ≡ link.old.station.line }
@@ -77,8 +77,8 @@ pub fn is_sent(link: &mut Link, n: usize)
     link.sent(n);
 }
 
-/// Handles received bytes: those that were used, all that can be counted if they give no notice.
-/// The history counts what the notice reports acknowledged.
+/// Handles received bytes and returns how many were used: if they yield no notice, all that can be
+/// counted. The history counts the messages that the notice reports acknowledged.
 pub fn feeds(link: &mut Link, piece: &[u8]) -> Fed
     ensures done { (text : List ℕ) → StandsFor link.old.station.line text
         → HasDone (Feeds (take result.used piece.now)) text link.old link.new }

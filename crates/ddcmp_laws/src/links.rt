@@ -14,10 +14,10 @@ ghost use Rattle.ddcmp_laws.specs.Links.{LinkOverStreams, AreStartedOnce, after_
 ghost use Rattle.ddcmp_laws.specs.LinkLines.{InboxIsFull, LinkIsDelivered, calls_of_steps};
 ghost use Rattle.ddcmp_laws.specs.LinkStory.{small, small_links, story_steps, HasGotAcross};
 
-/// Each call of a link is calls of its station, and so is a history of calls. They leave the
-/// station as the link leaves it; what the link's line took, and after it the bytes pending for the
-/// line, are what their polls wrote; the messages that it accepted are theirs, and so are those
-/// that its user took. Each message that it was offered goes to `send` once, in order.
+/// Each call of a link makes calls of its station, and so does a history of calls. They lead to the
+/// same station; the bytes that were written to the link's line, and then those queued for it, are
+/// the bytes that their polls wrote; they accept and deliver the same messages. Each message
+/// offered to the link is passed to `send` once, in order.
 pub fn link_calls_are_calls()
     ensures begins { (config : ConfigValue) (milliseconds : ℕ) (line : ReaderView)
         → IsSameEnd (new_end config) (new_history config milliseconds line) }
@@ -33,16 +33,16 @@ pub fn link_calls_are_calls()
 
 /// Two new links of any sizes in range, each started at most once, over an honest line: the good
 /// frames that each received are, in their order, among those that the other sent. Whatever else
-/// the line did, as lose, cut or damage what it carries, whatever the calls, the moments and the
-/// cuts: what each received is a prefix of the messages that the other accepted, each once and
-/// unchanged, and no more is reported acknowledged than was received.
+/// the line did, such as lose, cut or damage what it carries, and whatever the calls, the moments
+/// and the chunks of bytes: the messages that each received are a prefix of those that the other
+/// accepted, each once and unchanged, and no more is reported acknowledged than was received.
 pub fn links_in_order()
     ensures to_b { IsKeptOverHonestLines (λ p. LinkReaches p.a p.b) }
     ensures to_a { IsKeptOverHonestLines (λ p. LinkReaches p.b p.a) }
 {}
 
-/// If one of two such links reports that all is delivered, the other has received all that it
-/// accepted: these messages, in their order, each once and unchanged, and no others.
+/// If one of two such links reports that all is delivered, the other has received all messages that
+/// it accepted: these, in their order, each once and unchanged, and no others.
 pub fn delivered_over_an_honest_line()
     ensures to_b { IsKeptOverHonestLines
         (λ p. delivered p.a.link ≡ true → received p.b ≡ p.a.accepted) }
@@ -51,10 +51,10 @@ pub fn delivered_over_an_honest_line()
 {}
 
 /// Two such links of which neither is halted sleep only if there is nothing left to do: if one has
-/// no moment to wake at, and puts no frame though it has room for one, then it runs, and each
-/// message that it accepted is received by the other and acknowledged; or its inbox is full, and it
-/// is its user who must take. So a caller that waits for its line alone, without a moment, waits
-/// for nothing that is due.
+/// no moment to wake at, and queues no frame though it has room for one, then it runs, and each
+/// message that it accepted is received by the other and acknowledged; or its inbox is full, and
+/// its user must take the messages. So a caller that waits for its line alone, without a moment,
+/// doesn't miss anything that is due.
 pub fn links_sleep_when_done()
     ensures from_a { IsKeptOverHonestLines (λ p. LinksAreUp p → LinkIsAsleep p.a.link
         → LinkIsDelivered p.a p.b ⊎ InboxIsFull p.a.link) }
@@ -63,15 +63,16 @@ pub fn links_sleep_when_done()
 {}
 
 /// Two new links of any sizes in range, each started at most once, over streams: whatever the
-/// calls, the moments and the cuts, the user of each takes a prefix of the messages that the other
-/// accepted, each once and unchanged, and no more is reported acknowledged to it than was received.
+/// calls, the moments and the chunks of bytes, the user of each takes a prefix of the messages that
+/// the other accepted, each once and unchanged, and no more is reported acknowledged to it than was
+/// received.
 pub fn links_over_a_stream()
     ensures to_b { IsKeptOverStreams (λ p. LinkReaches p.a p.b) }
     ensures to_a { IsKeptOverStreams (λ p. LinkReaches p.b p.a) }
 {}
 
-/// If one of two such links returns that all is delivered, the other has received all that it
-/// accepted: these messages, in their order, each once and unchanged, and no others.
+/// If one of two such links reports that all is delivered, the other has received all messages that
+/// it accepted: these, in their order, each once and unchanged, and no others.
 pub fn delivered_is_received()
     ensures to_b { IsKeptOverStreams
         (λ p. delivered p.a.link ≡ true → received p.b ≡ p.a.accepted) }
@@ -79,9 +80,9 @@ pub fn delivered_is_received()
         (λ p. delivered p.b.link ≡ true → received p.a ≡ p.b.accepted) }
 {}
 
-/// Two links that get a message across, so that no law above holds because nothing can happen: a
-/// list of calls over streams, each end started once, after which the message that one accepted was
-/// taken from the other and is acknowledged, `is_delivered` returns true, and both links sleep.
+/// Two links that transfer a message, so that no law above holds vacuously: a list of calls over
+/// streams, each end started once, after which the message that one accepted was taken from the
+/// other and is acknowledged, `is_delivered` returns true, and both links sleep.
 pub fn a_message_gets_across()
     ensures streams { (line other_line : ReaderView)
         → LinkOverStreams (story_steps line other_line) (small_links line other_line) }

@@ -16,10 +16,11 @@ ghost use Rattle.ddcmp_laws.specs.OverLines.{HasRunOver};
 ghost use Rattle.ddcmp_laws.specs.Pipe.{IsKeptByPipes, IsKeptOverConnections, Made, session_of};
 ghost use Rattle.ddcmp_laws.specs.Sessions.{texts_of};
 
-/// A new session that is connected and then goes on over devices that report what they give and
-/// take, as `ddcmp_session::Buffers` has it, has a history as in the other laws, from its
-/// beginning: so these hold of it. Its bytes are those that the devices gave and took. What its
-/// output took, and then what waits for it, is the text of what it delivered and reported.
+/// A new session that is connected and then runs over devices that report their traffic, as by
+/// `ddcmp_session::Buffers`, has a history as in the other laws, from its beginning: so these apply
+/// to it. Its bytes are those that were read from the devices and written to them. The bytes
+/// written to its output, and then those queued for it, are the text of what it delivered and
+/// reported.
 pub fn runs_are_histories()
     ensures history { (made : Made) (connected now : SessionView) (held : BuffersView)
         (known : Option Traffic) → StandsFor made.line []
@@ -33,10 +34,10 @@ pub fn runs_are_histories()
         ≡ texts_of made.options.form (after_session_steps ran.steps (session_of made)).shown }
 {}
 
-/// A new session that goes on over devices, over one line after the other, as `begin_line`, `run`,
-/// `leave_line` and `close` of `ddcmp_session` have it, has a history from its beginning in which
-/// each line begins anew: as in the laws of sessions that are connected again. What its output
-/// took, and then what waits for it, is the text of all that it delivered and reported.
+/// A new session that runs over devices, over one line after the other, as by `begin_line`, `run`,
+/// `leave_line` and `close` of `ddcmp_session`, has a history from its beginning in which each line
+/// starts afresh: as in the laws of sessions that are connected again. The bytes written to its
+/// output, and then those queued for it, are the text of all that it delivered and reported.
 pub fn runs_over_lines()
     ensures history { (made : Made) (now : SessionView) (held : BuffersView)
         (known : Option Traffic) → StandsFor made.line []
@@ -54,12 +55,12 @@ pub fn runs_over_lines()
 {}
 
 /// Two such sessions over an honest line, each connected at most once, with their messages in
-/// binary: if what the input of one gave is the beginning of a file of messages that fit, then what
-/// the output of the other took is a beginning of that file; and it is the whole file if the input
-/// gave all of it, nothing of that is held, the one may end as delivered, and nothing waits to be
-/// delivered or written at the other. In either form the other has received all of the messages
-/// that the input gave if the one is closed and lost nothing, and in binary its output takes that
-/// file, too. Over connections no word of frames is needed.
+/// binary: if the bytes read from the input of one are a prefix of a file of messages that fit,
+/// then the output of the other is a prefix of that file; and it is the whole file if all of it was
+/// read, none of it is held, `is_delivered` holds for the one, and nothing is left to be delivered
+/// or written at the other. In either form, if the one is closed and lost nothing, the other has
+/// received all messages read from the input, and in binary its output is that file, too. Over
+/// connections no premise about frames is needed.
 pub fn devices_are_pipes()
     ensures to_b { IsKeptByPipes (λ first second p. DevicesPipe first second p.a p.b) }
     ensures to_a { IsKeptByPipes (λ first second p. DevicesPipe second first p.b p.a) }

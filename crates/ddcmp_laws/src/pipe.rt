@@ -24,25 +24,25 @@ ghost use Rattle.ddcmp_laws.specs.SessionRuns.{calls_of};
 
 /// Two new sessions of any sizes in range, each connected at most once, over an honest line: the
 /// good frames that each received are, in their order, among those that the other sent. Whatever
-/// else the line did, as lose, cut or damage what it carries, whatever the calls, the moments and
-/// the cuts: the messages that each delivered are the first of those that the other's input has, in
-/// their order, each once and unchanged.
+/// else the line did, such as lose, cut or damage what it carries, and whatever the calls, the
+/// moments and the chunks of bytes: the messages that each delivered are a prefix of those read
+/// from the other's input, each once and unchanged.
 pub fn pipe()
     ensures to_b { IsKeptByPipes (λ first second p. Pipes first p.a p.b) }
     ensures to_a { IsKeptByPipes (λ first second p. Pipes second p.b p.a) }
 {}
 
-/// If one of two such sessions may end as delivered, the other has received all messages that its
-/// input has: these, in their order, each once and unchanged, and no others.
+/// If `is_delivered` holds for one of two such sessions, the other has received all messages read
+/// from its input: these, in their order, each once and unchanged, and no others.
 pub fn pipe_is_whole()
     ensures to_b { IsKeptByPipes (λ first second p. PipesAll first p.a p.b) }
     ensures to_a { IsKeptByPipes (λ first second p. PipesAll second p.b p.a) }
 {}
 
-/// If one of two such sessions is closed and had lost nothing by then, as
-/// `ddcmp_session::Buffers::run_lines` returns `Ok` for, the other has received all messages that
-/// its input has: although the line ended, or the time was over, before it saw the last
-/// acknowledgement answered. So it is of sessions that are connected again, since they were last.
+/// If one of two such sessions is closed and had lost nothing by then, as when
+/// `ddcmp_session::Buffers::run_lines` returns `Ok`, the other has received all messages read from
+/// its input, even if the line ended, or the time was over, before it saw the last acknowledgement
+/// answered. The same holds for sessions that are connected again, since they were last.
 pub fn closed_without_loss()
     ensures to_b { IsKeptByPipes (λ first second p. PipesClosed first p.a p.b) }
     ensures to_a { IsKeptByPipes (λ first second p. PipesClosed second p.b p.a) }
@@ -54,11 +54,11 @@ pub fn closed_without_loss()
     ensures anew_to_a { IsKeptAnew (λ first second p. PipesClosedAnew second p.b p.a) }
 {}
 
-/// The same in bytes, if both have their messages in binary: if what was
-/// read of one's input is the beginning of a file of messages that fit, each after its length, then
-/// what the other's standard output took is a beginning of that file; and it is the whole file if
-/// all of it was read, the one may end as delivered, and nothing waits to be delivered or written
-/// at the other.
+/// The same in bytes, if both have their messages in binary: if the bytes read from one's input are
+/// a prefix of a file of messages that fit, each after its length, then those written to the
+/// other's standard output are a prefix of that file; and it is the whole file if all of it was
+/// read, `is_delivered` holds for the one, and nothing is left to be delivered or written at the
+/// other.
 pub fn pipe_in_bytes()
     ensures to_b { IsKeptByPipes (λ first second p. PipesBytes first second p.a p.b) }
     ensures to_a { IsKeptByPipes (λ first second p. PipesBytes second first p.b p.a) }
@@ -66,8 +66,9 @@ pub fn pipe_in_bytes()
     ensures whole_to_a { IsKeptByPipes (λ first second p. PipesWhole second first p.b p.a) }
 {}
 
-/// The same over connections, which give their bytes in order, and so without a word of frames: if
-/// what each session used is, after each call, a beginning of what the line of the other took.
+/// The same over connections, which yield their bytes in order, and so without a premise about
+/// frames: if after each call, the bytes that each session used are a prefix of those that the
+/// other wrote to its line.
 pub fn pipe_over_connections()
     ensures to_b { IsKeptOverConnections (λ first second p. Pipes first p.a p.b) }
     ensures to_a { IsKeptOverConnections (λ first second p. Pipes second p.b p.a) }
@@ -83,13 +84,12 @@ pub fn pipe_over_connections()
         (λ first second p. PipesWhole second first p.b p.a) }
 {}
 
-/// Two new sessions that are connected as often as their users like, over an honest line, in a
-/// clean run: the messages that each has delivered since it was connected last are the first of
-/// those that the other's input has had since that one was, in their order, each once and
-/// unchanged; and if one may end as delivered, the other has received all of them. In binary they
-/// are in its output after the messages that it had delivered before. When a session that is
-/// connected again keeps the line honest and the run clean is said by
-/// `ddcmp_laws::link_restarts`.
+/// Two new sessions that are connected any number of times, over an honest line, in a clean run:
+/// the messages that each has delivered since it was connected last are a prefix of those read from
+/// the other's input since that was connected last, each once and unchanged; and if `is_delivered`
+/// holds for one, the other has received all of them. In binary they follow in its output the
+/// messages that it had delivered before. `ddcmp_laws::link_restarts` states when a session that is
+/// connected again keeps the line honest and the run clean.
 pub fn pipe_anew()
     ensures to_b { IsKeptAnew (λ first second p. PipesAnew first p.a p.b) }
     ensures to_a { IsKeptAnew (λ first second p. PipesAnew second p.b p.a) }
@@ -99,10 +99,9 @@ pub fn pipe_anew()
     ensures bytes_at_b { IsKeptAnew (λ first second p. WritesAnew second p.b) }
 {}
 
-/// Two sessions through which a message comes, so that no law above holds because nothing can
-/// happen: a list of calls over connections, each end connected once, after which one has read a
-/// message and the end of its input, the other's output took its bytes, and the first may end as
-/// delivered.
+/// Two sessions that transfer a message, so that no law above holds vacuously: a list of calls over
+/// connections, each end connected once, after which one has read a message and the end of its
+/// input, the message was written to the other's output, and `is_delivered` holds for the first.
 pub fn a_message_comes_through()
     ensures streams { (line other_line : ReaderView)
         → SessionsOverStreams (pipe_steps line other_line) (small_sessions line other_line) }
@@ -119,9 +118,9 @@ pub fn a_message_comes_through()
         (after_sessions (pipe_steps line other_line) (small_sessions line other_line)) }
 {}
 
-/// Two sessions that are connected twice, and a message that comes through over their second line,
-/// so that the laws of sessions that are connected again, and of the last connection of two runs,
-/// don't hold because nothing can happen.
+/// Two sessions that are connected twice and transfer a message over their second line, so that the
+/// laws of sessions that are connected again, and of the last connection of two runs, don't hold
+/// vacuously.
 pub fn a_message_comes_through_anew()
     ensures calls { (line other_line : ReaderView)
         → AreCalls (steps_anew line other_line) (small_connections line other_line) }

@@ -12,8 +12,8 @@ ghost use Rattle.ddcmp_laws.specs.LinkSweeps.{LinksLoseNothing, run_on_links, ev
 ghost use Rattle.ddcmp_laws.specs.LinkSweeps.{line_of, IsKeptUnderWay, LinksAreDone};
 
 /// Calls of two links over lines that lose nothing are events of their stations over a line that
-/// loses nothing, in whose flight is also what is pending in an outbox: so a frame that `fill_one`
-/// puts there is sent, and what the line takes of it changes nothing.
+/// loses nothing, on which the bytes pending in an outbox are in flight, too: so a frame counts as
+/// sent when `fill_one` queues it, and nothing changes when the line takes bytes of it.
 pub fn links_lose_nothing()
     ensures loss_free { IsKeptUnderWay (λ line l. (steps : List (EndValue × LinkStep))
         → LinksLoseNothing steps l → IsLossFree (events_of_steps steps l.links) line) }
@@ -22,7 +22,7 @@ pub fn links_lose_nothing()
         ≡ line_of (run (events_of_steps steps l.links) line.pair) (run_on_links steps l)) }
 {}
 
-/// A link whose timer is on and that is woken at or after its moment lets it expire.
+/// If a link whose timer is on is woken at or after its moment, the timer expires.
 pub fn a_woken_timer_expires()
     ensures { (d : LinkView) (moment now : ℕ) → d.station.core.station.timer ≡ On
         → d.deadline ≡ Some moment → moment ≤ now

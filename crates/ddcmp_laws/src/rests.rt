@@ -1,4 +1,4 @@
-//! What a line without loss comes to.
+//! How a line without loss ends up.
 ghost use Rattle.std.specs.Prelude.{◌≡◌, List, [], None, true};
 ghost use Rattle.ddcmp_proto.specs.Config.{first_refusal};
 ghost use Rattle.ddcmp_proto.specs.declared.config.Config.{Config as ConfigValue};
@@ -8,9 +8,9 @@ ghost use Rattle.ddcmp_pair.specs.declared.event.Event.{Event as EventValue};
 ghost use Rattle.ddcmp_laws.specs.LossFree.{Line, IsLossFree, run_on_line, IsWhole};
 ghost use Rattle.ddcmp_laws.specs.Rests.{GoesOn, IsUnderWay};
 
-/// Two stations that any events led to, and that are under way: however the events of a list go in
-/// which nothing is lost and no end starts or halts, they stay under way; and if nothing is in
-/// flight then, the pair is ready, so that a recovery repairs it.
+/// Two stations, after any events, that are under way: they stay under way by any list of events in
+/// which nothing is lost and no end starts or halts; and if nothing is in flight after it, the pair
+/// is ready, so that a recovery repairs it.
 pub fn is_ready_in_any_order()
     ensures stays { (first second : ConfigValue) (before events : List EventValue) (l : Line)
         → first_refusal first ≡ None → first_refusal second ≡ None

@@ -12,8 +12,8 @@ ghost use Rattle.ddcmp_station.specs.Linking.{after_wake};
 ghost use Rattle.ddcmp_laws.specs.Links.{LinkCall, HasDone};
 ghost use Rattle.ddcmp_laws.specs.LinkRules.{AsksForABuffer, PutsFrame, IsNoWake};
 
-/// A link that has a frame to send, and room for one of any length, puts it. Only a NAK 8 (no
-/// buffer) stays, and that while the inbox is full. Without a frame or without room it puts none.
+/// A link that has a frame to send, and room for one of any length, queues it. Only a NAK 8 (no
+/// buffer) is held back, while the inbox is full. Without a frame or without room it queues none.
 pub fn puts_what_it_has()
     ensures puts { (d : LinkView) (f : Frame) → next_frame (next d.station.core.station) ≡ Some f
         → d.station.syn + (d.station.core.limits.longest + 10) ≤ d.outbox.room
@@ -29,8 +29,8 @@ pub fn puts_what_it_has()
         → (puts_frame d ≡ false) × (after_frame d ≡ d) }
 {}
 
-/// A link takes messages exactly while it runs and its window has room. Then one of 1 to `longest`
-/// bytes is accepted, and queued after the others.
+/// A link accepts messages exactly while it runs and its window has room. Then it accepts one of 1
+/// to `longest` bytes and queues it after the others.
 pub fn accepts_while_it_has_room()
     ensures exactly { (d : LinkView) → (takes_message d ≡ true)
         ↔ ((d.station.core.station.state ≡ Running)
@@ -42,16 +42,16 @@ pub fn accepts_while_it_has_room()
         ≡ d.station.core.station.out ++ message ∷ []) }
 {}
 
-/// All is delivered exactly if no message is left to be acknowledged, no byte is pending for the
-/// line, and there is no frame to send.
+/// All is delivered exactly if no message is unacknowledged, no byte is pending for the line, and
+/// there is no frame to send.
 pub fn delivered_leaves_nothing()
     ensures { (d : LinkView) → (delivered d ≡ true) ↔ ((d.station.core.station.out ≡ [])
         × (d.outbox.waiting ≡ []) × (next_frame (next d.station.core.station) ≡ None)) }
 {}
 
 /// A link has a moment to wake at exactly while its timer is on. The first `wake` after a start of
-/// the timer sets it, `milliseconds` later. Until then `wake` changes nothing, and from then on it
-/// expires the timer. No other call moves the moment.
+/// the timer sets it, `milliseconds` later. Until that moment `wake` changes nothing, and from it
+/// on `wake` lets the timer expire. No other call moves the moment.
 pub fn wakes_at_its_moment()
     ensures asleep { (d : LinkView) → (wakes_at d ≡ None)
         ↔ (d.station.core.station.timer ≡ Off) }
@@ -72,8 +72,8 @@ pub fn wakes_at_its_moment()
 {}
 
 /// The same for a driven station: the first turn after a start of its timer, or with a timer that
-/// is on without a moment, sets the moment, `milliseconds` later. Turns before it leave the timer
-/// as it is, and the first one from then on expires it.
+/// is on without a moment, sets the moment, `milliseconds` later. Turns before that moment leave
+/// the timer as it is, and the first one from it on lets it expire.
 pub fn turns_expire_at_their_moment()
     ensures begins { (milliseconds syn : ℕ) (turn : DriveTurn) (d : Driving)
         → (d.core.station.timer ≡ Fresh) ⊎ ((d.core.station.timer ≡ On) × (d.deadline ≡ None))

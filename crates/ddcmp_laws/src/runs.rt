@@ -1,4 +1,4 @@
-//! What holds of every run of two ends.
+//! What holds for every run of two ends.
 ghost use Rattle.std.specs.Prelude.{◌≡◌, ◌+◌, ◌%◌, ◌++◌, ℕ, List, length, true, None};
 ghost use Rattle.ddcmp_core.specs.Seq.{Seq as SeqValue};
 ghost use Rattle.ddcmp_proto.specs.Config.{first_refusal};
@@ -15,15 +15,16 @@ ghost use Rattle.ddcmp_laws.specs.Clear.{StaysClear, WastesNothing};
 ghost use Rattle.ddcmp_laws.specs.Counted.{NeverClears, HasCounted};
 
 /// Counters count what was done: in every run in which the line isn't cleared, whatever arrives,
-/// the counters of both ends are the numbers of REPs, NAKs and messages that the histories hold.
+/// the counters of both ends are the numbers of REPs, NAKs and messages in the histories.
 pub fn counts_what_was_done()
     ensures { (first second : ConfigValue) (events : List EventValue) (end : EndValue)
         → NeverClears events → HasCounted (at end (run events (new_pair first second))) }
 {}
 
-/// A faithful line is honest: if, after each event, what arrived at each end is a prefix of the
-/// bytes that the other wrote, fill and all, however they were cut, the run is honest. So the laws
-/// of order and of recovery speak of it. What an end wrote are the bytes that it returned.
+/// A faithful line is honest: if, after each event, the bytes that arrived at each end are a prefix
+/// of those that the other wrote, fill and all, in chunks of any size, the run is honest. So the
+/// laws of order and of recovery apply to it. The bytes that an end wrote are those that it
+/// returned.
 pub fn faithful_is_honest()
     ensures wrote { (end : EndValue) (p : PairState) (bytes : List ℕ)
         → reply_to (Poll end) p ≡ Wrote bytes
@@ -34,9 +35,9 @@ pub fn faithful_is_honest()
         → (run events (new_pair first second)).honest ≡ true }
 {}
 
-/// Numbers are positions: in every honest and clean run R, N, A and T of each end that began, and
-/// the numbers and messages of the frames in flight, are those of two links without bounds, modulo
-/// 256.
+/// Numbers are positions: in every honest and clean run R, N, A and T of each end that was started,
+/// and the numbers and messages of the frames in flight, are those of two links with unbounded
+/// numbers, modulo 256.
 pub fn numbers_are_positions()
     ensures { (first second : ConfigValue) (events : List EventValue)
         → first_refusal first ≡ None → first_refusal second ≡ None
@@ -66,10 +67,10 @@ pub fn messages_carry_positions()
         (at end (run events (new_pair first second))).sent }
 {}
 
-/// A clear line wastes nothing: between two ends that take messages of the same lengths, if after
-/// each event what arrived at each end is a prefix of what the other wrote, no message comes to a
-/// full inbox, and no end halts, then no NAK is ever sent, and each message is sent once, in its
-/// order, whatever timers expire.
+/// A clear line wastes nothing: between two ends that accept messages of the same lengths, if after
+/// each event the bytes that arrived at each end are a prefix of those that the other wrote, no
+/// message arrives at a full inbox, and no end halts, then no NAK is ever sent, and each message is
+/// sent once, in its order, whatever timers expire.
 pub fn clear_line_wastes_nothing()
     ensures { (first second : ConfigValue) (events : List EventValue)
         → first_refusal first ≡ None → first_refusal second ≡ None → first.max ≡ second.max

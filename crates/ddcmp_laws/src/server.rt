@@ -1,4 +1,4 @@
-//! A served station is a driven one.
+//! A served station is a driven station.
 ghost use Rattle.std.specs.Prelude.{◌≢◌, ℕ, Bool, List, Result, Err};
 ghost use Rattle.ddcmp_io.specs.Written.{Known};
 ghost use Rattle.ddcmp_io.specs.declared.device.LineFault.TheVariants.{Memory};
@@ -9,8 +9,8 @@ ghost use Rattle.ddcmp_net.specs.Serving.{Serves};
 ghost use Rattle.ddcmp_laws.specs.Driven.{DriveCall};
 ghost use Rattle.ddcmp_laws.specs.Served.{IsServed};
 
-/// What the contract of `serve` says is that a new station was started and driven by one call of
-/// `drive`, so that the laws of driven stations speak of it.
+/// The contract of `serve` states that a new station was started and driven by one call of `drive`,
+/// so that the laws of driven stations apply to it.
 pub fn served_is_driven()
     ensures { (milliseconds turns : ℕ) (restart counted : Bool) (send : List ℕ) (devices : Devices)
         (failed : Bool) (report report_after : Known)

@@ -1,5 +1,5 @@
-//! Two runs over devices, over one line after the other: what the input of one gave is what the
-//! output of the other took.
+//! Two runs over devices, over one line after the other: the input of one is the output of the
+//! other.
 ghost use Rattle.std.specs.Prelude.{◌≡◌, ◌++◌, Bool, List, [], Option, Some};
 ghost use Rattle.ddcmp_frame.specs.Reader.{StandsFor};
 ghost use Rattle.ddcmp_pair.specs.declared.event.End.{End};
@@ -19,8 +19,8 @@ ghost use Rattle.ddcmp_laws.specs.Pipe.{Made, session_of};
 ghost use Rattle.ddcmp_laws.specs.SessionRuns.{DeliversAll, DeliversFirst, FilesBegin, FilesPass};
 ghost use Rattle.ddcmp_laws.specs.SessionRuns.{IsKeptByRuns, Ran, WasEnded, calls_of};
 
-/// A new session that `ddcmp_session::Buffers::run_lines` has run and closed was ended as the other
-/// laws have it: after calls of which none closed it, with what was held of its input.
+/// A new session that `ddcmp_session::Buffers::run_lines` has run and closed was ended in the sense
+/// of the other laws: none of its calls closed it before, and it was closed with the input held.
 pub fn runs_end()
     ensures { (made : Made) (is_well : Bool) (held : BuffersView) (now : SessionView)
         (known : Option Traffic) → StandsFor made.line []
@@ -30,8 +30,8 @@ pub fn runs_end()
         × WasEnded (record { made = made; steps = steps }) held t now }
 {}
 
-/// When such a session was connected, that returned true each time. So the premise of
-/// `runs_over_the_last_connection` that it did so last holds of its calls up to any point.
+/// Each call that connected such a session returned true. So the premise of
+/// `runs_over_the_last_connection` that the last one did holds for its calls up to any point.
 pub fn runs_start()
     ensures each { (made : Made) (is_well : Bool) (held : BuffersView) (now : SessionView)
         (known : Option Traffic) → StandsFor made.line []
@@ -44,8 +44,8 @@ pub fn runs_start()
         → StartsEach (before ++ after) c → StartsLast before c }
 {}
 
-/// The calls of two sessions, in whatever order they were made, are those of the laws of `pipe`,
-/// and lead each session to where its own calls lead it.
+/// The calls of two sessions, in whatever order they were made, are calls as in the laws of `pipe`,
+/// and lead each session to the state to which its own calls lead it.
 pub fn runs_are_calls()
     ensures { (steps : List (End × SessionStep)) (p : Connections)
         → AreDone (calls_of A steps) p.a → AreDone (calls_of B steps) p.b
@@ -54,12 +54,13 @@ pub fn runs_are_calls()
         ≡ record { a = after_all (calls_of A steps) p.a; b = after_all (calls_of B steps) p.b }) }
 {}
 
-/// Two such runs, in an order of their calls over an honest line in a clean run: what one has
-/// delivered since it was connected last is a beginning of what the other's input has given since,
-/// and it has received all of that if the other's run was ended and lost nothing, as `run_lines`
-/// returns `Ok` for. In binary, if before that the one delivered and the other read nothing: what
-/// the output took is a beginning of each file of messages that fit that the input gave a beginning
-/// of, and then, once nothing waits, the file.
+/// Two such runs, in an order of their calls over an honest line in a clean run: the messages that
+/// one has delivered since it was connected last are a prefix of those read from the other's input
+/// since then, and it has received all of them if the other's run was ended and lost nothing, as
+/// when `run_lines` returns `Ok`. In binary, if before that the one delivered nothing and the other
+/// read nothing, and the bytes read from the input are a prefix of a file of messages that fit: the
+/// output is a prefix of that file; and it is the whole file if that was read, the run ended and
+/// lost nothing, and nothing is queued.
 pub fn runs_are_pipes()
     ensures to_b { IsKeptByRuns (λ a b. DeliversFirst a b) }
     ensures to_a { IsKeptByRuns (λ a b. DeliversFirst b a) }
@@ -72,9 +73,9 @@ pub fn runs_are_pipes()
 {}
 
 /// A run that was ended and lost nothing has lost nothing over any of its lines: whenever one is
-/// over, the session at its other end has received all messages that the run's input had over it,
-/// as `runs_are_pipes` and `runs_over_the_last_connection` have it of calls up to there. And all
-/// messages that the input gave are those that it had over its lines, one line after the other.
+/// over, the session at its other end has received all messages read from the run's input over that
+/// line, as `runs_are_pipes` and `runs_over_the_last_connection` state for the calls up to then.
+/// And the messages read from the input are those read over its lines, one line after the other.
 pub fn runs_over_each_line()
     ensures to_b { IsKeptByRuns (λ a b. DeliversLine a b) }
     ensures to_a { IsKeptByRuns (λ a b. DeliversLine b a) }

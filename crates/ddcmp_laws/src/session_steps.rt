@@ -1,5 +1,5 @@
-//! What joins the laws of sessions to the code: for each call of a session a function that makes
-//! it, whose contract says that it is that call of a history.
+//! The connection between the laws of sessions and the code: for each call of a session a function
+//! that makes it, whose contract states that it is that call of a history.
 ghost use Rattle.std.specs.Prelude.{◌≡◌, ◌<◌, ◌≤◌, ◌++◌, ℕ, true, List, [], min, length, take};
 ghost use Rattle.std.specs.Prelude.{is_ok, is_some, IfOk, None};
 ghost use Rattle.ddcmp_frame.specs.Reader.{StandsFor};
@@ -19,7 +19,7 @@ use ddcmp_session::{LineKind, Options, Session};
 use ddcmp_station::ConfigRefusal;
 use std::alloc::Global;
 
-/// Makes a session of sizes in range, with which a history begins.
+/// Makes a session of sizes in range, which begins a history.
 pub fn makes(alloc: Global, options: Options, kind: LineKind) -> Result<Session, ConfigRefusal>
     ensures begins { IfOk result (λ s. s.state
         ≡ (new_session options kind s.state.link.station.line).session) }
@@ -29,7 +29,7 @@ pub fn makes(alloc: Global, options: Options, kind: LineKind) -> Result<Session,
     Session::new(alloc, options, kind)
 }
 
-/// Takes bytes of the input, as many as are returned: all, if they complete nothing.
+/// Handles bytes of the input and returns how many were used: all, if they complete nothing.
 pub fn types(session: &mut Session, bytes: &[u8]) -> usize
     ensures done { (text : List ℕ)
         → SessionDoes (Typed (take result bytes.now)) text session.old.state session.new.state }
@@ -41,7 +41,7 @@ pub fn types(session: &mut Session, bytes: &[u8]) -> usize
     session.typed(bytes)
 }
 
-/// Takes the end of the input.
+/// Handles the end of the input.
 pub fn ends_input(session: &mut Session)
     ensures done { (text : List ℕ)
         → SessionDoes InputEnded text session.old.state session.new.state }
@@ -50,7 +50,7 @@ pub fn ends_input(session: &mut Session)
     session.input_ended();
 }
 
-/// Starts a session: on a line that is clear, if nothing waits to be sent, and on any line again.
+/// Starts a session on a line that is clear, if nothing is queued for it, or again on any line.
 pub fn connects(session: &mut Session) -> bool
     ensures done { session.old.state.link.outbox.waiting ≡ []
         → SessionDoes Connected [] session.old.state session.new.state }
@@ -62,7 +62,7 @@ pub fn connects(session: &mut Session) -> bool
     session.connected()
 }
 
-/// Takes the end of the line; returns whether there was room to report what is lost.
+/// Handles the end of the line; returns whether there was room to report what is lost.
 pub fn ends_line(session: &mut Session) -> bool
     ensures done { (text : List ℕ)
         → SessionDoes (LineEnded result) text session.old.state session.new.state }
@@ -72,7 +72,7 @@ pub fn ends_line(session: &mut Session) -> bool
     session.line_ended()
 }
 
-/// Takes bytes of the line, as many as are returned.
+/// Handles bytes of the line and returns how many were used.
 pub fn receives(session: &mut Session, bytes: &[u8]) -> usize
     ensures done { (text : List ℕ) → StandsFor session.old.state.link.station.line text
         → SessionDoes (Received (take result bytes.now)) text session.old.state session.new.state }
@@ -84,7 +84,7 @@ pub fn receives(session: &mut Session, bytes: &[u8]) -> usize
     session.received(bytes)
 }
 
-/// Puts frames after what waits for the line.
+/// Queues frames after the bytes pending for the line.
 pub fn fills(session: &mut Session)
     ensures done { (text : List ℕ)
         → (frames : ℕ) × SessionDoes (Filled frames) text session.old.state session.new.state }
@@ -112,7 +112,7 @@ pub fn times_out(session: &mut Session, now: u64)
     session.handle_timeout(now);
 }
 
-/// Writes the first received message, if it is there and has room.
+/// Writes the first received message, if there is one and there is room for it.
 pub fn delivers(session: &mut Session) -> bool
     ensures done { (text : List ℕ)
         → SessionDoes (Delivered result) text session.old.state session.new.state }

@@ -1,4 +1,4 @@
-//! What a session does is what its link does, and what it writes is the text of that.
+//! A session does what its link does, and writes the text of that.
 ghost use Rattle.std.specs.Prelude.{◌≡◌, ◌++◌, ℕ, List, false};
 ghost use Rattle.ddcmp_frame.specs.Reader.{ReaderView};
 ghost use Rattle.ddcmp_input.specs.InBinary.{in_binary};
@@ -11,10 +11,10 @@ ghost use Rattle.ddcmp_session.specs.Calls.{after_session_steps, Shown};
 ghost use Rattle.ddcmp_laws.specs.Sessions.{link_steps_in, IsOfLink, messages_of, mail_in};
 ghost use Rattle.ddcmp_laws.specs.Sessions.{texts_of};
 
-/// Each list of calls of a new session of data is a list of calls of its link. Of these the bytes
-/// of the line that were used and that the line took are those of the session; the messages that
-/// were offered are those of the input, in their order, each once, and all of them were accepted;
-/// and the messages that were taken are those that the session delivered.
+/// Each list of calls of a new session of data messages makes a list of calls of its link. These
+/// use and write the same bytes of the line; they offer the messages of the input, in their order,
+/// each once, and all of them are accepted; and the messages that they take are those that the
+/// session delivered.
 pub fn session_calls_are_link_calls()
     ensures calls { (options : OptionsValue) (kind : LineKindValue) (line : ReaderView)
         (steps : List SessionStep) → options.maintenance ≡ false
@@ -36,9 +36,9 @@ pub fn session_calls_are_link_calls()
         (after_session_steps steps (new_session options kind line)).input }
 {}
 
-/// What standard output took of a new session, and after it what waits for it, is the text of the
-/// messages that were delivered and of what was reported, in their order. In binary it is the
-/// messages alone, each after its length.
+/// The bytes that a new session wrote to standard output, and then those queued for it, are the
+/// text of the messages that were delivered and of what was reported, in their order. In binary
+/// they are the messages alone, each after its length.
 pub fn output_is_text_of()
     ensures text { (options : OptionsValue) (kind : LineKindValue) (line : ReaderView)
         (steps : List SessionStep)

@@ -9,9 +9,9 @@ ghost use Rattle.ddcmp_laws.specs.LossFree.{Line, empty_line, IsLossFree, run_on
 ghost use Rattle.ddcmp_laws.specs.Price.{price, frames_given, added, items_on_way};
 
 /// A line without loss settles, in any order. From two sound ends in any states, with anything in
-/// flight that comes whole: however the events of a list go in which nothing is lost, no more polls
-/// yield a frame than the price of the line and what the events add to it, and what is then in
-/// flight comes whole again. If nothing is in flight the price is at most 12 * w + 12, w being the
+/// flight that arrives whole: by any list of events in which nothing is lost, no more polls yield a
+/// frame than the price of the line and what the events add to it, and what is then in flight
+/// arrives whole again. If nothing is in flight the price is at most 12 * w + 12, w being the
 /// larger window, and each item in flight adds at most 2 * w + 1.
 pub fn settles_in_any_order()
     ensures frames { (events : List EventValue) (l : Line) → IsWhole l → IsLossFree events l
@@ -23,7 +23,7 @@ pub fn settles_in_any_order()
         ≤ 12 * larger_window l.pair + 12 + (2 * larger_window l.pair + 1) * items_on_way l }
 {}
 
-/// Two new stations that take messages of the same lengths, over a line without loss from the
+/// Two new stations that accept messages of the same lengths, over a line without loss from the
 /// beginning on: no more polls yield a frame than the events add: 3 for each start and 2 for each
 /// message, and, w being the larger window, 2 * w + 2 for each timeout and 2 * w for each NAK of a
 /// full inbox.

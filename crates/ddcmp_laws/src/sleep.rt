@@ -7,11 +7,11 @@ ghost use Rattle.ddcmp_pair.specs.Run.{PairState, new_pair, run, is_clean};
 ghost use Rattle.ddcmp_pair.specs.declared.event.Event.{Event as EventValue};
 ghost use Rattle.ddcmp_laws.specs.Sleep.{IsAsleep, AreUp};
 
-/// Nobody waits for nothing: no line hangs. After any honest and clean run of two stations of any
+/// No station waits in vain: no line hangs. After any honest and clean run of two stations of any
 /// sizes in range that are both up, whatever was lost or damaged and whatever is still in flight:
 /// if an end has no frame to send and its reply timer is off, then it runs, and each message that
-/// it accepted was delivered at the other end and is acknowledged. So as long as a message isn't,
-/// the end that accepted it has a frame to send or a timer that will expire.
+/// it accepted was delivered at the other end and is acknowledged. So as long as some message
+/// isn't, the end that accepted it has a frame to send or a timer that will expire.
 pub fn nobody_waits_for_nothing()
     ensures from_a { (first second : ConfigValue) (events : List EventValue) (p : PairState)
         → first_refusal first ≡ None → first_refusal second ≡ None

@@ -1,4 +1,4 @@
-//! Something happens: two ends of any sizes come to run and take messages.
+//! Liveness: two ends of any sizes come to run and accept messages.
 ghost use Rattle.std.specs.Prelude.{◌≡◌, ◌≤◌, ℕ, List, [], ◌∷◌, length, true, None};
 ghost use Rattle.ddcmp_core.specs.Core.{IsSound};
 ghost use Rattle.ddcmp_proto.specs.Config.{first_refusal};
@@ -14,10 +14,10 @@ ghost use Rattle.ddcmp_laws.specs.Story.{number};
 ghost use Rattle.ddcmp_laws.specs.Starts.{both_start, started, IsUp};
 ghost use Rattle.ddcmp_laws.specs.Recovered.{Accepts, sent_over, HandsOver};
 
-/// Two new ends that take messages of the same lengths are ready once both have started: so the law
-/// of recovery speaks of them. A handshake makes both run, whatever their sizes, and that run is
-/// honest and clean: so the law of order speaks of it. And then each end accepts every message that
-/// isn't empty and isn't too long, as its first.
+/// Two new ends that accept messages of the same lengths are ready once both have started: so the
+/// law of recovery applies to them. A handshake makes both run, whatever their sizes, and that run
+/// is honest and clean: so the law of order applies to it. And then each end accepts every message
+/// that isn't empty and isn't too long, as its first.
 pub fn two_ends_come_up()
     ensures ready { (first second : ConfigValue) → first.max ≡ second.max
         → is_ready (run both_start (new_pair first second)) ≡ true }
@@ -30,8 +30,8 @@ pub fn two_ends_come_up()
 
 /// Once a line that was ready has recovered, each end accepts every message that isn't empty and
 /// isn't too long, under the number after those of all that it accepted before. That message and
-/// nothing else is delivered when the line recovers again. So it is of the first message, if both
-/// ends started and nothing more had happened.
+/// nothing else is delivered when the line recovers again. The same holds for the first message, if
+/// both ends started and nothing more had happened.
 pub fn takes_messages_once_recovered()
     ensures accepts { (first second : ConfigValue) (events : List EventValue) (p : PairState)
         (end : EndValue) (message : List ℕ)

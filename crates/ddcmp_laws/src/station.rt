@@ -34,8 +34,8 @@ ghost use Rattle.ddcmp_laws.specs.Station.{IsNoMaintenance, IsGoodMaintenance, C
 ghost use Rattle.ddcmp_laws.specs.Station.{IsStartRefused, IsRefused, WantsAnswer};
 ghost use Rattle.ddcmp_laws.specs.Station.{SendsNak, BeginsAnew, HaltsAtRestart, KeepsUnder};
 
-/// A halted station is deaf and dumb: no input changes it, it sends nothing, and it accepts no
-/// message. Who halts it finds its numbers, its messages and its inbox as they were.
+/// A halted station is deaf and mute: no input changes it, it sends nothing, and it accepts no
+/// message. A halt leaves its numbers, its queued messages and its inbox as they were.
 pub fn halted_is_deaf_and_dumb()
     ensures deaf { (l : Limits) (s : StationState) (h : Received) → s.state ≡ Halted → on l s h
         ≡ s }
@@ -46,8 +46,8 @@ pub fn halted_is_deaf_and_dumb()
 {}
 
 /// A running station accepts exactly the messages of 1 to `longest` bytes, while fewer than its
-/// window are queued; and so does one in Maintenance, of maintenance messages. One that it accepts
-/// is queued after the others.
+/// window are queued; and so does one in Maintenance, with maintenance messages. An accepted
+/// message is queued after the others.
 pub fn takes_what_it_may()
     ensures exactly { (l : Limits) (s : StationState) (message : List ℕ) → s.state ≡ Running
         → (may_send l s message ≡ true) ↔ ((1 ≤ length message) × (length message ≤ l.longest)
@@ -60,9 +60,9 @@ pub fn takes_what_it_may()
 {}
 
 /// Input with a RESP within what was sent acknowledges exactly the messages up to it, be it an ACK,
-/// a NAK or data; and reports how many. If it acknowledges some, no REP is due any more. Beyond
-/// what was sent it acknowledges none: such an ACK or NAK changes nothing, and such data are
-/// received as if their RESP were A.
+/// a NAK or data; and reports how many. If it acknowledges some, no REP is pending any more. If the
+/// RESP is beyond what was sent, it acknowledges none: such an ACK or NAK changes nothing, and such
+/// data are received as if their RESP were A.
 pub fn acknowledges_exactly()
     ensures within { (l : Limits) (s : StationState) (h : Received) (q : ℕ)
         → s.state ≡ Running → s.a < 256 → q < 256 → Responds h q → Within s.a q s.n
@@ -82,8 +82,9 @@ pub fn acknowledges_exactly()
 {}
 
 /// A running station delivers exactly the message that is next in sequence if there is room: the
-/// inbox, R and what is reported move together, and an ACK is owed. Other data, a full inbox, and
-/// what is no data message move none of them; a STRT, which ends the run, has a law of its own.
+/// inbox, R and what is reported change together, and an ACK is pending. Other data, a full inbox,
+/// and input that is no data message change none of them; a STRT, which ends the run, has a law of
+/// its own.
 pub fn receives_in_step()
     ensures next { (l : Limits) (s : StationState) (resp num : ℕ) (message : List ℕ)
         → s.state ≡ Running → num ≡ (s.r + 1) % 256 → length s.inbox < l.room
@@ -123,10 +124,10 @@ pub fn data_end_a_startup()
         × (notice_of l s (Good (Data resp num message)) ≡ None) }
 {}
 
-/// A header that can't be read, and a data message that is damaged or too long, are asked for at
-/// once: the next frame is a NAK with R and the reason, and nothing else has changed. So is the
-/// next message if there is no room. A REP is answered by what is owed: an ACK if all that it asks
-/// for has come, and else a NAK.
+/// A header that can't be read, and a data message that is damaged or too long, are answered by a
+/// NAK at once: the next frame is a NAK with R and the reason, and nothing else has changed. The
+/// same holds for the next message if there is no room. The reply to a REP is an ACK if all
+/// messages that it asks for were received, and otherwise a NAK.
 pub fn asks_at_once()
     ensures fault { (l : Limits) (s : StationState) (h : Received) (k : ℕ) → s.state ≡ Running
         → CallsFor h k → SendsNak k s.r (on l s h)
@@ -141,8 +142,8 @@ pub fn asks_at_once()
         → on l s (Good (Rep s.r)) ≡ record s { reply = Ack } }
 {}
 
-/// A running station always reports a STRT. If it may restart and no received message is waiting it
-/// restarts as its peer does; else it halts.
+/// A running station always reports a STRT. If it may restart and has no received message in its
+/// inbox, it restarts as its peer does; otherwise it halts.
 pub fn reports_each_strt()
     ensures restarts { (l : Limits) (s : StationState) → s.state ≡ Running → l.restart ≡ true
         → s.inbox ≡ [] → BeginsAnew s (on l s (Good Strt)) (notice_of l s (Good Strt)) }
@@ -151,9 +152,9 @@ pub fn reports_each_strt()
         → HaltsAtRestart s (on l s (Good Strt)) (notice_of l s (Good Strt)) }
 {}
 
-/// A STRT that comes to a station that is halted or in Maintenance is reported. So is a maintenance
-/// message: elsewhere that it came, and in Maintenance that it was dropped since the inbox is full.
-/// Each of these three notices means that and nothing else.
+/// A STRT received by a station that is halted or in Maintenance is reported. So is a maintenance
+/// message: outside Maintenance that it was received, and in Maintenance that it was dropped since
+/// the inbox is full. Each of these three notices means that and nothing else.
 pub fn reports_what_it_leaves_alone()
     ensures peer_starts { (l : Limits) (s : StationState) (h : Received)
         → (notice_of l s h ≡ Some PeerStarts)
@@ -167,8 +168,8 @@ pub fn reports_what_it_leaves_alone()
 {}
 
 /// `start` returns how many messages it drops, or why it is refused: that the station isn't halted
-/// goes before messages that weren't taken. A message is refused for the first of four reasons:
-/// another state, no bytes, too many bytes, and a full window.
+/// takes precedence over messages that weren't taken. A message is refused for the first of four
+/// reasons: another state, no bytes, too many bytes, and a full window.
 pub fn refuses_for_the_first_reason()
     ensures started { (s : StationState) → s.state ≡ Halted → s.inbox ≡ []
         → (answer_to_start s ≡ Ok (length s.out)) × ((after_start s).out ≡ []) }
@@ -181,8 +182,8 @@ pub fn refuses_for_the_first_reason()
         → answer_to_send_maintenance l s message ≡ Err why }
 {}
 
-/// A station that starts replies to a STRT with a STACK. A STACK makes it run and owe an ACK, and
-/// an ACK with RESP 0 makes one run that replied to a STRT. Nothing else but data with RESP 0
+/// A station that starts replies to a STRT with a STACK. A STACK makes it run, with an ACK pending,
+/// and an ACK with RESP 0 makes one run that replied to a STRT. Nothing else but data with RESP 0
 /// changes it, so no fault, NAK or REP of that time has a reply once it runs.
 pub fn starts_by_what_answers_it()
     ensures strt { (l : Limits) (s : StationState) → is_starting s.state ≡ true
@@ -199,7 +200,7 @@ pub fn starts_by_what_answers_it()
         → on l s h ≡ s }
 {}
 
-/// There is no reply to a reply: an ACK and a NAK leave nothing to be answered, and what is owed is
+/// There is no reply to a reply: an ACK and a NAK leave no reply pending, and a pending reply is
 /// sent once.
 pub fn answers_no_answer()
     ensures ack { (l : Limits) (s : StationState) (q : ℕ) → s.state ≡ Running
@@ -214,12 +215,12 @@ pub fn answers_no_answer()
 {}
 
 /// The timer isn't starved: data start a timer that is off, and leave one that is running as it is;
-/// a STRT, a STACK and a REP restart it. What acknowledges all that was sent ends it, and so does a
-/// NAK, which takes back a REP too; an ACK or data that acknowledge a part restart it. And if it
-/// expires while a message waits to be acknowledged, and no NAK is owed, the station asks by a REP;
-/// if none waits it asks for nothing. Over any number of calls a timer that is on stays on, and so
-/// expires in the end, whatever is sent and received, until something is acknowledged or asked for,
-/// or the peer restarts.
+/// a STRT, a STACK and a REP restart it. Input that acknowledges all that was sent stops it, and so
+/// does a NAK, which withdraws a REP, too; an ACK or data that acknowledge a part restart it. If it
+/// expires while a message is unacknowledged and no NAK is pending, the station sends a REP; if
+/// none is, no REP becomes pending. Over any number of calls a timer that is on stays on, and so
+/// expires in the end, whatever is sent and received, until something is acknowledged or a NAK
+/// arrives, or the peer restarts.
 pub fn timer_is_not_starved()
     ensures running { (s u : StationState) (r num : ℕ) (message : List ℕ)
         → next s ≡ Sends (Data r num message) u → s.timer ≢ Off → u.timer ≡ s.timer }
@@ -245,10 +246,9 @@ pub fn timer_is_not_starved()
         → (after_calls l calls s).timer ≡ On }
 {}
 
-/// The number that `send` returns is the number on the line of that message, each time that it is
-/// sent: from then on, while the station runs, the message is queued under that number, no other
-/// is, and what is sent under a number is the message that is queued under it; until it is reported
-/// acknowledged.
+/// The number that `send` returns is the number of that message on the line, each time that it is
+/// sent: from then on, while the station runs, only this message is queued under that number, and a
+/// message sent under a number is the one queued under it, until it is reported acknowledged.
 pub fn sends_under_the_number_returned()
     ensures answered { (l : Limits) (s : StationState) (message : List ℕ) (number : SeqValue)
         → answer_to_send l s message ≡ Ok number
@@ -276,7 +276,7 @@ pub fn sends_under_the_number_returned()
         ⊎ KeepsUnder (on l s h) number message }
 {}
 
-/// Maintenance stands apart: elsewhere a maintenance message changes nothing, be it good, damaged
+/// Maintenance is separate: outside it a maintenance message changes nothing, be it good, damaged
 /// or too long, and in Maintenance nothing else does. There each message goes to the inbox, after
 /// the others, or is lost if there is no room; and those to be sent are sent in their order.
 pub fn maintenance_stands_apart()
@@ -297,9 +297,9 @@ pub fn maintenance_stands_apart()
         → next s ≡ Sends (Maint message) (record s { out = rest }) }
 {}
 
-/// Over any number of calls in Maintenance, whatever the input: what is sent is what was accepted,
-/// in that order and each once, and what isn't sent yet still is to be sent. What is delivered is
-/// what was received, in that order and each once, or it is lost.
+/// Over any number of calls in Maintenance, whatever the input: the messages sent are those that
+/// were accepted, in that order and each once, and those not sent yet are still queued. The
+/// messages delivered are those that were received, in that order and each once, or lost.
 pub fn maintenance_is_in_order()
     ensures sent { (l : Limits) (s : StationState) (calls : List Call) → s.state ≡ Maintenance
         → SendsInOrder l calls s }
@@ -307,8 +307,8 @@ pub fn maintenance_is_in_order()
         → s.state ≡ Maintenance → HandsUpInOrder l calls s }
 {}
 
-/// An input is counted under its own counter alone. The four faults are counted in every state;
-/// NAKs, each under its reason, and REPs while the station runs.
+/// An input is counted only by its own counter. The four faults are counted in every state; NAKs,
+/// each under its reason, and REPs while the station runs.
 pub fn counts_what_comes()
     ensures faults { (l : Limits) (s : StationState)
         → counted_after l written_faults s no_counts ≡ counts_of_faults }

@@ -1,4 +1,4 @@
-//! Two stations by every call that a station has.
+//! Two stations and every call that a station has.
 ghost use Rattle.std.specs.Prelude.{◌≡◌, ℕ, List, [], true, false, None};
 ghost use Rattle.std.specs.List.{All};
 ghost use Rattle.ddcmp_frame.specs.Reader.{StandsFor};
@@ -24,12 +24,12 @@ ghost use Rattle.ddcmp_laws.specs.StationRuns.{after_station_steps, calls_of_sta
 ghost use Rattle.ddcmp_laws.specs.StationRuns.{IsSameStation, AreSameStations};
 ghost use Rattle.ddcmp_laws.specs.StationRuns.{IsKeptByStations, StationReaches};
 
-/// The headline for every call of a station. Two new stations of any sizes in range are in order
+/// The main law for every call of a station. Two new stations of any sizes in range are in order
 /// after every list of calls, if the line is honest and the run clean since the lines were cleared.
-/// Calls that clear no line and leave maintenance alone do what `every_caller` says of them. Two
+/// Calls that neither clear a line nor concern maintenance do what `every_caller` states. Two
 /// halted ends without messages that clear their lines do what the event Clear of a run does. An
-/// end that enters maintenance leaves the clean runs, so that nothing is promised of it until it is
-/// halted and clears its line.
+/// end that enters maintenance leaves the clean runs, so that nothing is promised for it until it
+/// is halted and clears its line.
 pub fn every_call()
     ensures order { (first second : ConfigValue) (calls : List (EndValue × StationCall))
         → first_refusal first ≡ None → first_refusal second ≡ None
@@ -60,10 +60,10 @@ pub fn every_call()
         → is_clean (after_station_call end EntersMaintenance p) ≡ false }
 {}
 
-/// What the contract of a call of a station says is that call of a run: a new station is a new end
-/// of a run, and each call takes a station that is an end of a run to the one that is that end
-/// after the call. So it is with the histories of a station, and with two stations, after any calls
-/// of both.
+/// The contract of a call of a station states that it is that call of a run: a new station is a new
+/// end of a run, and each call takes a station that agrees with an end of a run to one that agrees
+/// with that end after the call. The same holds for the histories of a station, and for two
+/// stations, after any calls of both.
 pub fn station_calls_are_calls()
     ensures begins { (config : ConfigValue) (v : StationView) → v.core ≡ core_made config
         → v.syn ≡ config.syn → StandsFor v.line [] → IsStationAt (new_end config) v }
@@ -80,9 +80,9 @@ pub fn station_calls_are_calls()
 {}
 
 /// Two new stations of any sizes in range, over an honest line, in a clean run, whatever the calls:
-/// what each received since its line was cleared are the first of the messages that the other
-/// accepted since its own was, in their order, each once and unchanged, and no more are reported
-/// acknowledged than were received.
+/// the messages that each received since its line was cleared are a prefix of those that the other
+/// accepted since its own was, each once and unchanged, and no more are reported acknowledged than
+/// were received.
 pub fn stations_in_order()
     ensures to_b { IsKeptByStations (λ q. StationReaches q.a q.b) }
     ensures to_a { IsKeptByStations (λ q. StationReaches q.b q.a) }

@@ -1,6 +1,6 @@
-//! What joins the laws of calls to the code: for each call of a station a function that makes it,
-//! whose contract says that it is that call. A call that only returns something of the station has
-//! none: it has the station by a reference through which nothing changes.
+//! The connection between the laws of calls and the code: for each call of a station a function
+//! that makes it, whose contract states that it is that call. A call that only returns something
+//! has no such function: it has the station by a reference through which nothing changes.
 ghost use Rattle.std.specs.Prelude.{◌≡◌, ◌+◌, ◌<◌, ◌≤◌, ◌^◌, ◌∷◌, ℕ, List, [], length, take, None};
 ghost use Rattle.std.specs.Prelude.{if◌then◌else◌, is_ok, option_map, option_to_list, IfOk};
 ghost use Rattle.ddcmp_frame.specs.Reader.{StandsFor};
@@ -30,14 +30,14 @@ pub fn starts(station: &mut Station) -> Result<u8, StartRefusal>
     station.start()
 }
 
-/// Halts it.
+/// Halts the station.
 pub fn halts(station: &mut Station)
     ensures done { HasDone Halts station.old station.new }
 {
     station.halt();
 }
 
-/// Queues a message. A run has it as accepted exactly if a number is returned.
+/// Queues a message. The run has it as accepted exactly if a number is returned.
 pub fn sends(station: &mut Station, message: &[u8]) -> Result<Seq, SendRefusal>
     ensures done { HasDone (Sends message.now) station.old station.new }
     ensures accepted { accepted_by (Sends message.now) station.old
@@ -57,8 +57,8 @@ pub fn polls(station: &mut Station, out: &mut [u8]) -> Option<usize>
     station.poll(out)
 }
 
-/// Handles bytes of the line: those that were used. A run counts what the notice reports
-/// acknowledged.
+/// Handles bytes of the line and returns how many were used. The run counts the messages that the
+/// notice reports acknowledged.
 pub fn feeds(station: &mut Station, piece: &[u8]) -> Fed
     requires { station.old.line.offset + length piece.now < 2 ^ 64 }
     ensures done { HasDone (Feeds (take result.used piece.now)) station.old station.new }

@@ -10,7 +10,8 @@ ghost use Rattle.ddcmp_laws.specs.Clear.{StaysClear};
 
 /// A handshake, messages both ways, of which one is lost and one is damaged, a lost ACK, and the
 /// repair of each: every frame on the line, every notice and every number is the one that is
-/// written down. In the end each message was delivered once, and both ends have counted right.
+/// written down. In the end each message was delivered once, and the counters of both ends are
+/// right.
 pub fn written_run_is_answered()
     ensures replies { replies_to (map event_in written_run) (new_pair default_sizes default_sizes)
         ≡ map reply_in written_run }
@@ -18,8 +19,8 @@ pub fn written_run_is_answered()
         (f ∷ []) (abc ∷ de ∷ g ∷ []) counts_of_a counts_of_b }
 {}
 
-/// The same of a run in which a header fails its check, one has no form, a message is too long, and
-/// one finds no room.
+/// The same for a run in which a header has a wrong CRC, one has no known form, a message is too
+/// long, and there is no room for one.
 pub fn second_run_is_answered()
     ensures replies { replies_to (map event_in second_run) (new_pair tight tight)
         ≡ map reply_in second_run }
@@ -27,9 +28,9 @@ pub fn second_run_is_answered()
         [] (abc ∷ de ∷ []) second_counts_of_a second_counts_of_b }
 {}
 
-/// The same of a run over a clear line, in which a timer expires all the same: so the law that such
-/// a line wastes nothing speaks of runs in which messages are sent and asked for, also between ends
-/// whose inboxes take one message.
+/// The same for a run over a clear line, in which a timer expires all the same: so the law that
+/// such a line wastes nothing applies to runs in which messages and REPs are sent, also between
+/// ends whose inboxes hold one message.
 pub fn clear_run_is_answered()
     ensures clear { StaysClear (map event_in clear_run) (new_pair default_sizes default_sizes) }
     ensures one { StaysClear (map event_in clear_run) (new_pair tight tight) }

@@ -14,12 +14,12 @@ ghost use Rattle.ddcmp_laws.specs.Sweeps.{IsSweep, sweep_of, AreSweeps, in_a_row
 ghost use Rattle.ddcmp_laws.specs.Sweeps.{AreEnough, AreAtOnce, AreInTime, IsRecoveryBySweeps};
 
 /// A line that loses nothing comes to rest. From two sound ends in any states, with anything in
-/// flight that comes whole: after enough sweeps nothing is in flight and neither end has a frame to
-/// send, and further sweeps leave it so. Enough are twice as many as frames may be sent, and two.
-/// In numbers, w being the larger window, and with 4 * w + 2 more for each item in flight: if
-/// received messages are taken at once, so that there is room for all that arrives, 32 * w + 26
-/// sweeps; if a line that is under way has only room for a message whenever bytes arrive, 8 * w * w
-/// more.
+/// flight that arrives whole: after enough sweeps nothing is in flight and neither end has a frame
+/// to send, and further sweeps leave it so. Enough are two more than twice the number of frames
+/// that may be sent. In numbers, w being the larger window, and with 4 * w + 2 more for each item
+/// in flight: if received messages are taken at once, so that there is room for all that arrives,
+/// 32 * w + 26 sweeps; if a line that is under way has only room for a message whenever bytes
+/// arrive, 8 * w * w more.
 pub fn comes_to_rest()
     ensures rests { (sweeps : List (List EventValue)) (l : Line) → IsWhole l
         → IsLossFree (in_a_row sweeps) l → AreEnough sweeps l
@@ -36,10 +36,10 @@ pub fn comes_to_rest()
         → IsLossFree (in_a_row sweeps) l → AreInTime sweeps l → AreEnough sweeps l }
 {}
 
-/// Two stations that any events led to and that are under way, over a line that loses nothing from
-/// now on, whatever was lost before: after enough sweeps, and two rounds, in each of which the
-/// timer of each end expires, unless it is off, and enough sweeps follow, both run, and all that
-/// was accepted, also meanwhile, is delivered and reported acknowledged.
+/// Two stations, after any events, that are under way, over a line that loses nothing from now on,
+/// whatever was lost before: after enough sweeps, and two rounds, in each of which the timer of
+/// each end expires, unless it is off, and enough sweeps follow, both run, and all that was
+/// accepted, also meanwhile, is delivered and reported acknowledged.
 pub fn sweeps_deliver()
     ensures { (first second : ConfigValue) (before events : List EventValue) (l : Line)
         → first_refusal first ≡ None → first_refusal second ≡ None
@@ -47,15 +47,15 @@ pub fn sweeps_deliver()
         → IsLossFree events l → IsRecoveryBySweeps events l → IsDone (run_on_line events l).pair }
 {}
 
-/// Each line has sweeps, so that no law above holds because there are none: what is in flight to
-/// each end arrives, and then each is polled.
+/// Each line has sweeps, so that no law above holds vacuously: what is in flight to each end
+/// arrives, and then each is polled.
 pub fn each_line_has_a_sweep()
     ensures sweep { (l : Line) → IsSweep (sweep_of l) l }
     ensures loss_free { (l : Line) → IsLossFree (sweep_of l) l }
 {}
 
-/// A message that was lost arrives, so that no law above holds because nothing can happen: two
-/// stations under way, a loss, and a list of events, written out, that is a recovery by sweeps.
+/// A message that was lost arrives, so that no law above holds vacuously: two stations under way, a
+/// loss, and a list of events, written out, that is a recovery by sweeps.
 pub fn a_lost_message_arrives()
     ensures whole { IsWhole after_loss }
     ensures under_way { IsUnderWay after_loss }

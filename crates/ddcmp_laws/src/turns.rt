@@ -18,8 +18,8 @@ ghost use Rattle.ddcmp_laws.specs.Driven.{Does, IsDriven, Reaches, AreDriven, se
 
 use ddcmp_station::User;
 
-/// What the histories of an end hold is what its user saw of the calls: what was accepted from it,
-/// what it received, and how many messages were reported acknowledged to it.
+/// The histories of an end hold what its user saw of the calls: the messages accepted from it,
+/// those that it received, and how many were reported acknowledged to it.
 pub fn users_see_histories()
     ensures given { (calls : List Call) (x : EndState)
         → (after_calls_here calls x).given ≡ x.given ++ accepted_from (shown_in calls x) }
@@ -30,8 +30,8 @@ pub fn users_see_histories()
         ≡ x.acknowledged + acknowledged_to (shown_in calls x) }
 {}
 
-/// Turns of `drive` are calls: they leave the station and its line as those calls do, write the
-/// same bytes, and the user sees the same. So is a whole call of `drive`, also if it broke off.
+/// Turns of `drive` are calls: they lead to the same station and line, write the same bytes, and
+/// the user sees the same. So is a whole call of `drive`, also if it broke off.
 pub fn turns_are_calls()
     ensures turns { (milliseconds : ℕ) (turns : List DriveTurn) (x : EndState)
         → Does (calls_of_turns milliseconds x.syn turns (driving_from x.core x.arrived)) x
@@ -41,7 +41,7 @@ pub fn turns_are_calls()
         (driven x.syn call x.core x.arrived) }
 {}
 
-/// What the contract of `drive` says is that the station was driven by such a call.
+/// The contract of `drive` states that the station was driven by such a call.
 pub fn contract_is_a_call<U: User>()
     ensures { (milliseconds count : ℕ) (old new : StationView) (devices : Devices)
         (before after : U) (answer : Result DrivenValue LineFaultValue)

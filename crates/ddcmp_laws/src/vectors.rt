@@ -1,4 +1,4 @@
-//! Published checks, and each kind of frame as bytes, computed from the definitions.
+//! Published CRCs, and each kind of frame as bytes, computed from the definitions.
 ghost use Rattle.std.specs.Prelude.{◌≡◌, true, false, [], ◌∷◌};
 ghost use Rattle.ddcmp_num.specs.Check.{check_of};
 ghost use Rattle.ddcmp_frame.specs.declared.header.ControlType.TheVariants.{Ack, Nak, Rep};
@@ -10,14 +10,14 @@ ghost use Rattle.ddcmp_proto.specs.Bytes.{frame_on_line};
 ghost use Rattle.ddcmp_laws.specs.Vectors.{nine_digits, abc, control, data_of, maintenance_of};
 ghost use Rattle.ddcmp_laws.specs.Vectors.{IsHeader, IsOnLine};
 
-/// The checks that are published of CRC-16: of `123456789`, of `abc` and of nothing.
+/// The published values of CRC-16 for `123456789`, for `abc` and for no bytes.
 pub fn published_checks()
     ensures digits { check_of nine_digits ≡ 0xBB3D }
     ensures letters { check_of abc ≡ 0x9738 }
     ensures nothing { check_of [] ≡ 0 }
 {}
 
-/// Headers in which each field has a value of its own: which byte has the TYPE, the SUBTYPE, Q, S,
+/// Headers in which each field has a value of its own: the bytes of the TYPE, the SUBTYPE, Q, S,
 /// COUNT, RESP, NUM and ADDR, and after them the CRC with its low byte first.
 pub fn headers_in_bytes()
     ensures ack { IsHeader (control Ack 0 true false 5 9 7)
@@ -39,8 +39,8 @@ pub fn headers_in_bytes()
 {}
 
 /// Each kind of frame that a station sends, with each reason of a NAK that has a name, is these
-/// bytes; and a station that reads these bytes reads that frame and nothing else. Before a frame
-/// goes as much fill as was chosen, of bytes 0x96.
+/// bytes; and a station that reads these bytes reads that frame and nothing else. A frame is
+/// preceded by as many bytes of fill, 0x96, as were chosen.
 pub fn frames_in_bytes()
     ensures strt { IsOnLine Strt
         (0x05 ∷ 0x06 ∷ 0xC0 ∷ 0x00 ∷ 0x00 ∷ 0x01 ∷ 0x75 ∷ 0x95 ∷ []) }

@@ -25,7 +25,7 @@ add (a ∷ p) (b ∷ q) = xor a b ∷ add p q
 unfoldable pub divisor_rest : List Bool
 divisor_rest = true ∷ replicate 12 false ++ true ∷ false ∷ true ∷ []
 
--- what is left of a dividend after k steps of long division by x^16 + x^15 + x^2 + 1
+-- the rest of a dividend after k steps of long division by x^16 + x^15 + x^2 + 1
 unfoldable pub remainder : ℕ → List Bool → List Bool
 remainder zero p = p
 remainder (suc k) [] = []
@@ -37,10 +37,10 @@ unfoldable pub number : List Bool → ℕ
 number [] = 0
 number (b ∷ bs) = (if b then 1 else 0) + 2 * number bs
 
--- The check of a text: its polynomial times x^16, divided.
+-- The CRC of a text: the remainder of its polynomial times x^16.
 unfoldable pub check_of : List ℕ → ℕ
 check_of text = number (remainder (length (bits text)) (bits text ++ replicate 16 false))
 
--- a check as it goes on the line: the low byte, then the high byte
+-- a CRC as it is written to the line: the low byte, then the high byte
 abbrev pub check_pair : ℕ → List ℕ
 check_pair check = check % 256 ∷ check / 256 ∷ []

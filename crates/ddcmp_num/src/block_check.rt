@@ -5,7 +5,7 @@ ghost use Rattle.ddcmp_num.specs.Check.{check_of};
 use crate::check_tables::byte_check;
 use std::marker::Model;
 
-/// A CRC (block check) that is computed chunk by chunk. Contracts see it as its number.
+/// A CRC (block check) that is computed chunk by chunk. Contracts see it as a number.
 #[derive(Clone, Copy, Debug, PartialEq, Eq)]
 pub struct Check {
     register: u16,
@@ -20,14 +20,14 @@ impl Model for Check {
 }
 
 impl Check {
-    /// The check of no bytes.
+    /// Returns the CRC of no bytes.
     pub fn new() -> Self
         ensures { result ≡ check_of [] }
     {
         Check { register: 0 }
     }
 
-    /// Takes one more byte.
+    /// Adds one byte.
     pub fn push(&mut self, byte: u8)
         ensures { (text : List ℕ) → self.old ≡ check_of text
             → self.new ≡ check_of (text ++ byte ∷ []) }
@@ -36,7 +36,7 @@ impl Check {
         self.register = u16::from(high) ^ byte_check(0, low ^ byte);
     }
 
-    /// Takes all these bytes.
+    /// Adds bytes.
     pub fn push_all(&mut self, bytes: &[u8])
         ensures { (text : List ℕ) → self.old ≡ check_of text
             → self.new ≡ check_of (text ++ bytes.now) }
@@ -50,7 +50,7 @@ impl Check {
         *self = check;
     }
 
-    // The same of the few bytes after the sixteens.
+    // The same for the few bytes after the blocks of 16.
     #[inline(always)]
     fn push_rest(&mut self, bytes: &[u8])
         ensures { (text : List ℕ) → self.old ≡ check_of text
@@ -67,8 +67,8 @@ impl Check {
         *self = check;
     }
 
-    // Each byte goes by the table of as many zero bytes as bytes follow it here, so that no
-    // look-up waits for another. The two that wait for the register are added last.
+    // Each byte is looked up in the table for as many zero bytes as follow it here, so that no
+    // look-up waits for another. The two that depend on the register are added last.
     #[inline(always)]
     fn push_sixteen(&mut self, bytes: &[u8; 16])
         ensures { (text : List ℕ) → self.old ≡ check_of text
@@ -94,7 +94,7 @@ impl Check {
         self.register = at_hand ^ waiting;
     }
 
-    // The same of eight bytes.
+    // The same for eight bytes.
     #[inline(always)]
     fn push_eight(&mut self, bytes: &[u8; 8])
         ensures { (text : List ℕ) → self.old ≡ check_of text
@@ -112,7 +112,7 @@ impl Check {
         self.register = at_hand ^ waiting;
     }
 
-    /// The check of all bytes taken.
+    /// Returns the CRC of all bytes added.
     pub fn value(&self) -> u16
         ensures { result ≡ self.now }
     {

@@ -2,7 +2,7 @@
 ghost use Rattle.std.specs.Prelude.{◌≡◌, ◌<◌, ◌∷◌, replicate};
 ghost use Rattle.ddcmp_num.specs.Check.{check_of};
 
-/// The check of a byte and of `zeros` zero bytes after it.
+/// Returns the CRC of a byte and `zeros` zero bytes after it.
 #[inline(always)]
 pub(crate) fn byte_check(zeros: usize, byte: u8) -> u16
     requires { zeros < 16 }
@@ -11,7 +11,7 @@ pub(crate) fn byte_check(zeros: usize, byte: u8) -> u16
     BYTE_CHECKS[zeros][usize::from(byte)]
 }
 
-// Entry `b` of table `k` is the check of the byte `b` and of `k` zero bytes after it.
+// Entry `b` of table `k` is the CRC of the byte `b` and `k` zero bytes after it.
 #[rattlefmt::skip]
 static BYTE_CHECKS: [[u16; 256]; 16] = [
     [

@@ -15,12 +15,12 @@ use check_tables::byte_check;
 pub use limits::{MAX_COUNT, MAX_WINDOW};
 pub use seq::Seq;
 
-/// Returns the CRC (block check) of a text: CRC-16 of the polynomial x^16 + x^15 + x^2 + 1, begun
-/// at 0, low bit of each byte first, not inverted (DDCMP 4.1, block check).
+/// Returns the CRC (block check) of a text: CRC-16 of the polynomial x^16 + x^15 + x^2 + 1, with
+/// initial value 0, low bit of each byte first, not inverted (DDCMP 4.1, block check).
 pub fn check(text: &[u8]) -> u16
     ensures value { result ≡ check_of text.now }
 
-    // A text of the same length that differs in one byte has another check.
+    // A text of the same length that differs in one byte has another CRC.
     ensures one_byte { (front back : List ℕ) (old new : ℕ) → text.now ≡ front ++ old ∷ back
         → new < 256 → new ≢ old → result ≢ check_of (front ++ new ∷ back) }
 {
@@ -29,8 +29,8 @@ pub fn check(text: &[u8]) -> u16
     check.value()
 }
 
-/// Returns the CRC of six bytes, which are those of a header: each by a table of its own, so that
-/// no look-up waits for another.
+/// Returns the CRC of six bytes, those of a header: each by a table of its own, so that no look-up
+/// waits for another.
 #[inline(always)]
 pub fn check_six(bytes: &[u8; 6]) -> u16
     ensures { result ≡ check_of bytes.now }
@@ -44,7 +44,7 @@ pub fn check_six(bytes: &[u8; 6]) -> u16
         ^ byte_check(0, f)
 }
 
-/// A check as it goes on the line: the low byte, then the high byte.
+/// Returns a CRC as it is written to the line: the low byte, then the high byte.
 pub fn check_bytes(check: u16) -> [u8; 2]
     ensures { result ≡ check_pair check }
 {

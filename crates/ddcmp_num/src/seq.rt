@@ -21,8 +21,8 @@ impl Seq {
         to.0.wrapping_sub(from.0)
     }
 
-    /// Returns whether counting up from `low` meets `x` no later than `high`. All windows up to 255
-    /// are judged by this and never by the sign of a difference.
+    /// Returns whether counting up from `low` reaches `x` no later than `high`. All windows up to
+    /// 255 are compared in this way and never by the sign of a difference.
     pub fn within(low: Seq, x: Seq, high: Seq) -> bool
         ensures { IsTrue result ↔ Within low.0 x.0 high.0 }
     {

@@ -1,4 +1,4 @@
-//! Vectors from the published description of the check, and one call of each function.
+//! Vectors from the published description of the CRC, and one call of each function.
 use crate::{Check, Seq, check, check_bytes};
 
 #[test]

@@ -1,16 +1,16 @@
--- What a carrier was handed, and what it gave.
+-- What a carrier was passed, and what it returned.
 use Rattle.std.specs.Prelude.{◌≡◌, ℕ, Bool, true, List, [], ◌∷◌, Option}
 use Rattle.ddcmp_io.specs.Device.{Logs}
 use Rattle.ddcmp_pair.specs.declared.event.End.{End}
 
--- What was handed to a carrier at an end, and what it gave at the other.
+-- The bytes passed to a carrier at an end, and those that it returned at the other.
 pub record Carriage : Type 0 where
   pub from : End
   pub bytes : List ℕ
   pub came : List ℕ
 
--- One more carriage: a carrier that logs them logs it too, and one that is direct returned what it
--- was handed.
+-- One more carriage: a carrier that logs them logs it, too, and a direct one returned the bytes
+-- that it was passed.
 pub record HasCarried (is_direct : Bool) (old new : Option (List Carriage)) (c : Carriage)
     : Type 0 where
   pub told : Logs old new (c ∷ [])

@@ -1,4 +1,4 @@
--- The headline: in order, once, unchanged, or not at all.
+-- The main law: in order, once, unchanged, or not at all.
 use Rattle.std.specs.Prelude.{◌≡◌, ℕ, ◌≤◌, true, false, List, length, None}
 use Rattle.std.specs.List.{All}
 use Rattle.ddcmp_core.specs.Laws.{tells_restart}
@@ -11,8 +11,8 @@ use Rattle.ddcmp_pair.specs.Link.{IsReached, link_of}
 use Rattle.ddcmp_pair.specs.Prefix.{IsPrefixOf}
 use Rattle.ddcmp_pair.specs.Run.{EndState, PairState, handed_up, is_clean, new_pair, run}
 
--- The messages delivered at `to` are the first of those that `from` accepted, and no more of them
--- was reported acknowledged than was delivered.
+-- The messages delivered at `to` are a prefix of those that `from` accepted, and no more of them
+-- were reported acknowledged than were delivered.
 pub record Delivers (from to : EndState) : Type 0 where
   pub order : IsPrefixOf (handed_up to) from.given
   pub acknowledged : from.acknowledged ≤ length (handed_up to)
@@ -26,7 +26,7 @@ pub record DeliversBothWays (p : PairState) : Type 0 where
 pub record IsInOrder (p : PairState) : Type 0 where
   pub where_clean : p.honest ≡ true → is_clean p ≡ true → DeliversBothWays p
 
--- A pair that some list of events leads to, from two new stations of any sizes in range.
+-- A pair after some list of events, from two new stations of any sizes in range.
 pub record IsRun (p : PairState) : Type 0 where
   pub first : Config
   pub second : Config
@@ -35,8 +35,8 @@ pub record IsRun (p : PairState) : Type 0 where
   pub events : List Event
   pub leads : run events (new_pair first second) ≡ p
 
--- What one end accepted and the other delivered is a run of an abstract link, whose window is that
--- of the end that gave.
+-- The messages that one end accepted and the other delivered are a run of an abstract link, whose
+-- window is that of the sending end.
 pub record IsLink (from to : EndState) : Type 0 where
   pub sent : ℕ
   pub forward : List ℕ

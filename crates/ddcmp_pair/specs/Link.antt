@@ -1,11 +1,11 @@
--- One direction of a link: what is left of a line once its frames, timers and startup are put aside
--- and numbers have no bound. The messages given are numbered from 1; such a number is a position.
+-- One direction of a link, as an abstraction of a line without frames, timers and startup, and with
+-- unbounded numbers. The accepted messages are numbered from 1; such a number is a position.
 use Rattle.std.specs.Prelude.{◌≡◌, ℕ, ◌+◌, ◌-◌, max, Bool, ◌&&◌, if◌then◌else◌, nat_le, nat_lt}
 use Rattle.std.specs.Prelude.{◌==◌, List, [], ◌∷◌, ◌++◌, length, remove, slice_index_or}
 
--- The messages given at one end, how many of them were acknowledged to it, and the highest position
--- that it sent; the messages delivered at the other end; and what is in flight, in the order in
--- which it arrives: positions forward, and back the counts of messages delivered.
+-- The messages accepted at one end, how many of them were acknowledged to it, and the highest
+-- position that it sent; the messages delivered at the other end; and what is in flight, in the
+-- order in which it arrives: positions forward, and back the counts of messages delivered.
 pub record Link : Type 0 where
   pub given : List (List ℕ)
   pub acknowledged : ℕ
@@ -14,7 +14,7 @@ pub record Link : Type 0 where
   pub forward : List ℕ
   pub back : List ℕ
 
--- A link by its parts, in that order.
+-- A link from its parts, in that order.
 abbrev pub link_of : List (List ℕ) → ℕ → ℕ → List (List ℕ) → List ℕ → List ℕ → Link
 link_of given acknowledged sent handed_up forward back = record {
   given = given;
@@ -25,14 +25,14 @@ link_of given acknowledged sent handed_up forward back = record {
   back = back;
 }
 
--- nothing is given, sent or in flight
+-- nothing is accepted, sent or in flight
 abbrev pub new_link : Link
 new_link = link_of [] 0 0 [] [] []
 
--- What happens on a link, in any order: a message is given; a position is sent; the count of
--- messages delivered is sent back; the position or the count at some place in flight, counted from
--- 0, is lost; the first position or the first count arrives. A message that finds no room, or comes
--- before its end runs, is a loss too.
+-- What happens on a link, in any order: a message is accepted; a position is sent; the count of
+-- messages delivered is sent back; the position or the count at some index in flight, counted from
+-- 0, is lost; the first position or the first count arrives. A message without room, or one that
+-- arrives before its end runs, counts as lost.
 pub data Move : Type 0 where
   Give : List ℕ → Move
   Send : ℕ → Move
@@ -42,22 +42,22 @@ pub data Move : Type 0 where
   ForwardComes : Move
   BackComes : Move
 
--- Position k may be sent, and retransmitted, if it isn't acknowledged, leaves no gap after the
--- highest one sent, its message was given, and the window allows it.
+-- Position k may be sent, or retransmitted, if it isn't acknowledged, leaves no gap after the
+-- highest one sent, its message was accepted, and the window allows it.
 abbrev pub may_send_position : ℕ → ℕ → Link → Bool
 may_send_position window k l =
     nat_lt l.acknowledged k && (nat_le k (l.sent + 1)
     && (nat_le k (length l.given) && nat_le k (l.acknowledged + window)))
 
--- it is last in flight
+-- the position becomes the last in flight
 abbrev pub after_send_position : ℕ → Link → Link
 after_send_position k l = record l { sent = max l.sent k; forward = l.forward ++ k ∷ [] }
 
--- message k of those given; a position that was sent has one
+-- message k of those accepted; there is one for every position that was sent
 abbrev pub message_at : ℕ → List (List ℕ) → List ℕ
 message_at k given = slice_index_or given (k - 1) []
 
--- A position that arrives delivers its message if it is the next one, and else does nothing.
+-- A position that arrives delivers its message if it is the next one; otherwise it does nothing.
 abbrev pub handed_up_by : ℕ → Link → List (List ℕ)
 handed_up_by k l =
     if k == length l.handed_up + 1 then l.handed_up ++ message_at k l.given ∷ []
@@ -67,12 +67,12 @@ abbrev pub after_forward_comes : List ℕ → Link → Link
 after_forward_comes [] l = l
 after_forward_comes (k ∷ later) l = record l { handed_up = handed_up_by k l; forward = later }
 
--- A count that arrives acknowledges as many messages, if fewer are acknowledged.
+-- A count that arrives acknowledges that many messages, if fewer are acknowledged yet.
 abbrev pub after_back_comes : List ℕ → Link → Link
 after_back_comes [] l = l
 after_back_comes (q ∷ later) l = record l { acknowledged = max l.acknowledged q; back = later }
 
--- A link after a move. A position that may not be sent is skipped.
+-- A link after a move. A position that may not be sent is ignored.
 abbrev pub after_move : ℕ → Move → Link → Link
 after_move window (Give message) l = record l { given = l.given ++ message ∷ [] }
 after_move window (Send k) l =
@@ -88,7 +88,7 @@ unfoldable pub after_moves : ℕ → List Move → Link → Link
 after_moves window [] l = l
 after_moves window (m ∷ later) l = after_moves window later (after_move window m l)
 
--- a link to which some run leads from the beginning
+-- a link that some moves lead to from a new one
 pub record IsReached (window : ℕ) (l : Link) : Type 0 where
   pub moves : List Move
   pub leads : after_moves window moves new_link ≡ l

@@ -1,4 +1,4 @@
--- Where the frames that arrived stand among those that were sent.
+-- The place of the frames that arrived among those that were sent.
 use Rattle.std.specs.Prelude.{◌≡◌, ℕ, ◌+◌, ◌⊎◌, Bool, true, false, ◌&&◌, ◌==◌, List, [], ◌∷◌, drop}
 use Rattle.std.specs.Prelude.{if◌then◌else◌, Option, Some, None, option_map, option_and_then}
 use Rattle.ddcmp_frame.specs.Fields.{ShortFields, CountedFields}
@@ -9,11 +9,11 @@ use Rattle.ddcmp_frame.specs.declared.header.Flags.{Flags}
 use Rattle.ddcmp_frame.specs.declared.header.Header.{Header}
 use Rattle.ddcmp_frame.specs.declared.header.Header.TheVariants as header
 
--- a frame whole: its header and its data
+-- a whole frame: its header and its data
 abbrev pub WholeFrame : Type 0
 WholeFrame = Header × List ℕ
 
--- ---- frames are the same if all fields and the data are
+-- ---- frames are equal if all fields and the data are
 
 abbrev pub same_flag : Bool → Bool → Bool
 same_flag true flag = flag
@@ -49,28 +49,28 @@ same_frame f g = same_header f.0 g.0 && same_bytes f.1 g.1
 
 -- ---- the place
 
--- the first index at which a frame stands
+-- the first index of a frame
 unfoldable pub first_index : WholeFrame → List WholeFrame → Option ℕ
 first_index f [] = None
 first_index f (g ∷ rest) =
     if same_frame f g then Some 0 else option_map (λ i. i + 1) (first_index f rest)
 
--- one past the first index, from a place on, at which a frame was sent
+-- one past the first index of a frame among those sent, from a place on
 abbrev pub place_after : WholeFrame → List WholeFrame → ℕ → Option ℕ
 place_after f sent place = option_map (λ i. place + i + 1) (first_index f (drop place sent))
 
--- the same of frames that arrived one after another; none, if one of them isn't there
+-- the same for frames that arrived one after another; none, if one of them wasn't sent there
 unfoldable pub place_from : Option ℕ → List WholeFrame → List WholeFrame → Option ℕ
 place_from place [] sent = place
 place_from place (f ∷ rest) sent =
     place_from (option_and_then (place_after f sent) place) rest sent
 
--- The place of the frames that arrived among those that were sent: each is looked for after the
--- one before it. There is one if the first are a subsequence of the others.
+-- The place of the frames that arrived among those that were sent: each is searched after the one
+-- before it. There is a place if the former are a subsequence of the latter.
 abbrev pub place_of : List WholeFrame → List WholeFrame → Option ℕ
 place_of arrived sent = place_from (Some 0) arrived sent
 
--- the place after what a byte gave
+-- the place after the item that a byte completed
 abbrev pub place_next : Option Item → List ℕ → List WholeFrame → Option ℕ → Option ℕ
 place_next None lent sent place = place
 place_next (Some (item.Good o h)) lent sent place =
@@ -80,7 +80,7 @@ place_next (Some (item.DataCheck o h)) lent sent place = place
 place_next (Some (item.TooLong o h)) lent sent place = place
 place_next (Some (item.Format o f)) lent sent place = place
 
--- frames stand among others in their order, not necessarily side by side
+-- the frames are among the others in their order, not necessarily adjacent
 abbrev pub IsSubsequence : List WholeFrame → List WholeFrame → Type 0
 IsSubsequence [] sent = Unit {0}
 IsSubsequence (f ∷ fs) [] = ⊥

@@ -1,6 +1,6 @@
--- One list begins another.
+-- Prefixes of lists.
 use Rattle.std.specs.Prelude.{◌≡◌, ℕ, List, ◌++◌}
 
--- these messages and some rest are the whole list
+-- these messages are a prefix of the list
 abbrev pub IsPrefixOf : List (List ℕ) → List (List ℕ) → Type 0
 IsPrefixOf front whole = (rest : List (List ℕ)) × (front ++ rest ≡ whole)

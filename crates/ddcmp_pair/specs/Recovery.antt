@@ -49,16 +49,16 @@ recovering p = in_turn (settling p) (rounding (settled p)) (rounding (rounded (s
 abbrev pub recovered : PairState → PairState
 recovered p = rounded (rounded (settled p))
 
--- ---- from where, and to what
+-- ---- the state before and after
 
--- this end has begun, and no frame is unfinished here
+-- this end isn't halted, and no frame is unfinished here
 abbrev pub is_ready_here : EndState → Bool
 is_ready_here x =
     not (is_halted x.core.station.state)
     && (open_at_end x.core.limits.longest x.arrived == 0)
 
--- A pair that an honest and clean run led to is ready if both ends are, and take messages of
--- the same lengths.
+-- A pair after an honest and clean run is ready if both ends are, and accept messages of the same
+-- lengths.
 abbrev pub is_ready : PairState → Bool
 is_ready p =
     (p.honest && is_clean p)
@@ -71,12 +71,12 @@ pub record IsDelivered (from to : EndState) : Type 0 where
   pub handed_up : from.given ≡ handed_up to
   pub acknowledged : from.acknowledged ≡ length from.given
 
--- nothing is left to be done
+-- nothing is left to do
 pub record IsDone (p : PairState) : Type 0 where
   pub from_a : IsDelivered p.a p.b
   pub from_b : IsDelivered p.b p.a
 
--- the same, as results
+-- the same, as a Bool
 abbrev pub is_delivered : EndState → EndState → Bool
 is_delivered from to =
     is_running from.core.station.state
@@ -91,8 +91,7 @@ abbrev pub larger_window : PairState → ℕ
 larger_window p = max p.a.core.limits.window p.b.core.limits.window
 
 -- A recovery repairs a pair: it is quiet, each of its settles counts at most 16 * (w + 4) exchanges
--- and no more than 12 * w + 12, w being the larger window, and after it nothing is left to be
--- done.
+-- and no more than 12 * w + 12, w being the larger window, and after it nothing is left to do.
 pub record IsRepaired (p : PairState) : Type 0 where
   pub quiet : (recovering p).quiet ≡ true
   pub within : All (λ n. n ≤ most_exchanges p) (recovering p).exchanges

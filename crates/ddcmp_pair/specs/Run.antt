@@ -1,5 +1,5 @@
--- Two ends on a line: what each event does, its reply, and what has been done since the line
--- was cleared.
+-- Two ends on a line: what each event does, its reply, and the histories of both ends since the
+-- line was cleared.
 use Rattle.std.specs.Prelude.{ℕ, ◌+◌, Bool, true, false, ◌&&◌, if◌then◌else◌, nat_le, nat_lt, ◌==◌}
 use Rattle.std.specs.Prelude.{List, [], ◌∷◌, ◌++◌, length, sum_by, Option, Some, None, is_some}
 use Rattle.std.specs.Prelude.{option_map, option_to_list, Result, Ok, Err}
@@ -33,8 +33,8 @@ use Rattle.ddcmp_pair.specs.Place.{WholeFrame, place_of}
 
 -- One end: its station and the SYN fill before each of its frames; and since the line was cleared
 -- the messages that it accepted, those that its user took, the frames that it sent, the bytes that
--- arrived, how many messages it reported acknowledged, and how often it began: started, or
--- restarted by its peer, counted up to the largest number that a counter holds.
+-- arrived, how many messages it reported acknowledged, and how often it was started, or restarted
+-- with its peer, up to the largest value of a counter.
 pub record EndState : Type 0 where
   pub core : CoreView
   pub syn : ℕ
@@ -45,7 +45,7 @@ pub record EndState : Type 0 where
   pub acknowledged : ℕ
   pub starts : ℕ
 
--- Both ends, and whether each arrival was honest when it came.
+-- Both ends, and whether each arrival was honest when it happened.
 pub record PairState : Type 0 where
   pub a : EndState
   pub b : EndState
@@ -73,7 +73,7 @@ restarts_in notices = sum_by restarts_by notices
 
 -- ---- what an event does to the end where it happens
 
--- the frame that this end sends next, as it is seen whole
+-- a frame with its header and its data
 abbrev pub whole_frame : Frame → WholeFrame
 whole_frame f = (header_of f, message_of f)
 
@@ -139,7 +139,7 @@ after_event_here (event.Expire e) x = after_expire_here x
 after_event_here (event.Take e) x = after_take_here x
 after_event_here event.Clear x = x
 
--- An arrival is honest if all good frames that arrived at this end by then stand, in their
+-- An arrival is honest if all good frames that have arrived at this end by then are, in their
 -- order, among those that the other end had sent.
 abbrev pub is_honest_here : Event → EndState → List WholeFrame → Bool
 is_honest_here (event.Arrive e bytes) x sent =
@@ -181,7 +181,7 @@ reply_here event.Clear x = reply.Nothing
 
 -- ---- the line is cleared
 
--- Why it isn't: an end isn't halted, or an inbox isn't empty.
+-- Why the line isn't cleared: an end isn't halted, or an inbox isn't empty.
 abbrev pub clear_refusal : PairState → Option StartRefusal
 clear_refusal p =
     if is_halted p.a.core.station.state && is_halted p.b.core.station.state
@@ -189,7 +189,7 @@ clear_refusal p =
     else Some Untaken)
     else Some NotHalted
 
--- all histories begin again; the numbers of a halted end stay
+-- all histories restart empty; the numbers of a halted end stay
 abbrev pub cleared : EndState → EndState
 cleared x = record {
   core = x.core;
@@ -245,7 +245,7 @@ reply_at (Some A) e p = reply_here e p.a
 reply_at (Some B) e p = reply_here e p.b
 reply_at None e p = reply_to_clear (clear_refusal p)
 
--- what is answered to an event
+-- the reply to an event
 unfoldable pub reply_to : Event → PairState → Reply
 reply_to e p = reply_at (end_of e) e p
 
@@ -271,11 +271,12 @@ new_end config = record {
 abbrev pub new_pair : Config → Config → PairState
 new_pair first second = record { a = new_end first; b = new_end second; honest = true }
 
--- A run is clean if, since the line was cleared, neither end began twice.
+-- A run is clean if, since the line was cleared, neither end started twice; a restart counts as a
+-- start.
 abbrev pub is_clean : PairState → Bool
 is_clean p = nat_le p.a.starts 1 && nat_le p.b.starts 1
 
--- ---- which events allocate: those that record or answer something of their own
+-- ---- which events allocate: those that record or return something
 
 abbrev pub asks_here : Event → EndState → Bool
 asks_here (event.Send e message) x = may_send x.core.limits x.core.station message

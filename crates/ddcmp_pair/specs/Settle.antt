@@ -16,7 +16,7 @@ other B = A
 abbrev pub writes : End → PairState → Bool
 writes e p = is_some (line_bytes (at e p))
 
--- all received messages of an end is taken
+-- all received messages of an end are taken
 abbrev pub mail_events : End → PairState → List Event
 mail_events e p = replicate (length (at e p).core.station.inbox) (event.Take e)
 
@@ -36,12 +36,12 @@ crossing from p = crossing_of from (line_bytes (at from p)) p
 abbrev pub exchange : PairState → List Event
 exchange p = crossing A p ++ crossing B (run (crossing A p) p)
 
--- one of both sends a frame in an exchange
+-- at least one end sends a frame in an exchange
 abbrev pub either_writes : PairState → Bool
 either_writes p = writes A p || writes B (run (crossing A p) p)
 
 -- The events of a settle, how many exchanges are counted, and whether the line is quiet: an
--- exchange in which neither end wrote isn't counted and ends the settle.
+-- exchange in which neither end sends a frame isn't counted and ends the settle.
 pub record Settling : Type 0 where
   pub events : List Event
   pub exchanges : ℕ

@@ -1,4 +1,4 @@
--- The steps of a run: its events, each with what is replied to it.
+-- The steps of a run: its events, each with its reply.
 use Rattle.std.specs.Prelude.{List, [], ◌∷◌, Option}
 use Rattle.ddcmp_io.specs.Device.{Logs}
 use Rattle.ddcmp_pair.specs.declared.event.Event.{Event}

@@ -1,9 +1,9 @@
-//! Lists that events and replies own.
+//! The lists that events and replies own.
 use ddcmp_core::Notice;
 use std::marker::Model;
 use std::ops::Deref;
 
-/// Bytes of a message or of a line. They are made of a `Vec` and return it as it is.
+/// Bytes of a message or of a line, made from a `Vec` that they return unchanged.
 #[derive(Drop)]
 pub struct Bytes {
     bytes: Vec<u8>,
@@ -20,21 +20,21 @@ impl Model for Bytes {
 impl Bytes {
     ghost use Rattle.std.specs.Prelude.{◌≡◌};
 
-    /// These bytes.
+    /// Makes them from a `Vec`.
     pub fn new(bytes: Vec<u8>) -> Self
         ensures { result ≡ bytes.items }
     {
         Bytes { bytes }
     }
 
-    /// All of them, to be read.
+    /// Returns all of them.
     pub fn as_slice(&self) -> &[u8]
         ensures { result.now ≡ self.now }
     {
         &self.bytes
     }
 
-    /// The `Vec` that they were made of.
+    /// Returns the `Vec` from which they were made.
     pub fn into_vec(self) -> Vec<u8>
         ensures { result.items ≡ self }
     {
@@ -61,14 +61,14 @@ impl Model for Notices {
 impl Notices {
     ghost use Rattle.std.specs.Prelude.{◌≡◌};
 
-    /// These notices.
+    /// Makes them from a `Vec`.
     pub fn new(notices: Vec<Notice>) -> Self
         ensures { result ≡ notices.items }
     {
         Notices { notices }
     }
 
-    /// All of them, to be read.
+    /// Returns all of them.
     pub fn as_slice(&self) -> &[Notice]
         ensures { result.now ≡ self.now }
     {

@@ -1,11 +1,11 @@
-//! What carries the bytes of frames from one end to the other.
+//! A carrier of the bytes of frames from one end to the other.
 ghost use Rattle.std.specs.Prelude.{◌≡◌, [], length, take, true, false, None, is_err, IfOk, IsOk};
 ghost use Rattle.std.specs.Prelude.{IsTrue, OnErr, Bool, List, Option};
 
 use crate::event::End;
 use ddcmp_io::LineFault;
 
-/// What carries bytes from one end of a line to the other.
+/// A carrier of bytes from one end of a line to the other.
 pub trait Carrier {
     ghost use Rattle.std.specs.Prelude.{◌≤◌};
     ghost use Rattle.ddcmp_io.specs.Device.{Logs};
@@ -14,7 +14,7 @@ pub trait Carrier {
     // What was passed to it and what it returned, carry by carry, if this is known.
     ghost told: { Self → Option (List Carriage) } = { λ _. None };
 
-    // Whether it returns what goes in.
+    // Whether it returns the bytes that it is passed.
     ghost direct: { Self → Bool } = { λ _. false };
 
     // Whether no carry fails.
@@ -23,7 +23,8 @@ pub trait Carrier {
     // Whether a carry has failed.
     ghost broken: { Self → Bool };
 
-    /// Carries bytes away from an end; returns how many came out, at the front of `out`.
+    /// Carries bytes away from an end, and returns how many arrive at the other, at the front of
+    /// `out`.
     fn carry(&mut self, from: End, bytes: &[u8], out: &mut [u8]) -> Result<usize, LineFault>
         requires whole { broken self.old ≡ false }
         requires room { length out.old ≡ length bytes.now }
@@ -39,7 +40,7 @@ pub trait Carrier {
     fn failed(&self) -> bool
         ensures { result ≡ broken self.now };
 
-    /// Returns whether no carry fails, so that nothing need be written before one.
+    /// Returns whether no carry fails, so that nothing needs to be written before one.
     fn is_sure(&self) -> bool
         ensures { IsTrue result → sure self.now ≡ true }
     {
@@ -47,7 +48,7 @@ pub trait Carrier {
     }
 }
 
-/// Returns what went in.
+/// A carrier that returns the bytes that it is passed.
 #[derive(Clone, Copy, Drop)]
 pub struct Direct;
 

@@ -1,11 +1,11 @@
-//! Both ends of a line, step by step. Here each call equals the definition of a run; what holds
-//! over all honest and clean runs is the matter of `Pair`.
+//! Both ends of a line, step by step. Here each call equals the definition of a run; `Pair` adds
+//! what holds for all honest and clean runs.
 use crate::side::Side;
 use crate::{End, Event, Reply};
 use ddcmp_proto::{Memory, StartRefusal, State};
 use std::marker::Model;
 
-/// Both ends.
+/// Both ends of a line.
 pub(crate) struct Ends {
     pub(crate) a: Side,
     pub(crate) b: Side,
@@ -101,7 +101,7 @@ impl Ends {
         None
     }
 
-    /// One of both.
+    /// Returns one of both ends.
     pub(crate) fn side(&self, end: End) -> &Side
         ensures { result.now.state ≡ at end self.now }
     {
@@ -118,7 +118,7 @@ impl Ends {
         self.a.is_placed() && self.b.is_placed()
     }
 
-    /// Returns whether neither end began twice.
+    /// Returns whether neither end started twice.
     pub(crate) fn clean(&self) -> bool
         ensures { result ≡ is_clean self.now }
     {

@@ -1,4 +1,4 @@
-//! What happens on a line, and the replies.
+//! The events on a line, and the replies.
 ghost use Rattle.std.specs.Prelude.{◌≡◌};
 
 use crate::bytes::{Bytes, Notices};
@@ -25,7 +25,7 @@ impl End {
     }
 }
 
-/// What happens to a pair.
+/// An event of a pair.
 #[derive(Drop)]
 pub enum Event {
     /// The end asks its peer to start.
@@ -41,7 +41,7 @@ pub enum Event {
     Expire(End),
     /// The end's user takes a message.
     Take(End),
-    /// The line is emptied, and new histories begin.
+    /// The line is emptied, and the histories restart empty.
     Clear,
 }
 
@@ -65,7 +65,7 @@ impl Event {
 /// The reply to an event.
 #[derive(Drop)]
 pub enum Reply {
-    /// Start: how many messages that waited to be sent were dropped.
+    /// Start: how many queued messages were dropped.
     Started(u8),
     StartRefused(StartRefusal),
     Halted,

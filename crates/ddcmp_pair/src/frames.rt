@@ -1,4 +1,4 @@
-//! Frames that are kept: their headers, and their data one after another.
+//! Frames that are stored: their headers, and their data one after another.
 ghost use Rattle.std.specs.Prelude.{◌≡◌, ◌↔◌, ◌<◌, ◌≤◌, ◌++◌, ◌∷◌, [], IsOk, IsTrue, get_or};
 ghost use Rattle.std.specs.Prelude.{length};
 ghost use Rattle.ddcmp_pair.specs.Place.{WholeFrame};
@@ -31,7 +31,7 @@ impl Model for Frames {
 }
 
 impl Frames {
-    /// No frames.
+    /// Makes an empty list.
     pub(crate) fn new(alloc: Global) -> Frames
         ensures { result.all ≡ [] }
     {
@@ -41,7 +41,7 @@ impl Frames {
         }
     }
 
-    /// Forgets all.
+    /// Drops all frames.
     pub(crate) fn clear(&mut self)
         ensures { self.new.all ≡ [] }
     {
@@ -49,14 +49,14 @@ impl Frames {
         self.data.clear();
     }
 
-    /// Returns how many they are.
+    /// Returns how many frames there are.
     pub(crate) fn len(&self) -> usize
         ensures { result ≡ length self.now.all }
     {
         self.headers.len()
     }
 
-    /// Returns whether frame `i`, counted from 0, is this one.
+    /// Returns whether frame `i`, counted from 0, equals this one.
     pub(crate) fn is_at(&self, i: usize, header: &Header, data: &[u8]) -> bool
         requires { i < length self.now.all }
         ensures { (d : WholeFrame)
@@ -76,7 +76,7 @@ impl Frames {
         self.data.reserve(length)
     }
 
-    /// Keeps one more frame, for which there is room.
+    /// Appends a frame for which there is room.
     pub(crate) fn push_reserved(&mut self, header: Header, data: &[u8])
         requires bytes { length «data».now ≤ self.old.spare_bytes }
         requires one { 0 < self.old.spare }
@@ -87,7 +87,7 @@ impl Frames {
     }
 }
 
-/// Returns whether a frame that was sent is this one.
+/// Returns whether a frame that was sent equals this one.
 fn is_same(sent: &Header, sent_data: &[u8], header: &Header, data: &[u8]) -> bool
     ensures { IsTrue result ↔ ((header.now ≡ sent.now) × («data».now ≡ sent_data.now)) }
 {

@@ -1,4 +1,4 @@
-//! Laws of a line: functions that do nothing, whose contracts are the laws.
+//! Laws of a line: functions without an effect, whose contracts are the laws.
 ghost use Rattle.std.specs.Prelude.{◌≡◌, ◌↔◌, ℕ, ◌+◌, ◌-◌, ◌%◌, ◌≤◌, List, [], ◌∷◌, ◌++◌, length};
 ghost use Rattle.std.specs.Prelude.{true, IsTrue, Some, None, is_some, option_and_then};
 ghost use Rattle.ddcmp_core.specs.Sequence.{distance, Within};
@@ -17,12 +17,12 @@ ghost use Rattle.ddcmp_pair.specs.Recovery.{is_ready, recovering, recovered, IsR
 ghost use Rattle.ddcmp_pair.specs.Prefix.{IsPrefixOf};
 ghost use Rattle.ddcmp_pair.specs.Link.{Link, IsReached};
 
-/// The headline. For two new stations of any sizes in range, whether they restart or not, after
+/// The main law. For two new stations of any sizes in range, whether they restart or not, after
 /// every list of events that is honest and clean: the messages delivered at each end are a prefix
-/// of those that the other accepted, each once and unchanged; and no more was reported acknowledged
-/// than was delivered. What was accepted at one end and delivered at the other is a run of a link
-/// without bounds. And if a clean pair comes to an arrival that is honest, no end reports that its
-/// peer restarted.
+/// of those that the other accepted, each once and unchanged; and no more were reported
+/// acknowledged than were delivered. The messages accepted at one end and delivered at the other
+/// are a run of a link with unbounded numbers. And if an arrival at a clean pair is honest, no end
+/// reports that its peer restarted.
 pub fn in_order()
     ensures order { (first second : ConfigValue) (events : List EventValue)
         → first_refusal first ≡ None → first_refusal second ≡ None
@@ -41,8 +41,8 @@ pub fn in_order()
 {}
 
 /// Recovery. For two new stations of any sizes in range, after every list of events: if the pair is
-/// ready, a recovery repairs it. The two stations are sound, as every station is that received any
-/// bytes. And a recovery is the run of its events.
+/// ready, a recovery repairs it. The two stations are sound, as is every station, whatever bytes it
+/// received. And a recovery is the run of its events.
 pub fn recovery()
     ensures repaired { (first second : ConfigValue) (events : List EventValue) (p : PairState)
         → first_refusal first ≡ None → first_refusal second ≡ None
@@ -52,13 +52,12 @@ pub fn recovery()
     ensures events { (p : PairState) → run (recovering p).events p ≡ recovered p }
 {}
 
-/// The test of two frames passes exactly if header and data are equal.
+/// The test of two frames returns true exactly if header and data are equal.
 pub fn frames_are_compared_whole()
     ensures { (f g : WholeFrame) → IsTrue (same_frame f g) ↔ ((f.0 ≡ g.0) × (f.1 ≡ g.1)) }
 {}
 
-/// A place that there is stays when more is sent, and goes on from one frame that arrived to the
-/// next.
+/// A place doesn't change when more is sent, and advances from one frame that arrived to the next.
 pub fn place_goes_on()
     ensures sent { (arrived sent more_sent : List WholeFrame) (n : ℕ)
         → place_of arrived sent ≡ Some n → place_of arrived (sent ++ more_sent) ≡ Some n }
@@ -73,8 +72,8 @@ pub fn place_is_of_a_subsequence()
         ↔ IsSubsequence arrived sent }
 {}
 
-/// A list of events is as good as its parts, one after another, and no event changes the limits of
-/// an end.
+/// A list of events does the same as its parts, one after another, and no event changes the limits
+/// of an end.
 pub fn runs()
     ensures parts { (first second : List EventValue) (p : PairState)
         → run (first ++ second) p ≡ run second (run first p) }
@@ -83,8 +82,8 @@ pub fn runs()
 {}
 
 /// In every run of one direction of a link, whatever is lost and whatever the window, the messages
-/// delivered are a prefix of those accepted, and no more is acknowledged than was delivered. What
-/// was delivered was sent, what was sent was accepted, and at most a window of it isn't
+/// delivered are a prefix of those accepted, and no more are acknowledged than were delivered.
+/// Those delivered were sent, those sent were accepted, and at most a window of them isn't
 /// acknowledged.
 pub fn in_order_on_a_link()
     ensures order { (window : ℕ) (l : Link) → IsReached window l
@@ -96,11 +95,11 @@ pub fn in_order_on_a_link()
         → l.sent ≤ l.acknowledged + window }
 {}
 
-/// With a window of at most 255, numbers modulo 256 say what numbers without bound would. The
-/// position that arrives first differs from the next one by at most the window, so it is the next
-/// one exactly if its number is the next number. (With a window of 256 the first message,
-/// retransmitted, would be taken for message 257.) The count that comes back first lies, by its
-/// number too, between what is acknowledged and what was sent, and says how many messages it newly
+/// With a window of at most 255, numbers modulo 256 are as good as unbounded numbers. The position
+/// that arrives first differs from the next one by at most the window, so it is the next one
+/// exactly if its number is the next number. (With a window of 256 the first message,
+/// retransmitted, would be taken for message 257.) The count that arrives first lies, by its number
+/// too, between what is acknowledged and what was sent, and determines how many messages it newly
 /// acknowledges.
 pub fn numbers_determine_positions()
     ensures near { (window k : ℕ) (later : List ℕ) (l : Link) → IsReached window l

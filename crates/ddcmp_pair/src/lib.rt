@@ -1,6 +1,6 @@
-//! Two stations on a line: what happens to them, event by event, and what is promised of that for
-//! every run; the carriers that bring the bytes of frames from one end to the other; and two ends
-//! between which events happen.
+//! Two stations on a line: their events, and what is promised for every run of these; the carriers
+//! that bring the bytes of frames from one end to the other; and two ends between which events
+//! happen.
 #![tactic(auto)]
 
 mod bytes;

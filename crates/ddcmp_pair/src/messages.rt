@@ -1,11 +1,11 @@
-//! Messages that are kept, one after another in one piece of memory.
+//! Messages that are stored one after another in one allocation.
 ghost use Rattle.std.specs.Prelude.{◌≡◌, ◌+◌, ◌<◌, ◌≤◌, ◌^◌, ◌++◌, ◌∷◌, [], IsOk, get_or, length};
 ghost use Rattle.std.specs.Prelude.{slice_index_or, vec_capacity, vec_len};
 
 use std::alloc::{AllocError, Global};
 use std::marker::Model;
 
-/// Messages in their order. A message costs its bytes and where it ends, and no allocation of its
+/// Messages in their order. A message costs its bytes and its end offset, and no allocation of its
 /// own.
 #[derive(Drop)]
 pub(crate) struct Messages {
@@ -29,7 +29,7 @@ impl Model for Messages {
 }
 
 impl Messages {
-    /// No messages.
+    /// Makes an empty list.
     pub(crate) fn new(alloc: Global) -> Messages
         ensures { result.all ≡ [] }
     {
@@ -39,7 +39,7 @@ impl Messages {
         }
     }
 
-    /// Forgets all.
+    /// Drops all messages.
     pub(crate) fn clear(&mut self)
         ensures { self.new.all ≡ [] }
     {
@@ -47,7 +47,7 @@ impl Messages {
         self.ends.clear();
     }
 
-    /// Returns how many they are.
+    /// Returns how many messages there are.
     pub(crate) fn len(&self) -> usize
         ensures count { result ≡ length self.now.all }
         ensures few { result < 2 ^ 63 }
@@ -55,7 +55,7 @@ impl Messages {
         self.ends.len()
     }
 
-    /// Message `i`, counted from 0.
+    /// Returns message `i`, counted from 0.
     pub(crate) fn at(&self, i: usize) -> &[u8]
         requires { i < length self.now.all }
         ensures { result.now ≡ slice_index_or self.now.all i [] }
@@ -74,7 +74,7 @@ impl Messages {
         self.ends.reserve(1)
     }
 
-    /// Keeps one more message, for which there is room.
+    /// Appends a message for which there is room.
     pub(crate) fn push_reserved(&mut self, message: &[u8])
         requires bytes { length message.now ≤ self.old.spare_bytes }
         requires one { 0 < self.old.spare }
@@ -86,7 +86,7 @@ impl Messages {
     }
 }
 
-/// Returns where message `i` begins: where the one before it ends.
+/// Returns the start of message `i`, which is the end of the one before it.
 fn begin_of(ends: &[usize], i: usize) -> usize
     requires { i < length ends.now }
     ensures { result ≡ get_or (0 ∷ ends.now) i 0 }

@@ -7,16 +7,16 @@ use ddcmp_proto::{Config, ConfigRefusal, Memory, Station};
 use std::alloc::Global;
 use std::marker::Model;
 
-/// Why no pair is made.
+/// The reason why no pair was made.
 #[derive(Clone, Copy, Debug, PartialEq, Eq)]
 pub enum PairRefusal {
-    /// Why the station at A isn't made.
+    /// The refusal of the station at A.
     First(ConfigRefusal),
-    /// Why the station at B isn't made.
+    /// The refusal of the station at B.
     Second(ConfigRefusal),
 }
 
-/// Two stations, and what was done at each end since the line was cleared.
+/// Two stations, and the history of each end since the line was cleared.
 pub struct Pair {
     ends: Ends,
 }
@@ -36,7 +36,7 @@ impl Model for Pair {
 
     ghost view = { λ p. p.ends };
 
-    // All that holds of honest and clean runs follows from this alone.
+    // Everything that holds for honest and clean runs follows from this alone.
     ghost invariant = { λ p. IsRun p.ends };
 }
 
@@ -52,11 +52,12 @@ impl Pair {
     ghost use Rattle.ddcmp_pair.specs.InOrder.{IsRun, IsInOrder, NoRestart};
     ghost use Rattle.ddcmp_pair.specs.Steps.{Reports};
 
-    /// Two stations begun over an empty line.
+    /// Makes two stations on an empty line.
     pub fn new(alloc: Global, first: Config, second: Config) -> Result<Pair, PairRefusal>
         ensures made { IfOk result (λ pair. pair ≡ new_pair first second) }
 
-        // The first size that is out of range is refused; if none is, only an allocation failure.
+        // If a size is out of range, the first such is the refusal; otherwise it can only be an
+        // allocation failure.
         ensures first { (refusal : ConfigRefusal) → first_refusal first ≡ Some refusal → result
             ≡ Err (PairRefusal.First refusal) }
         ensures second { (refusal : ConfigRefusal) → first_refusal first ≡ None
@@ -84,11 +85,11 @@ impl Pair {
     pub fn step(&mut self, event: Event) -> Result<Reply, Memory>
         ensures state { IsOk result → self.new ≡ after_event event self.old }
         ensures reply { IfOk result (λ reply. reply ≡ reply_to event self.old) }
-        // An allocation failure leaves all as it was, and no event fails so that doesn't allocate.
+        // An allocation failure changes nothing, and happens only for an event that allocates.
         ensures memory { OnErr result (self.new ≡ self.old) }
         ensures asks { asks_memory event self.old ≡ false → IsOk result }
-        // Messages are delivered in order, once, unchanged, or not at all; and to no end that was
-        // clean before an honest arrival does it report that its peer restarted.
+        // Messages are delivered in order, once, unchanged, or not at all; and an end that was
+        // clean before an honest arrival doesn't report that its peer restarted.
         ensures order { IsInOrder self.new }
         ensures no_restart { is_clean self.old ≡ true → self.new.honest ≡ true
             → IfOk result NoRestart }
@@ -109,7 +110,7 @@ impl Pair {
             → IfOk result NoRestart }
         ensures limits { (end : EndValue) → (at end self.new).core.limits
             ≡ (at end self.old).core.limits }
-        // An event that was done is reported, and no other.
+        // Exactly the event that was done is reported.
         ensures seen { IsOk result
             → Reports (W.seen watch.old) (W.seen watch.new) (event ∷ []) self.old }
         ensures unseen { OnErr result (watch.new ≡ watch.old) }
@@ -119,11 +120,11 @@ impl Pair {
         Ok(reply)
     }
 
-    /// The same of an event that is kept.
+    /// The same for an event that is kept.
     pub(crate) fn apply(&mut self, event: &Event) -> Result<Reply, Memory>
         ensures state { IsOk result → self.new ≡ after_event event.now self.old }
         ensures reply { IfOk result (λ reply. reply ≡ reply_to event.now self.old) }
-        // An allocation failure leaves all as it was, and no event fails so that doesn't allocate.
+        // An allocation failure changes nothing, and happens only for an event that allocates.
         ensures memory { OnErr result (self.new ≡ self.old) }
         ensures asks { asks_memory event.now self.old ≡ false → IsOk result }
         ensures order { IsInOrder self.new }
@@ -135,7 +136,7 @@ impl Pair {
         self.ends.apply(event)
     }
 
-    /// A pair comes from two new stations by a list of events, so that its messages are in order.
+    /// A pair results from two new stations by a list of events, so that its messages are in order.
     pub fn is_run(&self)
         ensures run { IsRun self.now }
         ensures order { IsInOrder self.now }
@@ -150,7 +151,7 @@ impl Pair {
         self.ends.side(end).given()
     }
 
-    /// Message `i` of those that an end accepted, counted from 0.
+    /// Returns message `i` of those that an end accepted, counted from 0.
     pub fn given_at(&self, end: End, i: usize) -> &[u8]
         requires { i < length (at end self.now).given }
         ensures { result.now ≡ slice_index_or (at end self.now).given i [] }
@@ -184,7 +185,7 @@ impl Pair {
         self.ends.side(end).acknowledged()
     }
 
-    /// The station at an end.
+    /// Returns the station at an end.
     pub fn station(&self, end: End) -> &Station
         ensures core { result.now.core ≡ (at end self.now).core }
         ensures syn { result.now.syn ≡ (at end self.now).syn }
@@ -208,14 +209,14 @@ impl Pair {
         self.ends.honest()
     }
 
-    /// Returns whether neither end began twice.
+    /// Returns whether neither end started twice.
     pub fn clean(&self) -> bool
         ensures { result ≡ is_clean self.now }
     {
         self.ends.clean()
     }
 
-    /// The larger window.
+    /// Returns the larger window.
     pub(crate) fn window(&self) -> u16
         ensures { result ≡ max self.now.a.core.limits.window self.now.b.core.limits.window }
     {

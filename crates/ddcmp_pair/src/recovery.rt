@@ -16,7 +16,7 @@ fn is_same(message: &[u8], other: &[u8]) -> bool
     message == other
 }
 
-/// How a recovery ended.
+/// The result of a recovery.
 #[derive(Clone, Copy, PartialEq, Eq)]
 pub struct Recovered {
     /// How many exchanges were counted in each of its settles.
@@ -28,7 +28,7 @@ pub struct Recovered {
 impl Recovered {
     ghost use Rattle.std.specs.Prelude.{◌≡◌, ◌&&◌, [], ◌∷◌};
 
-    /// Of three settles, one after another.
+    /// Makes that of three settles, one after another.
     fn of(first: Settled, second: Settled, third: Settled) -> Recovered
         ensures exchanges { result.exchanges
             ≡ first.exchanges ∷ second.exchanges ∷ third.exchanges ∷ [] }
@@ -85,7 +85,7 @@ impl Pair {
         self.settle_watched(watch)
     }
 
-    /// A settle and two rounds. What was sent before and hasn't arrived never arrives.
+    /// Does a settle and two rounds. Bytes in flight before are lost.
     pub fn recover(&mut self) -> Result<Recovered, Memory>
         ensures state { IsOk result → self.new ≡ recovered self.old }
         ensures exchanges { IfOk result (λ r. r.exchanges ≡ (recovering self.old).exchanges) }
@@ -99,8 +99,7 @@ impl Pair {
         ensures order { IsInOrder self.new }
 
         // If the pair was ready it is repaired: the line is quiet after each settle, which counts
-        // at most this many exchanges by the larger window, and in the end nothing is left to be
-        // done.
+        // at most this many exchanges by the larger window, and in the end nothing is left to do.
         ensures repaired { is_ready self.old ≡ true → IfOk result (λ r. r.quiet ≡ true) }
         ensures within { is_ready self.old ≡ true
             → IfOk result (λ r. All (λ n. n ≤ most_exchanges self.old) r.exchanges) }
@@ -138,7 +137,7 @@ impl Pair {
         Ok(Recovered::of(first, second, third))
     }
 
-    /// A recovery repairs every pair that is ready: a law, for those who have one. It does nothing.
+    /// States that a recovery repairs every pair that is ready. Does nothing.
     pub fn is_repaired(&self)
         ensures { is_ready self.now ≡ true → IsRepaired self.now }
     {
@@ -155,8 +154,8 @@ impl Pair {
     ghost use Rattle.ddcmp_pair.specs.Recovery.{is_ready, is_ready_here, is_done, IsDelivered};
     ghost use Rattle.ddcmp_pair.specs.Recovery.{IsDone};
 
-    /// Returns whether an honest and clean run has led here, both ends have begun, no frame is
-    /// unfinished, and both ends have one `max`: from here a recovery repairs the line.
+    /// Returns whether the run was honest and clean, neither end is halted, no frame is unfinished,
+    /// and both ends have one `max`: then a recovery repairs the line.
     pub fn ready(&self) -> bool
         ensures { result ≡ is_ready self.now }
     {
@@ -207,8 +206,8 @@ impl Pair {
         self.is_same_as_given(from, to)
     }
 
-    /// Returns whether each message delivered at an end is the one that the other accepted in its
-    /// place.
+    /// Returns whether each message delivered at an end equals the one that the other accepted at
+    /// its index.
     fn is_same_as_given(&self, from: End, to: End) -> bool
         requires other { to ≡ other from }
         requires length { length (handed_up (at to self.now)) ≡ length (at from self.now).given }
@@ -223,7 +222,7 @@ impl Pair {
         true
     }
 
-    /// Returns whether message `i` of those delivered at an end, counted from 0, is this one.
+    /// Returns whether message `i` of those delivered at an end, counted from 0, equals this one.
     fn is_handed_up_at(&self, end: End, i: usize, message: &[u8], out: &mut [u8]) -> bool
         requires message { i < length (handed_up (at end self.now)) }
         requires room { MAX_COUNT ≤ length out.old }

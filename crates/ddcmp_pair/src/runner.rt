@@ -11,18 +11,18 @@ use crate::pair::{Pair, PairRefusal};
 use ddcmp_proto::{Config, ConfigRefusal};
 use std::alloc::Global;
 
-/// Why a run wasn't done whole.
+/// The reason why a run wasn't completed.
 #[derive(Drop)]
 pub enum RunRefusal {
-    /// Why the station at A isn't made.
+    /// The refusal of the station at A.
     First(ConfigRefusal),
-    /// Why the station at B isn't made.
+    /// The refusal of the station at B.
     Second(ConfigRefusal),
     /// An allocation failed: the pair is as after the first `done` events.
     Memory { done: usize, pair: Pair },
 }
 
-/// Applies events, up to one whose allocation fails; then it returns how many were done.
+/// Applies events, up to one whose allocation fails; in that case returns how many were done.
 fn play(pair: &mut Pair, events: &[Event]) -> Result<(), usize>
     ensures done { IsOk result → pair.new ≡ run_of events.now pair.old }
     ensures memory { (done : ℕ) → result ≡ Err done → (done < length events.now)
@@ -39,7 +39,7 @@ fn play(pair: &mut Pair, events: &[Event]) -> Result<(), usize>
     Ok(())
 }
 
-/// The pair after a list of events.
+/// Returns the pair after a list of events.
 pub fn run(
     alloc: Global,
     first: Config,
@@ -56,8 +56,8 @@ pub fn run(
         → asks_memory (slice_index_or events.now done event_value.Clear) pair ≡ true }
     ensures order { IfOk result IsInOrder }
 
-    // The first size that is out of range is refused; else no station is, but for an allocation
-    // failure.
+    // If a size is out of range, the first such is the refusal; otherwise it can only be an
+    // allocation failure.
     ensures first_size { (refusal : ConfigRefusal) → first_refusal first ≡ Some refusal → result
         ≡ Err (RunRefusal.First refusal) }
     ensures second_size { (refusal : ConfigRefusal) → first_refusal first ≡ None

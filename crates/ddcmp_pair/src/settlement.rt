@@ -4,10 +4,10 @@ use crate::watch::{Unwatched, Watch};
 use crate::{End, Event, Reply};
 use ddcmp_proto::Memory;
 
-/// How a settle ended.
+/// The result of a settle.
 #[derive(Clone, Copy, PartialEq, Eq)]
 pub struct Settled {
-    /// How many exchanges were counted: at most 16 times the larger window and 4.
+    /// How many exchanges were counted: at most 16 * (w + 4), w being the larger window.
     pub exchanges: u32,
     /// Whether neither end had anything more to send.
     pub quiet: bool,
@@ -23,7 +23,7 @@ impl Pair {
     ghost use Rattle.ddcmp_pair.specs.Steps.{Reports};
 
     /// Takes all received messages, and then carries frames to and fro until neither end writes
-    /// one. What was in flight never arrives.
+    /// one. Bytes in flight before are lost.
     pub fn settle(&mut self) -> Result<Settled, Memory>
         ensures state { IsOk result → self.new ≡ settled self.old }
         ensures exchanges { IfOk result (λ s. s.exchanges ≡ (settling self.old).exchanges) }
@@ -33,7 +33,7 @@ impl Pair {
         ensures memory { OnErr result (WantsMemory (settling self.old).events self.old self.new) }
         ensures limits { (end : EndValue) → (at end self.new).core.limits
             ≡ (at end self.old).core.limits }
-        // On an allocation failure too, messages are in order.
+        // Messages are in order even after an allocation failure.
         ensures order { IsInOrder self.new }
     {
         self.settle_watched(&mut Unwatched)
@@ -82,7 +82,7 @@ impl Pair {
         })
     }
 
-    /// A frame from A to B and one from B to A; returns whether either end wrote.
+    /// Carries a frame from A to B and one from B to A; returns whether either end wrote.
     fn exchange<W: Watch>(&mut self, watch: &mut W) -> Result<bool, Memory>
         ensures state { IsOk result → self.new ≡ run (exchange self.old) self.old }
         ensures wrote { IfOk result (λ wrote. wrote ≡ either_writes self.old) }
@@ -95,8 +95,8 @@ impl Pair {
         Ok(first || second)
     }
 
-    /// The end's next frame arrives whole at the other, whose messages are taken; returns whether
-    /// there was one.
+    /// Carries the end's next frame to the other, whose messages are taken; returns whether there
+    /// was one.
     fn cross<W: Watch>(&mut self, watch: &mut W, from: End) -> Result<bool, Memory>
         ensures state { IsOk result → self.new ≡ run (crossing from self.old) self.old }
         ensures wrote { IfOk result (λ wrote. wrote ≡ writes from self.old) }

@@ -1,4 +1,4 @@
-//! One end of a pair: its station, and what it has done since the line was cleared.
+//! One end of a pair: its station, and its history since the line was cleared.
 mod receiver;
 mod sender;
 
@@ -14,7 +14,7 @@ use std::marker::Model;
 pub(crate) struct Side {
     alloc: Global,
     station: Station,
-    /// Reads what arrives a second time, for the place of its good frames.
+    /// Reads the bytes that arrive once more, for the place of the good frames.
     reader: Reader,
     given: Messages,
     taken: Messages,
@@ -78,7 +78,7 @@ impl Side {
     ghost use Rattle.ddcmp_pair.specs.Run.{asks_here};
     ghost use Rattle.ddcmp_pair.specs.Inside.Sides.{IsPlaced};
 
-    /// An end with nothing done.
+    /// Makes an end with an empty history.
     pub(crate) fn new(alloc: Global, config: Config) -> Result<Side, ConfigRefusal>
         ensures made { IfOk result (λ s. s.state ≡ new_end config) }
         ensures place { IfOk result (λ s. s.place ≡ Some 0) }
@@ -112,7 +112,7 @@ impl Side {
         })
     }
 
-    /// Applies an event at this end; `sent` is what the other end has sent.
+    /// Applies an event at this end; `sent` are the frames that the other end has sent.
     pub(crate) fn apply(&mut self, event: &Event, sent: &Frames) -> Result<Reply, Memory>
         requires { IsPlaced self.old sent.now.all }
         ensures state { IsOk result → self.new.state ≡ after_event_here event.now self.old.state }
@@ -151,7 +151,7 @@ impl Side {
         }
     }
 
-    /// Forgets all that was done. This end is halted.
+    /// Clears the history of this end, which is halted.
     pub(crate) fn clear(&mut self)
         requires { is_halted self.old.state.core.station.state ≡ true }
         ensures state { self.new.state ≡ cleared self.old.state }
@@ -175,7 +175,7 @@ impl Side {
         self.given.len()
     }
 
-    /// Message `i` of those accepted, counted from 0.
+    /// Returns message `i` of those accepted, counted from 0.
     pub(crate) fn given_at(&self, i: usize) -> &[u8]
         requires { i < length self.now.state.given }
         ensures { result.now ≡ slice_index_or self.now.state.given i [] }
@@ -199,7 +199,7 @@ impl Side {
         ensures out { out.new
             ≡ with_front (Some (slice_index_or (handed_up self.now.state) i [])) out.old }
     {
-        // The last of those delivered are in the inbox.
+        // The last delivered messages are in the inbox.
         let waiting = self.station.waiting() as usize;
         let left = self.taken.len() + waiting - i;
         if left <= waiting {
@@ -217,7 +217,7 @@ impl Side {
         self.acknowledged
     }
 
-    /// Returns whether this end began at most once.
+    /// Returns whether this end started at most once.
     pub(crate) fn began_once(&self) -> bool
         ensures { result ≡ nat_le self.now.state.starts 1 }
     {
@@ -231,7 +231,7 @@ impl Side {
         self.place.is_some()
     }
 
-    /// The frames sent.
+    /// Returns the frames sent.
     pub(crate) fn sent(&self) -> &Frames
         ensures { result.now.all ≡ self.now.state.sent }
     {

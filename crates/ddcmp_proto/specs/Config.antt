@@ -1,4 +1,4 @@
--- Which sizes a station may have, and how it begins.
+-- The sizes that a station may have, and its initial state.
 use Rattle.std.specs.Prelude.{ℕ, Bool, ◌&&◌, if◌then◌else◌, nat_le, Option, Some, None}
 use Rattle.ddcmp_core.specs.Limits.{MAX_COUNT, MAX_WINDOW}
 use Rattle.ddcmp_core.specs.Table.{Limits, new_station}
@@ -33,7 +33,7 @@ limits_of config = record {
   restart = config.restart;
 }
 
--- the sizes of a station with these limits, and so much SYN fill before a frame
+-- the sizes of a station with these limits and this much SYN fill before a frame
 abbrev pub config_of : Limits → ℕ → Config
 config_of limits syn = record {
   window = limits.window;

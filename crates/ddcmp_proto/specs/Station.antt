@@ -12,11 +12,11 @@ pub record StationView : Type 0 where
   pub syn : ℕ
   pub line : ReaderView
 
--- the number of bytes of the messages to send and of the received messages
+-- the number of bytes of the queued messages and of the received messages
 abbrev pub message_bytes : StationState → ℕ
 message_bytes s = sum_by length s.out + sum_by length s.inbox
 
--- with those of the unfinished frame that are kept
+-- the same with the buffered bytes of the unfinished frame
 abbrev pub held_of : StationView → ℕ
 held_of v = message_bytes v.core.station + kept_of v.line
 
@@ -24,7 +24,7 @@ held_of v = message_bytes v.core.station + kept_of v.line
 abbrev pub held_at_most : Limits → ℕ
 held_at_most l = l.window * l.longest + l.room * l.longest + l.longest + 10
 
--- what holds of every station: its parts have one limit on the length of a message
+-- what holds for every station: its parts have the same limit on the length of a message
 pub record IsSoundStation (v : StationView) : Type 0 where
   pub sound : IsSound v.core.limits v.core.station
   pub max_is : v.line.max ≡ v.core.limits.longest

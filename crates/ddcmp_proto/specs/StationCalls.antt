@@ -1,4 +1,4 @@
--- The calls of a station by their names, and what the contract of each says that it does.
+-- The calls of a station by their names, and what each does by its contract.
 use Rattle.std.specs.Prelude.{◌≡◌, ℕ, if◌then◌else◌, true, false, Bool, List, [], ◌++◌}
 use Rattle.ddcmp_frame.specs.Reader.{StandsFor}
 use Rattle.ddcmp_core.specs.Counting.{counters_after_expire}
@@ -8,8 +8,8 @@ use Rattle.ddcmp_core.specs.Table.{may_send_maintenance, after_take, after_expir
 use Rattle.ddcmp_proto.specs.Bytes.{after_piece, after_poll}
 use Rattle.ddcmp_proto.specs.Station.{StationView}
 
--- A call of a station: with the message that it was given, or the bytes of the line that it used.
--- Asks is any call that only returns something of the station.
+-- A call of a station, with the message that it was passed, or the bytes of the line that it used.
+-- Asks is any call that only returns something.
 pub data StationCall : Type 0 where
   Starts : StationCall
   Halts : StationCall
@@ -34,7 +34,7 @@ pub record HasFed (used : List ℕ) (old new : StationView) : Type 0 where
   pub core : (text : List ℕ) → StandsFor old.line text → new.core ≡ after_piece text used old.core
   pub syn : new.syn ≡ old.syn
 
--- A halted station forgets the bytes of its line; another one stays as it is.
+-- A halted station drops the bytes of its line; any other stays as it is.
 pub record HasCleared (old new : StationView) : Type 0 where
   pub core : new.core ≡ old.core
   pub syn : new.syn ≡ old.syn

@@ -1,4 +1,4 @@
-//! How a station is made.
+//! The sizes of a station.
 ghost use Rattle.std.specs.Prelude.{◌≡◌};
 ghost use Rattle.ddcmp_proto.specs.Config.{first_refusal};
 
@@ -8,7 +8,7 @@ use ddcmp_frame::codes::FRAME_OVERHEAD;
 /// The most SYN bytes before a frame.
 pub const MAX_SYN: u8 = 16;
 
-/// The most messages that came and weren't taken.
+/// The most received messages that weren't taken.
 pub const MAX_INBOX: u16 = 255;
 
 /// The sizes of a station.
@@ -16,7 +16,7 @@ pub const MAX_INBOX: u16 = 255;
 pub struct Config {
     /// The largest number of messages sent and not acknowledged: 1 to `MAX_WINDOW`.
     pub window: u16,
-    /// The largest number of messages that came and weren't taken: 1 to `MAX_INBOX`.
+    /// The largest number of received messages that weren't taken: 1 to `MAX_INBOX`.
     pub inbox: u16,
     /// The largest number of bytes of a message: 1 to `MAX_COUNT`.
     pub max: u16,
@@ -26,7 +26,7 @@ pub struct Config {
     pub restart: bool,
 }
 
-/// Why no station is made: the first that fits.
+/// The reason why no station was made: the first that applies.
 #[derive(Clone, Copy, Debug, PartialEq, Eq)]
 pub enum ConfigRefusal {
     /// The window isn't 1 to `MAX_WINDOW`.
@@ -53,14 +53,14 @@ impl Config {
         restart: false,
     };
 
-    /// The most bytes of a frame with its SYN fill.
+    /// Returns the length of the longest frame with its SYN fill.
     pub fn frame_room(&self) -> usize
         ensures { result ≡ self.now.syn + self.now.max + 10 }
     {
         self.syn as usize + self.max as usize + FRAME_OVERHEAD as usize
     }
 
-    /// Which size is out of range, the first of them.
+    /// Returns the first size that is out of range.
     pub(crate) fn first_refusal(&self) -> Option<ConfigRefusal>
         ensures { result ≡ first_refusal self.now }
     {

@@ -1,5 +1,5 @@
-//! A station of DDCMP over bytes: bytes of a line in, cut in any way, and frames out. It needs no
-//! device and no clock.
+//! A station of DDCMP over bytes: bytes of a line in, in chunks of any size, and frames out. It
+//! needs no device and no clock.
 #![tactic(auto)]
 
 mod config;

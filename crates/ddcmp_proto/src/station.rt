@@ -19,7 +19,7 @@ pub use feed::Fed;
 use std::alloc::Global;
 use std::marker::Model;
 
-/// As much SYN fill as a station writes before a frame.
+/// The most SYN fill that a station writes before a frame.
 const FILL: [u8; 16] = [SYN; 16];
 
 /// A station over the bytes of its line, without I/O or time. After `new` no call allocates.
@@ -28,7 +28,7 @@ const FILL: [u8; 16] = [SYN; 16];
 /// write to the line what it puts into `out`. Pass received bytes to `feed`, and what it didn't use
 /// again; `take` messages while there are any, and don't read the line while the inbox is full. If
 /// `take_arm` returns true, which is to be asked after each `poll` and `feed`, set a deadline; if
-/// `timer_on` returns true when it comes, call `expire`.
+/// `timer_on` returns true when it is reached, call `expire`.
 pub struct Station {
     core: Core<SlotStore>,
     reader: Reader,
@@ -60,8 +60,8 @@ impl Model for Station {
         × (s.config.syn ≤ MAX_SYN) × (s.core.limits ≡ limits_of s.config) };
 }
 
-/// Writes SYN fill and a frame at the front of `out`, where its `count` bytes of data are already;
-/// returns how many bytes they have.
+/// Writes SYN fill and a frame at the front of `out`, which has the `count` bytes of data in place;
+/// returns the number of bytes of both.
 fn write_line(syn: u8, header: &Header, count: usize, out: &mut [u8]) -> usize
     requires syn { (syn ≤ MAX_SYN) × (syn ≤ length out.old) }
     requires frame { IsFrame header.now (data_in syn count out.old) }
@@ -100,12 +100,14 @@ impl Station {
     ghost use Rattle.ddcmp_proto.specs.Config.{first_refusal, core_made};
     ghost use Rattle.ddcmp_frame.specs.Reader.{StandsFor};
 
-    /// Makes a halted station whose line has had no bytes. It takes all memory that it will need.
+    /// Makes a halted station whose line has received no bytes. Allocates all the memory that it
+    /// will need.
     pub fn new(alloc: Global, config: Config) -> Result<Station, ConfigRefusal>
         ensures made { IfOk result (λ s. (s.core ≡ core_made config) × (s.syn ≡ config.syn)) }
         ensures stands { IfOk result (λ s. StandsFor s.line []) }
 
-        // The first size that is out of range is refused; if none is, only an allocation failure.
+        // If a size is out of range, the first such is the refusal; otherwise it can only be an
+        // allocation failure.
         ensures refused { (refusal : ConfigRefusal) → first_refusal config ≡ Some refusal → result
             ≡ Err refusal }
         ensures only { first_refusal config ≡ None → IsOk result
@@ -171,8 +173,7 @@ impl Station {
         self.core.start()
     }
 
-    /// Enters the state of maintenance; returns how many messages that waited to be sent were
-    /// dropped.
+    /// Enters the Maintenance state; returns how many queued messages were dropped.
     pub fn enter_maintenance(&mut self) -> Result<u8, StartRefusal>
         ensures state { self.new ≡ record self.old {
           core = record self.old.core {
@@ -186,7 +187,7 @@ impl Station {
         self.core.enter_maintenance()
     }
 
-    /// Sends and takes nothing more. Numbers and messages stay.
+    /// Halts: the station sends and accepts nothing more. Numbers and messages stay.
     pub fn halt(&mut self)
         ensures { self.new ≡ record self.old {
           core = record self.old.core { station = after_halt self.old.core.station };
@@ -195,7 +196,7 @@ impl Station {
         self.core.halt();
     }
 
-    /// Forgets the bytes of the line so far, if the station is halted; returns whether it is.
+    /// Drops the bytes of the line so far, if the station is halted; returns whether it is.
     pub fn clear_line(&mut self) -> bool
         ensures answer { result ≡ is_halted self.old.core.station.state }
         ensures cleared { result ≡ true → StandsFor self.new.line [] }
@@ -209,7 +210,7 @@ impl Station {
         true
     }
 
-    /// Returns why a message isn't sent, or None if it is.
+    /// Returns why a message isn't accepted, or None if it is.
     pub fn send_refusal(&self, message: &[u8]) -> Option<SendRefusal>
         ensures { result
             ≡ send_refusal_of self.now.core.limits self.now.core.station message.now }
@@ -232,7 +233,7 @@ impl Station {
         self.core.send(message)
     }
 
-    /// Keeps a maintenance message to be sent.
+    /// Queues a maintenance message.
     pub fn send_maintenance(&mut self, message: &[u8]) -> Result<(), SendRefusal>
         ensures state { self.new ≡ record self.old {
           core = record self.old.core {
@@ -306,7 +307,7 @@ impl Station {
         self.core.expire()
     }
 
-    /// Returns whether the timer was started since this was last asked: the caller sets its
+    /// Returns whether the timer was started since the last call: if so, the caller sets its
     /// deadline.
     pub fn take_arm(&mut self) -> bool
         ensures state { self.new ≡ record self.old {
@@ -324,7 +325,7 @@ impl Station {
         self.core.state()
     }
 
-    /// Returns the numbers.
+    /// Returns the numbers of the station.
     pub fn numbers(&self) -> Numbers
         ensures { result ≡ record {
           r = record { 0 = self.now.core.station.r };
@@ -336,14 +337,14 @@ impl Station {
         self.core.numbers()
     }
 
-    /// Returns the number of messages to send that are kept.
+    /// Returns the number of queued messages.
     pub fn outgoing(&self) -> u8
         ensures { result ≡ length self.now.core.station.out }
     {
         self.core.outgoing()
     }
 
-    /// Returns whether fewer messages are kept than the window allows.
+    /// Returns whether fewer messages are queued than the window allows.
     pub fn room(&self) -> bool
         ensures { IsTrue result ↔ (length self.now.core.station.out < self.now.core.limits.window) }
     {
@@ -385,7 +386,7 @@ impl Station {
         self.core.timer_on()
     }
 
-    /// Returns what was counted.
+    /// Returns the counters.
     pub fn counters(&self) -> &Counters
         ensures { result.now ≡ self.now.core.counters }
     {
@@ -409,8 +410,8 @@ impl Station {
         self.reader.open()
     }
 
-    /// Returns the number of bytes of messages to send, of received messages, and of the unfinished
-    /// frame; none of a frame that is too long.
+    /// Returns the number of bytes of queued messages, of received messages, and of the unfinished
+    /// frame; none for a frame that is too long.
     pub fn held(&self) -> usize
         ensures value { result ≡ held_of self.now }
         ensures text { (text : List ℕ) → StandsFor self.now.line text
@@ -421,7 +422,7 @@ impl Station {
         self.core.bytes() + self.reader.kept()
     }
 
-    /// Returns the sizes that it was made with.
+    /// Returns the sizes with which it was made.
     pub fn config(&self) -> Config
         ensures { result ≡ config_of self.now.core.limits self.now.syn }
     {
@@ -436,7 +437,7 @@ impl Station {
         self.config.frame_room()
     }
 
-    /// What holds of every station: a law, for those who have one. It does nothing.
+    /// States what holds for every station. Does nothing.
     pub fn holds(&self)
         ensures { IsSoundStation self.now }
     {

@@ -1,4 +1,4 @@
--- The calls of a session: what the contract of each says, and the history of a session.
+-- The calls of a session: what each does by its contract, and the history of a session.
 use Rattle.std.specs.Prelude.{◌≡◌, ◌||◌, ℕ, Bool, true, false, if◌then◌else◌, List, [], ◌∷◌, ◌++◌}
 use Rattle.std.specs.Prelude.{map, take, Some, option_to_list}
 use Rattle.ddcmp_window.specs.Store.{first_message}
@@ -23,11 +23,11 @@ use Rattle.ddcmp_session.specs.declared.options.Options.{Options}
 use Rattle.ddcmp_session.specs.Text.{Wrote, mail_text, notices_text, reported_lost}
 use Rattle.ddcmp_session.specs.Timing.{PassesTime}
 
--- A call of a session, by its name: with the bytes of its input or of its line that it used, how
--- many frames it put, how many bytes a device took, the moment that it was passed, whether it
--- delivered a message, or what was left of its input, and whether that is its end. `TimePassed` is
--- what is called while there is no line. Of the other calls `write_end` appends the last lines of a
--- run to an output of lines; they change nothing else of a session's state.
+-- A call of a session, by its name. Its fields are the bytes of the input or of the line that it
+-- used, how many frames it put, how many bytes a device took, the moment that it was passed,
+-- whether it delivered a message, or the rest of the input, and whether that rest ends it.
+-- `TimePassed` is any call made while there is no line. Of the other calls `write_end` appends the
+-- last lines of a run to an output of lines; they change nothing else of a session's state.
 pub data SessionCall : Type 0 where
   Typed : (used : List ℕ) → SessionCall
   InputEnded : SessionCall
@@ -42,7 +42,7 @@ pub data SessionCall : Type 0 where
   OutputTook : (n : ℕ) → SessionCall
   Closed : (left : List ℕ) (is_at_end is_reported : Bool) → SessionCall
 
--- ---- what the contract of each call says that it does
+-- ---- what each call does by its contract
 
 -- bytes of the input, of which only the last may complete something
 abbrev pub CompletesLast : List ℕ → Messages → Type 0
@@ -54,12 +54,12 @@ pub record HasTyped (used : List ℕ) (old new : SessionView) : Type 0 where
   pub wanted : wants_input old ≡ false → used ≡ []
   pub part : CompletesLast used old.messages
 
--- a text was written, and nothing else done
+-- A text was written, and nothing else changed.
 pub record HasWritten (text : List ℕ) (old new : SessionView) : Type 0 where
   pub wrote : Wrote text old.output new.output
   pub stays : new ≡ record old { output = new.output }
 
--- Bytes of the line were used, where this text came before, and their notices written.
+-- Bytes of the line were used after this text, and their notices were written.
 pub record HasReceived (text used : List ℕ) (old new : SessionView) : Type 0 where
   pub core : new.link.station.core ≡ after_piece text used old.link.station.core
   pub syn : new.link.station.syn ≡ old.link.station.syn
@@ -81,7 +81,7 @@ pub record HasDelivered (old new : SessionView) : Type 0 where
       × Wrote (mail_text (form_of old.messages) message) old.output new.output
   pub stays : new ≡ record old { link = new.link; output = new.output }
 
--- the station was halted, and what is lost by that reported if there was room
+-- The station was halted, and the number of messages lost by that was reported if there was room.
 pub record HasLeft (is_reported : Bool) (old new : SessionView) : Type 0 where
   pub link : new.link ≡ with_state (after_halt old.link.station.core.station) old.link
   pub wrote : Wrote (reported_lost is_reported (form_of old.messages) (lost_by_end old)) old.output
@@ -93,7 +93,7 @@ pub record HasLeft (is_reported : Bool) (old new : SessionView) : Type 0 where
     output = new.output;
   }
 
--- the same, and what is left of the input was dropped: its messages are lost
+-- The same, and the rest of the input was dropped: its messages are lost.
 pub record HasClosed (left : List ℕ) (is_at_end is_reported : Bool) (old new : SessionView)
     : Type 0 where
   pub link : new.link ≡ with_state (after_halt old.link.station.core.station) old.link
@@ -112,7 +112,7 @@ pub record HasClosed (left : List ℕ) (is_at_end is_reported : Bool) (old new :
     output = new.output;
   }
 
--- `connected` clears the line: here it begins on a line that is clear.
+-- `connected` clears the line; here it must be clear already.
 abbrev pub SessionDoes : SessionCall → List ℕ → SessionView → SessionView → Type 0
 SessionDoes (Typed used) text old new = HasTyped used old new
 SessionDoes InputEnded text old new = new ≡ after_input_end old
@@ -135,16 +135,17 @@ SessionDoes (Closed left is_at_end is_reported) text old new =
 
 -- ---- the history of a session
 
--- what a session has for standard output: a received message, a notice, or how many accepted
--- messages were left unacknowledged when a line ended, or the run
+-- what a session writes to standard output: a received message, a notice, or how many accepted
+-- messages were left unacknowledged when a line or the run ended
 pub data Shown : Type 0 where
   Mail : (message : List ℕ) → Shown
   Reports : (notice : Notice) → Shown
   Loses : (count : ℕ) → Shown
 
--- A session, and what has been since it was made: the bytes of its line that it used, those that
--- its line took, the bytes of its input that it took, and whether it was told of its end, those
--- that its output took, and what it delivered and reported.
+-- A session, and what happened since it was made: the bytes that it used from its line, the bytes
+-- that were written to the line, the bytes that it used from its input, whether it was told that
+-- the input has ended, the bytes that were written to its output, and what it delivered and
+-- reported.
 pub record SessionHistory : Type 0 where
   pub session : SessionView
   pub used : List ℕ
@@ -178,7 +179,7 @@ abbrev pub gone_in : SessionCall → SessionView → List ℕ
 gone_in (LineTook n) s = take n s.link.outbox.waiting
 gone_in _ s = []
 
--- the end of an input of lines is that of its last line
+-- the end of an input of lines ends its last line
 abbrev pub end_in : Form → List ℕ
 end_in Digits = 10 ∷ []
 end_in Binary = []
@@ -221,7 +222,7 @@ after_session_step step h = record {
   shown = h.shown ++ shown_in step.call h.used h.session;
 }
 
--- Each step is a call, as its contract says.
+-- Each step is a call that does what its contract states.
 abbrev pub IsSessionHistory : List SessionStep → SessionHistory → Type 0
 IsSessionHistory [] h = Unit {0}
 IsSessionHistory (step ∷ rest) h =

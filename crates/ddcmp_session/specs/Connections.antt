@@ -1,11 +1,11 @@
--- The history of a session that is connected as often as its user likes.
+-- The history of a session that is connected any number of times.
 use Rattle.std.specs.Prelude.{◌≡◌, ℕ, ⊤, List, [], ◌∷◌}
 use Rattle.ddcmp_session.specs.Session.{SessionView, after_connected}
 use Rattle.ddcmp_session.specs.Calls.{SessionCall, Connected as ConnectedCall, SessionDoes}
 use Rattle.ddcmp_session.specs.Calls.{SessionHistory, SessionStep, after_session_step, Shown}
 
 -- The history of a session, in which the bytes of the line are those of its last connection; and
--- the input and the output that it had had before that.
+-- the input that it had read, and what it had delivered and reported, before that.
 pub record Connection : Type 0 where
   pub history : SessionHistory
   pub input_before : List ℕ
@@ -28,13 +28,13 @@ after_call call h c = record c { history = h }
 abbrev pub after_step : SessionStep → Connection → Connection
 after_step step c = after_call step.call (after_session_step step c.history) c
 
--- What the contract of each call says that it does; `connected` does it on any line.
+-- What each call does by its contract; `connected` may be called on any line.
 abbrev pub Does : SessionCall → List ℕ → SessionView → SessionView → Type 0
 Does ConnectedCall text old new =
     new ≡ after_connected new.link.station.line old
 Does call text old new = SessionDoes call text old new
 
--- Each step is a call, as its contract says.
+-- Each step is a call that does what its contract states.
 abbrev pub AreDone : List SessionStep → Connection → Type 0
 AreDone [] c = ⊤
 AreDone (step ∷ rest) c =

@@ -1,4 +1,4 @@
--- How the run of a session gets on: what its line has done, in moments and in tries.
+-- How the run of a session proceeds: what its line has done, in moments and in tries.
 use Rattle.std.specs.Prelude.{ℕ, ◌+◌, ◌-◌, ◌*◌, ◌%◌, Bool, true, false, ◌&&◌, ◌||◌, not, ◌==◌}
 use Rattle.std.specs.Prelude.{nat_le, if◌then◌else◌, min, max, List, [], ◌∷◌}
 use Rattle.std.specs.Prelude.{Option, Some, None, is_none}
@@ -18,7 +18,7 @@ use Rattle.ddcmp_session.specs.declared.course.Progress.{Progress}
 abbrev pub never : ℕ
 never = 18446744073709551615
 
--- a new session, with a report every so many milliseconds, or none
+-- that of a new session, which reports its counters every `report_ms` milliseconds, if that isn't 0
 abbrev pub course_begun : ℕ → Course
 course_begun report_ms = record {
   moment = 0;
@@ -54,7 +54,7 @@ after_moment report_ms now c = record c {
       else c.report_at;
 }
 
--- a pause ends when its moment has come
+-- a pause ends when it is due
 abbrev pub pause_at : ℕ → Option ℕ → Option ℕ
 pause_at now pause = if is_due now pause then None else pause
 
@@ -76,17 +76,17 @@ after_connecting c = record c {
   quiet_since = c.moment;
 }
 
--- Maintenance was entered, if it was: nothing is to start.
+-- The station entered maintenance mode, or was refused that; there is no startup handshake.
 abbrev pub after_entering : Bool → Course → Course
 after_entering enters c = record (after_connecting c) {
   has_run = enters || c.has_run;
 }
 
--- one try more, which was refused for this reason, if it was
+-- one more try, and the reason if the peer refused it
 abbrev pub try_counted : Option Nak → Course → Course
 try_counted refusal c = record c { tries = min (c.tries + 1) 4294967295; refusal = refusal }
 
--- The reason of a NAK that isn't a reply to REP and came between these two counts.
+-- The reason of a NAK, other than a reply to REP, that was received between these two counts.
 abbrev pub refusal_between : NakCounts → NakCounts → Option Nak
 refusal_between before now =
     if not (before.too_long == now.too_long) then Some nak.TooLong
@@ -104,7 +104,7 @@ after_acknowledged acknowledged c =
     if acknowledged == c.acknowledged then c
     else record c { acknowledged = acknowledged; is_refused = false; pause = None }
 
--- From the second refusal on messages wait; the beginning of a pause is a try.
+-- From the second refusal on messages are held back; the beginning of such a pause counts as a try.
 abbrev pub after_refusal : ℕ → Option Nak → Course → Course
 after_refusal timer_ms None c = c
 after_refusal timer_ms (Some reason) c =
@@ -122,7 +122,7 @@ step_of AStart = 2
 step_of Running = 3
 step_of Maintenance = 4
 
--- what a link has got to
+-- the progress of a link
 abbrev pub progress_of : LinkView → Progress
 progress_of d = record {
   step = step_of (state_of d).state;
@@ -135,20 +135,21 @@ is_at p None = false
 is_at p (Some before) =
     p.step == before.step && p.acknowledged == before.acknowledged && p.received == before.received
 
--- since the last look the handshake made a step, or a message was received; at first anything
+-- whether since the last progress the handshake made a step or a message was received; true at
+-- first
 abbrev pub goes_on : Progress → Option Progress → Bool
 goes_on p None = true
 goes_on p (Some before) = not (p.step == before.step && p.received == before.received)
 
--- It isn't quiet while the peer isn't done, and after the first bytes, a step of the handshake and
--- a received message.
+-- The line isn't quiet while the peer isn't done, nor just after the first bytes, a step of the
+-- handshake or a received message.
 abbrev pub after_noise : Bool → Progress → Course → Course
 after_noise is_needed p c =
     if is_needed || goes_on p c.progress
     then record c { quiet_since = c.moment }
     else c
 
--- after any progress tries are counted anew
+-- any progress resets the number of tries
 abbrev pub after_progress : Progress → Course → Course
 after_progress p c =
     if is_at p c.progress then c
@@ -162,7 +163,7 @@ after_state Maintenance c =
 after_state AStart c = record c { peer_has_started = true }
 after_state _ c = c
 
--- a look at a link that was fed, when it had received these NAKs
+-- the course after a link was fed, which had received these NAKs before
 unfoldable pub after_looked : ℕ → NakCounts → LinkView → Course → Course
 after_looked timer_ms before d c =
     after_state (state_of d).state
@@ -175,7 +176,8 @@ after_looked timer_ms before d c =
 abbrev pub lost_more : ℕ → Course → Course
 lost_more n c = record c { lost = total_plus c.lost n }
 
--- A peer restarted, and with `--restart` what this station had accepted is lost by that.
+-- The peer restarted, and with `--restart` the messages that this station had accepted are lost by
+-- that.
 abbrev pub after_notice : Notice → Course → Course
 after_notice PeerRestarted c = record c { peer_restarted = true }
 after_notice (Restarted count) c = lost_more count c

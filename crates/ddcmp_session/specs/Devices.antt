@@ -1,4 +1,5 @@
--- The devices of a session, what they have given and taken, and how a session goes on over them.
+-- The devices of a session, the bytes that were read from them and written to them, and how a
+-- session proceeds over them.
 use Rattle.std.specs.Prelude.{◌≡◌, ℕ, ◌==◌, ◌<◌, ◌⊎◌, Bool, true, false, if◌then◌else◌, List, []}
 use Rattle.std.specs.Prelude.{◌++◌, ◌&&◌, is_none, length, not, take}
 use Rattle.std.specs.Prelude.{Option, Some, None, ⊤, ◌∷◌}
@@ -19,9 +20,9 @@ use Rattle.ddcmp_session.specs.Calls.{SessionCall, Connected, TimePassed, LineEn
 use Rattle.ddcmp_session.specs.Calls.{SessionHistory, SessionStep, IsSessionHistory}
 use Rattle.ddcmp_session.specs.Calls.{after_session_steps, end_in}
 
--- What devices have given and taken: the bytes that were read of the input, and whether it has
--- ended; those that came of the line; those that the line took; those that the output took; and
--- what they have reported of themselves.
+-- The traffic of the devices: the bytes read from the input, and whether its end was read; the
+-- bytes read from the line; the bytes written to the line; the bytes written to the output; and the
+-- faults that the devices reported.
 pub record Traffic : Type 0 where
   pub read : List ℕ
   pub is_over : Bool
@@ -33,7 +34,7 @@ pub record Traffic : Type 0 where
 abbrev pub HasReported : Fault → Traffic → Type 0
 HasReported fault t = (before after : List Fault) × (t.faults ≡ before ++ fault ∷ after)
 
--- What was reported has been reported afterwards.
+-- Every fault that was reported before is still reported afterwards.
 abbrev pub KeepsFaults : Option Traffic → Option Traffic → Type 0
 KeepsFaults old new = (before : Traffic) → old ≡ Some before
     → (after : Traffic) × (new ≡ Some after)
@@ -80,19 +81,19 @@ abbrev pub after_written : Transfer → List ℕ → Traffic → Traffic
 after_written (Ended why) bytes t = after_fault Output t
 after_written moved bytes t = record t { written = t.written ++ moved_of moved bytes }
 
--- a wait that could be made, or not
+-- a wait that succeeded, or failed
 abbrev pub after_wait : Bool → Traffic → Traffic
 after_wait true t = t
 after_wait false t = after_fault Input t
 
--- Traffic that was known is known afterwards, and has become this.
+-- If the traffic was known, it is known afterwards, and has changed so.
 abbrev pub Becomes : Option Traffic → Option Traffic → (Traffic → Traffic) → Type 0
 Becomes old new change = (before : Traffic) → old ≡ Some before → new ≡ Some (change before)
 
 -- ---- a session over its devices
 
--- bytes that were read of the input, or came of the line, and that the session hasn't had yet;
--- whether the input has ended; and why the line takes nothing any more, if it doesn't
+-- bytes read from the input or received from the line that the session hasn't used yet; whether the
+-- input has ended; and why nothing more is written to the line, if it is down
 pub record BuffersView : Type 0 where
   pub input : List ℕ
   pub received : List ℕ
@@ -102,13 +103,14 @@ pub record BuffersView : Type 0 where
 abbrev pub nothing_read : BuffersView
 nothing_read = record { input = []; received = []; is_over = false; down = None }
 
--- the end of its last line, if a session was told of the end of its input
+-- the end of its last line, if the session was told that the input has ended
 abbrev pub end_of : SessionHistory → List ℕ
 end_of h = if h.is_told then end_in (form_of h.session.messages) else []
 
--- What was read and what came is what the session has had, and then what it has yet to have. What
--- the line and the output took is what the session has given. If the session was told that the
--- input has ended, a read has said so, and nothing of it is held.
+-- The bytes read from the input and from the line are those that the session used, and then those
+-- that are held. The bytes written to the line and to the output are those that the session passed
+-- to them. If the session was told that its input has ended, a read has returned that end, and no
+-- byte of the input is held.
 pub record Agrees (held : BuffersView) (h : SessionHistory) (t : Traffic) : Type 0 where
   pub read : t.read ++ end_of h ≡ h.input ++ held.input
   pub over : held.is_over ≡ t.is_over
@@ -121,7 +123,8 @@ pub record Agrees (held : BuffersView) (h : SessionHistory) (t : Traffic) : Type
   pub down : (why : Down) → held.down ≡ Some why → HasReported (Line why) t
   pub stands : StandsFor h.session.link.station.line h.used
 
--- a call of a session that leaves its line and its run as they are
+-- a call of a session other than those that connect it, end its line or close it, or that are made
+-- while there is no line
 abbrev pub IsOfRun : SessionCall → Type 0
 IsOfRun Connected = ⊥
 IsOfRun TimePassed = ⊥
@@ -133,7 +136,7 @@ abbrev pub AreOfRun : List SessionStep → Type 0
 AreOfRun [] = ⊤
 AreOfRun (step ∷ rest) = IsOfRun step.call × AreOfRun rest
 
--- The history of a session went on to this one, and agrees with its devices again.
+-- Further calls led the history to this session, and it agrees with its devices again.
 pub record WentOn (h : SessionHistory) (new : SessionView) (held : BuffersView) (t : Traffic)
     : Type 0 where
   pub steps : List SessionStep
@@ -142,8 +145,8 @@ pub record WentOn (h : SessionHistory) (new : SessionView) (held : BuffersView) 
   pub session : (after_session_steps steps h).session ≡ new
   pub agrees : Agrees held (after_session_steps steps h) t
 
--- A session, its buffers and its devices: whatever was before, if it agreed with the devices, went
--- on by calls of the session alone, and agrees with the devices again.
+-- A session with its buffers and devices, before and after a call: any history that agreed with the
+-- devices before is continued by calls of the session alone, and agrees with them again.
 abbrev pub GoesOn : BuffersView → SessionView → Option Traffic
     → BuffersView → SessionView → Option Traffic → Type 0
 GoesOn held old before new_held new after =
@@ -163,11 +166,11 @@ Reports held old before after fault = (h : SessionHistory) (t now : Traffic)
 abbrev pub reads_input : BuffersView → SessionView → Bool
 reads_input held s = not held.is_over && (length held.input == 0) && wants_input s
 
--- the line, if what came before is used
+-- the line, if what was received before is used
 abbrev pub reads_line : BuffersView → SessionView → Bool
 reads_line held s = (length held.received == 0) && wants_line s
 
--- each of them; and standard error, if something waits for it
+-- each of them, and an output if bytes are queued for it
 abbrev pub wanted : Bool → BuffersView → SessionView → Wanted
 wanted errors held s = record {
   input = reads_input held s;
@@ -177,7 +180,7 @@ wanted errors held s = record {
   to_line = is_none held.down && not (length s.link.outbox.waiting == 0);
 }
 
--- ---- how it goes on
+-- ---- how it proceeds
 
 -- Received messages were delivered and output was written, and nothing else.
 pub record OnlyDelivers (old new : SessionView) : Type 0 where
@@ -185,15 +188,15 @@ pub record OnlyDelivers (old new : SessionView) : Type 0 where
   pub outbox : new.link.outbox ≡ old.link.outbox
   pub stays : new ≡ record old { link = new.link; output = new.output }
 
--- no received message waits, or the output has no room for one of any length
+-- no received message is queued, or the output has no room for one of any length
 abbrev pub HoldsMail : SessionView → Type 0
 HoldsMail s =
     (first_message s.link.station.core.station.inbox ≡ None)
     ⊎ (s.output.room < room_for_mail s)
 
--- Nothing is left to be done without a device: what could be sent waits for the line, what was read
--- of the input waits for the station, which was told of its end, and what came of the line waits
--- for room, as do received messages.
+-- Nothing is left to do without a device: the line has frames queued, or there are none to send;
+-- what was read from the input, or its end, waits until the station accepts a message; bytes
+-- received from the line wait for room, and so do received messages.
 pub record IsIdle (held : BuffersView) (s : SessionView) : Type 0 where
   pub filled : IsFilled s
   pub typed : (held.input ≡ []) ⊎ (wants_input s ≡ false)
@@ -201,6 +204,6 @@ pub record IsIdle (held : BuffersView) (s : SessionView) : Type 0 where
   pub fed : (held.received ≡ []) ⊎ (wants_line s ≡ false)
   pub delivered : HoldsMail s
 
--- so it is, and the line isn't down if more of it is wanted
+-- the same, and the line isn't down if it is to be read
 abbrev pub Rests : BuffersView → SessionView → Type 0
 Rests held s = IsIdle held s × ((held.down ≡ None) ⊎ (wants_line s ≡ false))

@@ -11,7 +11,7 @@ use Rattle.ddcmp_station.specs.declared.counts.Layout.TheVariants.{Text}
 use Rattle.ddcmp_station.specs.CountersText.{counter_text, counters_line}
 use Rattle.ddcmp_station.specs.StationText.{state_text}
 
--- what a link counted
+-- the totals of a link
 abbrev pub totals_text : Layout → LinkView → List ℕ
 totals_text layout d =
     counter_text layout (codes "read") d.totals.read
@@ -29,7 +29,7 @@ abbrev pub end_text : Bool → LinkView → List ℕ
 end_text counted d =
     if counted then counters_line [] d.station.core.counters ++ end_line d else end_line d
 
--- a queue as what a text is handed over to, by way of a page
+-- a queue as an output for text, by way of a page
 abbrev pub paged : QueueView → List ℕ → Output
 paged q page = record { broken = q.is_cut; sink = Some q.waiting; waiting = page }
 
@@ -48,7 +48,7 @@ line_down_text why = codes "line down: " ++ down_text why ++ codes "\n"
 abbrev pub pause_text : ℕ → List ℕ
 pause_text seconds = codes "retry in " ++ decimal seconds ++ codes " s\n"
 
--- Standard output took nothing after the time of the run was over.
+-- Standard output was blocked after the time of the run was over.
 abbrev pub unread_text : List ℕ
 unread_text =
     codes "ddcmp: " ++ codes "standard output isn't read: received messages are lost" ++ codes "\n"

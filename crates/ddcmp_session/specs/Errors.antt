@@ -16,8 +16,8 @@ use Rattle.ddcmp_station.specs.StationText.{state_text}
 use Rattle.ddcmp_session.specs.EndText.{queued, totals_text}
 use Rattle.ddcmp_session.specs.declared.errors.TheConstants.{NOTE, SHORT_LINE}
 
--- The lines that wait, how many were left out since the last that found room, how many milliseconds
--- after 1970 the moment 0 is if lines begin with the time of day, and the moment of those to come.
+-- The queued lines, how many were left out since the last that had room, the moment 0 in
+-- milliseconds after 1970 if lines begin with the time of day, and the moment of the next lines.
 pub record ErrorsView : Type 0 where
   pub queue : QueueView
   pub left_out : ℕ
@@ -29,7 +29,7 @@ no_lines size = record { queue = no_bytes size; left_out = 0; began = None; now 
 
 -- ---- the time of day
 
--- that in UTC, so many milliseconds after 1970: 2001-09-09T01:46:40.250Z
+-- the time in UTC at this many milliseconds after 1970: 2001-09-09T01:46:40.250Z
 abbrev pub IsTime : ℕ → List ℕ → Type 0
 IsTime moment text =
     (at : DateTime) × (civil_nanos at ≡ pos (moment * 1_000_000))
@@ -45,7 +45,7 @@ StampsAt before after moment stamp =
     MatchBool (nat_le moment last_time)
     ((time : List ℕ) × IsTime moment time × (stamp ≡ before ++ time ++ after)) (stamp ≡ [])
 
--- the same if lines begin with it
+-- the same if lines begin with the time of day
 abbrev pub Stamps : List ℕ → List ℕ → Option ℕ → ℕ → List ℕ → Type 0
 Stamps before after None now stamp = stamp ≡ []
 Stamps before after (Some began) now stamp = StampsAt before after (began + now) stamp
@@ -58,11 +58,11 @@ left_out_words n = if n == 1 then codes " line left out\n" else codes " lines le
 abbrev pub left_out_text : ℕ → List ℕ
 left_out_text n = codes "ddcmp: " ++ decimal n ++ left_out_words n
 
--- how many there are after one more
+-- the number of lines left out, after one more
 abbrev pub one_more : ℕ → ℕ
 one_more n = min (n + 1) (2 ^ 64 - 1)
 
--- their line, if there are any
+-- the line that reports them, if there are any
 abbrev pub Notes : ErrorsView → List ℕ → Type 0
 Notes e note =
     MatchBool (e.left_out == 0) (note ≡ [])
@@ -71,33 +71,32 @@ Notes e note =
 
 -- ---- lines that are queued
 
--- Room is made, by dropping what was taken.
+-- Room is made by dropping the bytes that were written.
 abbrev pub settled : QueueView → QueueView
 settled q = record q { room = room_settled q }
 
--- a line of so many bytes has room, with a note before it
+-- there is room for a line of `needed` bytes, with a note before it
 abbrev pub has_room : ℕ → ErrorsView → Bool
 has_room needed e = nat_le (needed + NOTE) (room_settled e.queue)
 
--- A line found no room.
+-- There was no room for a line, and it is counted as left out.
 abbrev pub LeftOut : ErrorsView → ErrorsView → Type 0
 LeftOut old new =
     new ≡ record old { queue = settled old.queue; left_out = one_more old.left_out }
 
--- A text was queued, whole, or the queue is cut and has a beginning of it. Nothing else changed.
+-- A text was queued whole, or the queue is cut and has a prefix of it. Nothing else changed.
 pub record Queues (text : List ℕ) (old new : ErrorsView) : Type 0 where
   pub wrote : HandsOver (queued old.queue) (queued new.queue) text
   pub stays : new ≡ record old { queue = new.queue }
 
--- Lines that were left out were reported, if there were any.
+-- The number of lines left out was reported, if there were any.
 pub record HasNoted (old new : ErrorsView) : Type 0 where
   pub note : List ℕ
   pub noted : Notes old note
   pub wrote : HandsOver (queued old.queue) (queued new.queue) note
   pub stays : new ≡ record old { queue = new.queue; left_out = 0 }
 
--- A text was queued after what has to be before it: the line of those that were left out, and the
--- time of day.
+-- A text was queued after what precedes it: the report of lines left out, and the time of day.
 pub record QueuedAs (opening before after text : List ℕ) (old new : ErrorsView) : Type 0 where
   pub note : List ℕ
   pub noted : Notes old note
@@ -114,7 +113,7 @@ abbrev pub HasQueuedObject : List ℕ → ErrorsView → ErrorsView → Type 0
 HasQueuedObject text old new =
     QueuedAs (codes "{") (codes "\"time\":\"") (codes "\",") text old new
 
--- A text that needs so much room was queued if it has that.
+-- A text was queued if there was room for `needed` bytes; otherwise it was counted as left out.
 abbrev pub HasLine : ℕ → List ℕ → ErrorsView → ErrorsView → Type 0
 HasLine needed text old new =
     MatchBool (has_room needed old) (HasQueued text old new) (LeftOut old new)
@@ -132,13 +131,13 @@ abbrev pub refused_text : List ℕ → ℕ → List ℕ → List ℕ
 refused_text part number why =
     codes "ddcmp: " ++ part ++ decimal number ++ codes ": " ++ why ++ codes "\n"
 
--- all that a link has counted, in one line
+-- all counters of a link, in one line
 abbrev pub report_text : ℕ → LinkView → List ℕ
 report_text lost d =
     codes "report state=" ++ state_text d.station.core.station.state ++ totals_text Text d
     ++ counter_text Text (codes "lost") lost ++ counters_line (codes " ") d.station.core.counters
 
--- the same as the members of an object, and its end
+-- the same as the members of a JSON object, with its closing brace
 abbrev pub report_members : ℕ → LinkView → List ℕ
 report_members lost d =
     codes "\"event\":\"report\""
@@ -146,7 +145,7 @@ report_members lost d =
     ++ totals_text Json d ++ counter_text Json (codes "lost") lost
     ++ counts_text Json d.station.core.counters ++ codes "}\n"
 
--- why a line is left on which nothing gets on
+-- why a line without progress is left
 abbrev pub given_up_text : Option Nak → List ℕ
 given_up_text None = codes "ddcmp: peer " ++ codes "doesn't answer" ++ codes "\n"
 given_up_text (Some reason) =
@@ -154,7 +153,7 @@ given_up_text (Some reason) =
 
 -- ---- lines that were written
 
--- Lines were left out, and a note of that has room.
+-- Lines were left out, and there is room for a note of that.
 abbrev pub reports_left_out : ErrorsView → Bool
 reports_left_out e = not (e.left_out == 0) && nat_le NOTE e.queue.room
 
@@ -165,7 +164,7 @@ abbrev pub after_written : ℕ → ErrorsView → ErrorsView
 after_written n e =
     record e { queue = after_taken (min n (length e.queue.waiting)) e.queue }
 
--- Bytes were written; once all are, lines that were left out are reported.
+-- Bytes were written; once all are, the number of lines left out is reported.
 abbrev pub Took : ℕ → ErrorsView → ErrorsView → Type 0
 Took n old new =
     MatchBool (nat_le (length old.queue.waiting) n) (ReportsLeftOut (after_written n old) new)

@@ -1,4 +1,4 @@
--- The end of a run: what was received is delivered, and then the last lines are written.
+-- The end of a run: received messages are delivered, and then the last lines are written.
 use Rattle.std.specs.Prelude.{◌≡◌, ◌≤◌, ⊤, ℕ, Bool, true, false, List, [], ◌∷◌, ◌++◌}
 use Rattle.std.specs.Prelude.{Option, None, Some}
 use Rattle.ddcmp_io.specs.Written.{HandsOver}
@@ -19,7 +19,7 @@ IsDelivery (Delivered has_mail) = ⊤
 IsDelivery (OutputTook n) = ⊤
 IsDelivery _ = ⊥
 
--- Each step is such a call, and they lead from this session to that one.
+-- Each step is such a call, and the steps lead from the one session to the other.
 abbrev pub AreDeliveries : List SessionStep → SessionView → SessionView → Type 0
 AreDeliveries [] old new = new ≡ old
 AreDeliveries (step ∷ rest) old new =
@@ -27,7 +27,7 @@ AreDeliveries (step ∷ rest) old new =
     × SessionDoes step.call [] old step.session
     × AreDeliveries rest step.session new
 
--- what the output took in them
+-- the bytes that the output took in these steps
 unfoldable pub taken_in : List SessionStep → SessionView → List ℕ
 taken_in [] s = []
 taken_in (step ∷ rest) s = written_in step.call s ++ taken_in rest step.session
@@ -37,8 +37,8 @@ abbrev pub after_taken_by : List ℕ → List Fault → Traffic → Traffic
 after_taken_by bytes faults t =
     record t { written = t.written ++ bytes; faults = t.faults ++ faults }
 
--- Received messages were delivered and output was written, and nothing else, whatever was before.
--- What the output took of that is all that the devices have given or taken.
+-- Received messages were delivered and output was written, and nothing else was done. The devices
+-- moved no bytes but those that the output took.
 pub record Drains (old : SessionView) (before : Option Traffic) (new : SessionView)
     (after : Option Traffic) : Type 0 where
   pub steps : List SessionStep
@@ -50,7 +50,7 @@ pub record Drains (old : SessionView) (before : Option Traffic) (new : SessionVi
 abbrev pub HasRoomIfEmpty : SessionView → Type 0
 HasRoomIfEmpty s = s.output.waiting ≡ [] → s.output.room ≡ s.output.size
 
--- Nothing waits for the output, and no received message waits for room there, if the output is
+-- Nothing is queued for the output, and no received message waits for room there, if the output is
 -- large enough for one, as that of each new session is.
 pub record IsDrained (s : SessionView) : Type 0 where
   pub waiting : s.output.waiting ≡ []
@@ -59,7 +59,8 @@ pub record IsDrained (s : SessionView) : Type 0 where
 
 -- ---- the last lines
 
--- They were written after what waits for the output; in binary they are no part of it.
+-- The last lines were written after the queued output; with messages in binary they are no part of
+-- it.
 pub record WritesEnd (old new : SessionView) : Type 0 where
   pub lines : form_of old.messages ≡ Digits
       → HandsOver (queued old.output) (queued new.output)
@@ -71,8 +72,8 @@ abbrev pub WritesEndIf : Bool → SessionView → SessionView → Type 0
 WritesEndIf true old new = WritesEnd old new
 WritesEndIf false old new = new ≡ old
 
--- After its run a session delivered what it had received. The last lines were written once that was
--- taken, and taken then, if it says that it ended well.
+-- After its run a session delivered the messages that it had received. The last lines were written
+-- once the output had taken these, and were taken as well if the run is reported as ended well.
 pub record Finishes (is_well : Bool) (old : SessionView) (before : Option Traffic)
     (new : SessionView) (after : Option Traffic) : Type 0 where
   pub delivered : SessionView

@@ -1,4 +1,4 @@
--- How a session goes on over its devices, over one line after the other, and how its run ends.
+-- How a session runs over its devices, over one line after the other, and how its run ends.
 use Rattle.std.specs.Prelude.{◌≡◌, ◌≤◌, ◌⊎◌, ⊤, Bool, true, List, [], ◌∷◌, Option, Some, None}
 use Rattle.ddcmp_window.specs.Store.{first_message}
 use Rattle.ddcmp_session.specs.Session.{SessionView, is_delivered, room_for_mail}
@@ -8,15 +8,15 @@ use Rattle.ddcmp_session.specs.Connections.{Connection, AreDone, after_all, afte
 use Rattle.ddcmp_session.specs.Devices.{Agrees, BuffersView, HasReported, Traffic}
 use Rattle.ddcmp_session.specs.declared.devices.Fault.{Fault}
 
--- a line was opened: what it gives and takes begins anew
+-- a line was opened: its traffic restarts empty
 abbrev pub line_begun : Traffic → Traffic
 line_begun t = record t { came = []; gone = [] }
 
--- nothing has come over it yet
+-- nothing was received over it yet
 abbrev pub none_received : BuffersView → BuffersView
 none_received held = record held { received = []; down = None }
 
--- a call after which the run goes on
+-- a call other than `close`
 abbrev pub KeepsOpen : SessionCall → Type 0
 KeepsOpen (Closed left is_at_end is_reported) = ⊥
 KeepsOpen _ = ⊤
@@ -25,7 +25,7 @@ abbrev pub AllKeepOpen : List SessionStep → Type 0
 AllKeepOpen [] = ⊤
 AllKeepOpen (step ∷ rest) = KeepsOpen step.call × AllKeepOpen rest
 
--- It has no received message left, if its output is large enough for one, as that of each new
+-- No received message is undelivered, if the output is large enough for one, as that of each new
 -- session is.
 abbrev pub IsReady : SessionView → Type 0
 IsReady s = room_for_mail s ≤ s.output.size
@@ -35,14 +35,15 @@ abbrev pub ReadyIf : SessionCall → SessionView → Type 0
 ReadyIf Connected s = IsReady s
 ReadyIf _ s = ⊤
 
--- Each call that connects a session finds it so.
+-- The session is ready before each call that connects it.
 abbrev pub AllReady : List SessionStep → Connection → Type 0
 AllReady [] c = ⊤
 AllReady (step ∷ rest) c =
     ReadyIf step.call c.history.session × AllReady rest (after_step step c)
 
--- The history of a session went on to this one, over as many lines as it was connected on, without
--- closing it, and agrees with its devices again. If it began so, it was ready for each line.
+-- Further calls led the history of a session to this one, over as many lines as it was connected
+-- on, without closing it, and it agrees with its devices again. If `Begins` holds, the session was
+-- ready for each line.
 pub record WentOver (Begins : Type 0) (c : Connection) (new : SessionView) (held : BuffersView)
     (t : Traffic) : Type 0 where
   pub steps : List SessionStep
@@ -59,7 +60,7 @@ GoesIf Begins held old before new_held new after =
     → Agrees held c.history t
     → (t' : Traffic) × (after ≡ Some t') × WentOver Begins c new new_held t'
 
--- over its lines, ready for each if it is ready for the first
+-- over its lines; it was ready for each if it is ready for the first
 abbrev pub GoesOver : BuffersView → SessionView → Option Traffic
     → BuffersView → SessionView → Option Traffic → Type 0
 GoesOver held old before new_held new after =
@@ -77,7 +78,7 @@ ReportsOver held old before after fault = (c : Connection) (t now : Traffic)
     → c.history.session ≡ old → before ≡ Some t → Agrees held c.history t → after ≡ Some now
     → HasReported fault now
 
--- The session was closed, with what is held of its input, and agrees with its devices as before.
+-- The session was closed with the input that is held, and agrees with its devices as before.
 pub record Closes (held : BuffersView) (old new : SessionView) : Type 0 where
   pub is_reported : Bool
   pub closed : HasClosed held.input held.is_over is_reported old new
@@ -87,11 +88,11 @@ pub record Closes (held : BuffersView) (old new : SessionView) : Type 0 where
         session = new;
       }) h) t
 
--- A run may end well once all is delivered, or if its station has run before its last line ended.
+-- A run may end well if all is delivered, or if its station ran over some line.
 abbrev pub MayEndWell : SessionView → Type 0
 MayEndWell s = (is_delivered s ≡ true) ⊎ (s.course.has_run ≡ true)
 
--- A session went on over its lines, and was closed then; it may have ended well if it says so.
+-- A session ran over its lines and was then closed; if it reports that it ended well, it may.
 pub record Ends (is_well : Bool) (held : BuffersView) (old : SessionView)
     (before : Option Traffic) (new_held : BuffersView) (new : SessionView)
     (after : Option Traffic) : Type 0 where

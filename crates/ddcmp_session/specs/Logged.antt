@@ -1,4 +1,4 @@
--- A session with all that it has for standard error, and what each call puts there.
+-- A session with its standard error, and what each call writes there.
 use Rattle.std.specs.Prelude.{◌≡◌, ℕ, ◌+◌, ◌*◌, ◌==◌, ◌&&◌, not, Bool, true, false, MatchBool}
 use Rattle.std.specs.Prelude.{if◌then◌else◌, Option, None, Some, List, [], ◌∷◌, option_to_list}
 use Rattle.ddcmp_core.specs.declared.notice.Notice.{Notice}
@@ -25,8 +25,8 @@ use Rattle.ddcmp_session.specs.Text.{dropped_by, lost_line}
 use Rattle.ddcmp_session.specs.Timing.{is_given_up, stays}
 use Rattle.ddcmp_session.specs.Trace.{TraceView, HasLines, timer_lines}
 
--- The lines that wait, the trace of its line if there is one, and how many messages of its input
--- were read.
+-- The queued lines, the trace of the line if there is one, and how many messages of the input were
+-- read.
 pub record LogView : Type 0 where
   pub errors : ErrorsView
   pub trace : Option TraceView
@@ -43,12 +43,12 @@ abbrev pub read_with : Entry → Messages → ℕ → ℕ
 read_with NotHexadecimal m n = if is_question m then n else total_plus n 1
 read_with _ m n = total_plus n 1
 
--- after what bytes complete, which is one part at most
+-- after the parts that bytes complete, of which there is at most one
 abbrev pub read_after : List Entry → Messages → ℕ → ℕ
 read_after [] m n = n
 read_after (entry ∷ rest) m n = read_with entry m n
 
--- A message counts too whose end is missing.
+-- A message whose end is missing counts, too.
 abbrev pub read_unfinished : Messages → ℕ → ℕ
 read_unfinished m n = if is_message_unfinished m then total_plus n 1 else n
 
@@ -57,9 +57,9 @@ abbrev pub read_at_end : Messages → ℕ → ℕ
 read_at_end m n = read_unfinished (after_last m)
     (read_after (option_to_list (entry_of_last m)) (after_last m) n)
 
--- ---- what is put on standard error
+-- ---- what is written to standard error
 
--- A trace went on so, and put its lines there; nothing, if there is none.
+-- The trace was continued so, and wrote its lines; nothing changed if there is no trace.
 abbrev pub Traces : (TraceView → TraceView → ErrorsView → ErrorsView → Type 0) → Option TraceView
     → LogView → LogView → Type 0
 Traces goes None old new = new ≡ old
@@ -67,26 +67,26 @@ Traces goes (Some before) old new =
     (after : TraceView) × goes before after old.errors new.errors
     × (new ≡ record old { errors = new.errors; trace = Some after })
 
--- the moment is this, and the timer has expired, or not
+-- The trace notes the moment, and writes a line if the timer has expired.
 abbrev pub Wakes : ℕ → Bool → TraceView → TraceView → ErrorsView → ErrorsView → Type 0
 Wakes now has_expired before after old new =
     (after ≡ record before { now = now })
     × HasLines before.spared (timer_lines now has_expired) old new
 
--- all that a link has counted, as a line or as an object
+-- all counters of a link, as a line or as a JSON object
 abbrev pub HasReport : Bool → ℕ → LinkView → ErrorsView → ErrorsView → Type 0
 HasReport false lost d old new = HasLine (END_ROOM + LAST_ROOM) (report_text lost d) old new
 HasReport true lost d old new =
     HasObject (2 * END_ROOM + LAST_ROOM) (report_members lost d) old new
 
--- how many accepted messages were dropped, if any, with messages in binary; else standard output
--- has it
+-- how many accepted messages were dropped, if any, with messages in binary; otherwise this goes to
+-- standard output
 abbrev pub HasLost : Form → ℕ → ErrorsView → ErrorsView → Type 0
 HasLost form.Digits count old new = new ≡ old
 HasLost form.Binary count old new =
     MatchBool (count == 0) (new ≡ old) (HasLine SHORT_LINE (lost_line count) old new)
 
--- a notice, and what it drops
+-- a notice, and how many messages it drops
 abbrev pub HasNotice : Form → Notice → ErrorsView → ErrorsView → Type 0
 HasNotice form.Digits notice old new = new ≡ old
 HasNotice form.Binary notice old new =
@@ -108,7 +108,7 @@ abbrev pub HasEnd : Bool → LinkView → ErrorsView → ErrorsView → Type 0
 HasEnd counted d old new =
     (mid : ErrorsView) × HasCounters counted d old mid × HasLine END_ROOM (end_line d) mid new
 
--- the moment passed, and a report of the counters, if one was due
+-- The moment is noted, and a report of the counters is written, if one is due.
 abbrev pub at_moment : ℕ → ErrorsView → ErrorsView
 at_moment now e = record e { now = now }
 
@@ -118,19 +118,19 @@ PassesMoment now s old new =
     (HasReport s.options.json s.course.lost s.link (at_moment now old.errors) new)
     (new ≡ at_moment now old.errors)
 
--- why its line is left, if it is since the peer doesn't answer, or refuses
+-- why the line is left, if the peer doesn't reply or refuses messages
 abbrev pub ReportsGivenUp : SessionView → ErrorsView → ErrorsView → Type 0
 ReportsGivenUp s old new =
     MatchBool (is_given_up s) (HasLine SHORT_LINE (given_up_text s.course.refusal) old new)
     (new ≡ old)
 
--- why its line is down, unless all is delivered that was to be
+-- why the line is down, unless all is delivered and the session ends with that
 abbrev pub ReportsDown : Down → SessionView → ErrorsView → ErrorsView → Type 0
 ReportsDown why s old new =
     MatchBool (is_delivered s && not (stays s)) (new ≡ old)
     (HasLine SHORT_LINE (line_down_text why) old new)
 
--- a session once an expiry was counted
+-- a session after an expiry was counted
 abbrev pub tried : ℕ → SessionView → SessionView
 tried now s = after_tried (expires now s) (record s {
   link = after_wake now s.link;

@@ -9,7 +9,7 @@ use Rattle.ddcmp_session.specs.declared.messages.Form.TheVariants as form
 use Rattle.ddcmp_session.specs.declared.messages.Messages.{Messages}
 use Rattle.ddcmp_session.specs.declared.messages.Messages.TheVariants.{Digits, Binary}
 
--- nothing has come
+-- before any input
 abbrev pub messages_begun : Form → ℕ → Messages
 messages_begun form.Digits max = Digits (lines.begun max)
 messages_begun form.Binary max = Binary (lengths.begun max)
@@ -19,7 +19,7 @@ abbrev pub message_in : Messages → List ℕ
 message_in (Digits v) = v.message
 message_in (Binary v) = v.message
 
--- bytes of the input, and what each of them completes
+-- the reader after bytes of the input, and the parts that they complete
 abbrev pub after_input : List ℕ → Messages → Messages
 after_input bytes (Digits v) = Digits (lines.after_bytes bytes v)
 after_input bytes (Binary v) = Binary (lengths.after_bytes bytes v)
@@ -50,7 +50,7 @@ unfoldable pub messages_among : List Entry → ℕ
 messages_among [] = 0
 messages_among (entry ∷ rest) = count_message entry + messages_among rest
 
--- a message in binary has begun, and its end is to come
+-- a message in binary has begun, and its end wasn't read yet
 abbrev pub is_message_unfinished : Messages → Bool
 is_message_unfinished (Digits v) = false
 is_message_unfinished (Binary v) = lengths.is_unfinished v.place

@@ -11,11 +11,11 @@ use Rattle.ddcmp_session.specs.Devices.{BuffersView, Traffic, nothing_read}
 use Rattle.ddcmp_session.specs.Finishing.{RunsToEnd}
 use Rattle.ddcmp_session.specs.Lines.{ReportsOver}
 
--- how a run that ended well is reported: a part of the input may have been no message
+-- how a run that ended well is reported, depending on whether a part of the input was refused
 abbrev pub served_of : SessionView → LinkOutcome
 served_of s = if s.was_refused then SomeRefused else Delivered
 
--- A session was made with these options, and ran to its end: as the last.
+-- A session was made with these options, and ran to its end as `last`.
 pub record RunsNew (is_well : Bool) (options : Options) (kind : LineKind) (before : Option Traffic)
     (last : SessionView) (after : Option Traffic) : Type 0 where
   pub line : ReaderView
@@ -23,7 +23,8 @@ pub record RunsNew (is_well : Bool) (options : Options) (kind : LineKind) (befor
   pub held : BuffersView
   pub ends : RunsToEnd is_well nothing_read (session_made options kind line) before held last after
 
--- If such a session is made, some device has reported this fault, over some line of its run.
+-- A session was made with these options, and some device has reported this fault, over some line of
+-- its run.
 pub record ReportsNew (options : Options) (kind : LineKind) (before after : Option Traffic)
     (fault : Fault) : Type 0 where
   pub line : ReaderView

@@ -1,4 +1,4 @@
--- What a new session has for standard error, and what it puts there of its input.
+-- The log of a new session, and what it writes to standard error about its input.
 use Rattle.std.specs.Prelude.{◌≡◌, ℕ, ◌+◌, ◌*◌, Bool, true, false, MatchBool, if◌then◌else◌}
 use Rattle.std.specs.Prelude.{Option, None, Some, List, [], ◌∷◌, codes, max, min}
 use Rattle.std.specs.Prelude.{option_to_list}
@@ -30,11 +30,11 @@ errors_room o = if o.trace then 8 * ERRORS_ROOM else ERRORS_ROOM
 abbrev pub log_made : Options → Option TraceView → LogView
 log_made o trace = record { errors = no_lines (errors_room o); trace = trace; read = 0 }
 
--- the longest message that a trace shows: 14 bits hold its length
+-- the longest message that a trace shows; a length has 14 bits
 abbrev pub traced_length : Options → ℕ
 traced_length o = min (max o.config.max 1) 16383
 
--- Nothing is traced yet; room is left to a received message and a notice of what is lost.
+-- Nothing is traced yet; room is left for a received message and a report of what is lost.
 pub record IsNewTrace (o : Options) (t : TraceView) : Type 0 where
   pub sent : IsNew (traced_length o) t.sent
   pub came : IsNew (traced_length o) t.came
@@ -52,7 +52,7 @@ abbrev pub line_number : Messages → Option ℕ
 line_number (Digits v) = Some v.number
 line_number (Binary v) = None
 
--- what it is called, and its number, if so many were read
+-- the name and the number of such a part, after `read` messages were read
 abbrev pub part_name : Messages → List ℕ
 part_name (Digits v) = codes "line "
 part_name (Binary v) = codes "message "
@@ -68,20 +68,20 @@ reason_text NotHexadecimal = codes "not hexadecimal"
 reason_text TooLong = codes "too long"
 reason_text Empty = codes "empty"
 
--- The part that was read last is reported for this reason.
+-- The part that was read last is reported, with this reason.
 abbrev pub HasRefused : List ℕ → Messages → ℕ → ErrorsView → ErrorsView → Type 0
 HasRefused why m read old new =
     HasLine SHORT_LINE (refused_text (part_name m) (part_number m read) why) old new
 
--- It counts as one that was read.
+-- Such a part counts as a message that was read.
 abbrev pub RefusesEntry : Entry → Messages → ℕ → ErrorsView → ErrorsView → Type 0
 RefusesEntry entry m read old new = HasRefused (reason_text entry) m (total_plus read 1) old new
 
--- the reason of a part whose end hasn't come
+-- the reason for a part whose end is missing
 abbrev pub unfinished_text : List ℕ
 unfinished_text = codes "unfinished"
 
--- A message in binary whose end is missing is reported, and counts as one that was read.
+-- A message in binary whose end is missing is reported, and counts as read.
 abbrev pub RefusesUnfinished : Messages → ℕ → ErrorsView → ErrorsView → Type 0
 RefusesUnfinished m read old new =
     MatchBool (is_message_unfinished m)
@@ -89,7 +89,7 @@ RefusesUnfinished m read old new =
 
 -- ---- while the session runs
 
--- Of a message nothing is reported, of a question the counters.
+-- For a message nothing is reported; for a question the counters are.
 abbrev pub ReportsEntry : Entry → LoggedSession → ErrorsView → Type 0
 ReportsEntry Message s new = new ≡ s.log.errors
 ReportsEntry NotHexadecimal s new = MatchBool (is_question s.state.messages)
@@ -102,7 +102,7 @@ abbrev pub ReportsEach : List Entry → LoggedSession → ErrorsView → Type 0
 ReportsEach [] s new = new ≡ s.log.errors
 ReportsEach (entry ∷ rest) s new = ReportsEntry entry s new
 
--- bytes of the input came, or its end
+-- the session after its reader read input, or the end of the input
 abbrev pub with_messages : Messages → LoggedSession → LoggedSession
 with_messages m s = record s { state = record s.state { messages = m } }
 
@@ -124,9 +124,9 @@ ReportsLast s new =
     (read_after (option_to_list (entry_of_last s.state.messages)) (after_last s.state.messages)
     s.log.read) mid new
 
--- ---- after it ran
+-- ---- after the run
 
--- Of what is dropped no message is reported, and no question.
+-- Of dropped input neither messages nor questions are reported.
 abbrev pub DropsEntry : Entry → Messages → ℕ → ErrorsView → ErrorsView → Type 0
 DropsEntry Message m read old new = new ≡ old
 DropsEntry NotHexadecimal m read old new =
@@ -137,7 +137,7 @@ abbrev pub DropsEach : List Entry → Messages → ℕ → ErrorsView → Errors
 DropsEach [] m read old new = new ≡ old
 DropsEach (entry ∷ rest) m read old new = DropsEntry entry m read old new
 
--- A last line is reported whose end hasn't come.
+-- A last line whose end is missing is reported.
 abbrev pub CutsEach : List Entry → Messages → ℕ → ErrorsView → ErrorsView → Type 0
 CutsEach [] m read old new = new ≡ old
 CutsEach (entry ∷ rest) m read old new = HasRefused unfinished_text m read old new
@@ -217,14 +217,14 @@ DropsEnd false is_at_end m old new =
     })
     × (new.was_refused ≡ refused_at_last is_at_end m old.was_refused)
 
--- all of the input that wasn't sent
+-- all of the input that is left
 abbrev pub DropsInput : List ℕ → Bool → LoggedSession → Dropping → Type 0
 DropsInput bytes is_at_end s new =
     (mid : Dropping)
     × DropsBytes bytes s.state.messages (dropping s) mid
     × DropsEnd s.state.is_read is_at_end (after_input bytes s.state.messages) mid new
 
--- Then a session was closed: what its line had accepted is lost, too.
+-- Then the session was closed: its accepted messages that aren't acknowledged are lost, too.
 pub record ClosesLog (left : List ℕ) (is_at_end : Bool) (old new : LoggedSession) : Type 0 where
   pub dropped : Dropping
   pub drops : DropsInput left is_at_end old dropped

@@ -34,9 +34,9 @@ use Rattle.ddcmp_session.specs.Messages.{messages_among}
 use Rattle.ddcmp_session.specs.declared.session.TheConstants.{OUTPUT_ROOM}
 use Rattle.ddcmp_io.specs.Queue.{QueueView, no_bytes}
 
--- How it runs, and over what kind of line; its link, whether that has a line, and how the run gets
--- on; what was read of its input so far, whether all of it was, and whether a part of it was no
--- message; and what waits for standard output.
+-- The options and the kind of line; the link, whether it has a line, and how the run proceeds; what
+-- was read of the input so far, whether its end was read, and whether a part of it was refused; and
+-- the bytes queued for standard output.
 pub record SessionView : Type 0 where
   pub options : Options
   pub kind : LineKind
@@ -52,11 +52,11 @@ abbrev pub form_of : Messages → Form
 form_of (Digits v) = form.Digits
 form_of (Binary v) = form.Binary
 
--- reports of the counters, every so many milliseconds
+-- the milliseconds between two reports of the counters
 abbrev pub report_ms : Options → ℕ
 report_ms o = 1000 * o.report
 
--- a session that was made, whose line has had no bytes
+-- a new session, whose line has received no bytes
 abbrev pub session_made : Options → LineKind → ReaderView → SessionView
 session_made options kind line = record {
   options = options;
@@ -70,13 +70,13 @@ session_made options kind line = record {
   output = no_bytes (OUTPUT_ROOM + 2 * (2 * options.config.max + LINE_ROOM));
 }
 
--- ---- its messages are of data, or of maintenance: numbered and acknowledged, or neither
+-- ---- data messages, numbered and acknowledged, or maintenance messages, neither
 
--- the line has taken all that was accepted
+-- all accepted messages were written to the line
 abbrev pub has_gone : LinkView → Bool
 has_gone d = length d.station.core.station.out == 0 && length d.outbox.waiting == 0
 
--- A maintenance message is accepted once all before it has gone.
+-- A maintenance message is accepted once all before it were written to the line.
 abbrev pub takes_in : Bool → LinkView → Bool
 takes_in maintenance d =
     if maintenance then is_maintenance (state_of d).state && has_gone d else takes_message d
@@ -94,7 +94,7 @@ after_connecting_in maintenance starts c =
     if maintenance then after_entering starts c else after_connecting c
 
 -- how many messages are lost with a line: those that aren't acknowledged, or the maintenance
--- message that hasn't gone
+-- message that isn't written yet
 abbrev pub lost_in : Bool → LinkView → ℕ
 lost_in maintenance d =
     if maintenance then (if has_gone d then 0 else 1) else length d.station.core.station.out
@@ -136,22 +136,22 @@ after_input_end s = if wants_input s then after_unfinished (after_last_line s) e
 
 -- ---- the line
 
--- there is one, and a notice has room, and so has what comes with it
+-- there is a line, and there is room for a received message, a notice and the lines with it
 abbrev pub wants_line : SessionView → Bool
 wants_line s =
     s.has_line
     && has_room s.link.station.core.limits s.link.station.core.station
     && nat_le LINE_ROOM s.output.room
 
--- a message of any length has room
+-- the room that a message of any length needs
 abbrev pub room_for_mail : SessionView → ℕ
 room_for_mail s = 2 * s.link.station.core.limits.longest + LINE_ROOM
 
--- the next frame carries a message, and these wait for the peer
+-- the next frame carries a message, and messages are held back since the peer refuses them
 abbrev pub is_paused : SessionView → Bool
 is_paused s = is_some s.course.pause && carries_message s.link
 
--- something waits for the line, or there is no frame to put there, or only a message that waits
+-- bytes are queued for the line, or there is no frame to send, or only one that is held back
 abbrev pub IsFilled : SessionView → Type 0
 IsFilled s =
     (0 < length s.link.outbox.waiting) ⊎ (puts_frame s.link ≡ false) ⊎ (is_paused s ≡ true)
@@ -160,14 +160,14 @@ IsFilled s =
 abbrev pub lost_by_end : SessionView → ℕ
 lost_by_end s = if s.has_line then lost_in s.options.maintenance s.link else 0
 
--- the line of a loss has room
+-- the output has room to report a loss
 abbrev pub reports_loss : SessionView → Bool
 reports_loss s = nat_le LOST_ROOM s.output.room
 
--- ---- the line begins, and is looked after
+-- ---- the line is opened and its timers are handled
 
--- A session was connected, and starts if all received messages were delivered. If not, what it had
--- on the line before is lost when it starts, or this one ends.
+-- A session that is connected starts if all received messages were delivered. If not, its
+-- unacknowledged messages are lost when it starts, or when the line ends.
 abbrev pub starts : SessionView → Bool
 starts s = is_ok (answer_to_start (after_halt s.link.station.core.station))
 
@@ -189,7 +189,7 @@ abbrev pub expires : ℕ → SessionView → Bool
 expires now s =
     expires_at s.link.milliseconds now s.link.station.core.station.timer s.link.deadline
 
--- a peer isn't there yet: on a line that is no connection it may begin at any time
+-- no peer has started yet: on a line that is no connection it may start at any time
 abbrev pub is_connection : LineKind → Bool
 is_connection Connect = true
 is_connection Listen = true
@@ -198,17 +198,17 @@ is_connection _ = false
 abbrev pub awaits_peer : SessionView → Bool
 awaits_peer s = not (is_connection s.kind) && not s.course.peer_has_started
 
--- the moment passed without a line
+-- a moment passed without a line
 abbrev pub after_time : ℕ → SessionView → SessionView
 after_time now s = record s { course = after_moment (report_ms s.options) now s.course }
 
--- An expiry is a try, if a peer is there.
+-- An expiry counts as a try if a peer is there.
 abbrev pub after_tried : Bool → SessionView → SessionView
 after_tried has_expired s = record s {
   course = if has_expired && not (awaits_peer s) then try_counted None s.course else s.course;
 }
 
--- a peer that isn't read can't be heard out
+-- While the line isn't read the peer doesn't count as quiet.
 abbrev pub after_unheard : SessionView → SessionView
 after_unheard s = record s {
   course = if wants_line s then s.course else record s.course { quiet_since = s.course.moment };
@@ -220,7 +220,7 @@ after_timeout now s = after_unheard (after_tried (expires now s) (record s {
   course = after_pause (after_moment (report_ms s.options) now s.course);
 }))
 
--- bytes of the line were taken, after which the link is this, and these notices came
+-- the course after bytes of the line were used, with the link after that and their notices
 abbrev pub course_received : SessionView → LinkView → List Notice → Course
 course_received s link notices =
     if wants_line s
@@ -228,19 +228,20 @@ course_received s link notices =
     (after_looked s.options.timer_ms s.link.station.core.counters.nak_received link s.course)
     else s.course
 
--- so many bytes of the line were used, and these notices came, of which there is at most one
+-- the totals after this number of bytes of the line was used, with their notices, of which there is
+-- at most one
 abbrev pub totals_received : ℕ → List Notice → Totals → Totals
 totals_received used [] t = totals_after_feed used None t
 totals_received used (notice ∷ rest) t = totals_after_feed used (Some notice) t
 
 -- ---- the end
 
--- all of the input was read, and what it had of messages is acknowledged, or has gone if these are
--- of maintenance
+-- all of the input was read, and its messages are acknowledged, or written to the line if these are
+-- maintenance messages
 abbrev pub is_delivered : SessionView → Bool
 is_delivered s = s.is_read && delivered s.link
 
--- how many messages are lost with bytes of the input that it hasn't had when the run ends
+-- how many messages are lost with bytes of the input that the session hasn't read when the run ends
 abbrev pub lost_among : List ℕ → SessionView → ℕ
 lost_among bytes s = messages_among (entries_of_input bytes s.messages)
 

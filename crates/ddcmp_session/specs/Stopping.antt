@@ -1,4 +1,4 @@
--- Why a run over lines stops, as its session is once its lines have ended, before it is closed.
+-- Why a run over lines stops; the session is that after its lines ended and before it is closed.
 use Rattle.std.specs.Prelude.{◌≡◌, ◌≢◌, ◌⊎◌, ℕ, false, [], Option, Some, Result, Ok, Err}
 use Rattle.ddcmp_session.specs.declared.buffers.lines.Stop.TheVariants.{the_data, Device, Left}
 use Rattle.ddcmp_session.specs.declared.buffers.lines.Stop.TheVariants.{Lost, NotOpened, Unread}
@@ -10,13 +10,13 @@ use Rattle.ddcmp_session.specs.Lines.{ReportsOver}
 use Rattle.ddcmp_session.specs.Session.{SessionView, after_connected, starts}
 use Rattle.ddcmp_session.specs.Timing.{end, reopens}
 
--- It was connected although received messages were left, and so didn't start.
+-- The session was connected while received messages were undelivered, and so didn't start.
 pub record HasNotStarted (s : SessionView) : Type 0 where
   pub before : SessionView
   pub refused : starts before ≡ false
   pub connected : s ≡ after_connected s.link.station.line before
 
--- The peer has restarted, or there were too many tries; or the line has reported that it is down.
+-- The peer has restarted, or there were too many tries, or the line is reported as down.
 abbrev pub LeavesLine : BuffersView → SessionView → Option Traffic → SessionView → Option Traffic
     → Type 0
 LeavesLine held old before s after =
@@ -24,20 +24,20 @@ LeavesLine held old before s after =
     ⊎ ((end s ≡ Some end_of.GivenUp)
     ⊎ ((why : Down) × ReportsOver held old before after (fault.Line why)))
 
--- so the line was left, and isn't opened again
+-- the line was left for such a reason and isn't opened again, or the session didn't start
 abbrev pub IsLeft : BuffersView → SessionView → Option Traffic → SessionView → Option Traffic
     → Type 0
 IsLeft held old before s after =
     HasNotStarted s ⊎ ((reopens s ≡ false) × LeavesLine held old before s after)
 
--- The time of the run is over, or that of an output, for which something waits; or a wait failed.
+-- The time of the run is over, or an output with queued bytes timed out, or a wait failed.
 abbrev pub IsTimeOver : BuffersView → SessionView → Option Traffic → SessionView → Option Traffic
     → Type 0
 IsTimeOver held old before s after =
     (end s ≡ Some end_of.Time)
     ⊎ ((s.output.waiting ≢ []) ⊎ ReportsOver held old before after fault.Input)
 
--- all is delivered, or the line was left, or a time is over
+-- all is delivered, or the line was left, or a time limit was reached
 abbrev pub MayStop : BuffersView → SessionView → Option Traffic → SessionView → Option Traffic
     → Type 0
 MayStop held old before s after =
@@ -48,7 +48,7 @@ MayStop held old before s after =
 abbrev pub IfNotOpened : {A R : Type 0} → Result A (the_data R) → Type 0 → Type 0
 IfNotOpened {A} {R} result Then = (refusal : R) → result ≡ Err (NotOpened refusal) → Then
 
--- The run returned this for one of the reasons that there are for that.
+-- The run returned this result for a reason that explains it.
 pub record Stops {R : Type 0} (result : Result (Unit {0}) (the_data R)) (held : BuffersView)
     (old : SessionView) (before : Option Traffic) (s : SessionView) (after : Option Traffic)
     : Type 0 where
@@ -59,8 +59,8 @@ pub record Stops {R : Type 0} (result : Result (Unit {0}) (the_data R)) (held : 
   pub shut : IfNotOpened result (s.options.again ≡ false)
   pub time : result ≡ Err (Device fault.Time) → IsTimeOver held old before s after
 
--- A run to its end returned this so too; but it is out of time also if the output took nothing once
--- its lines had ended for one of them.
+-- The same for a run to its end; but it may also time out if the output took nothing after its
+-- lines had ended for such a reason.
 pub record StopsToEnd {R : Type 0} (result : Result (Unit {0}) (the_data R)) (held : BuffersView)
     (old : SessionView) (before : Option Traffic) (s : SessionView) (after : Option Traffic)
     : Type 0 where
@@ -71,11 +71,12 @@ pub record StopsToEnd {R : Type 0} (result : Result (Unit {0}) (the_data R)) (he
   pub shut : IfNotOpened result (s.options.again ≡ false)
   pub time : result ≡ Err (Device fault.Time) → MayStop held old before s after
 
--- The lines ended so, or the line was left, or a time was over: a run may end well then.
+-- The lines ended well, or the line was left, or a time limit was reached: the run may still end
+-- well.
 abbrev pub MayBeWell : {R : Type 0} → Result (Unit {0}) (the_data R) → Type 0
 MayBeWell ran = (ran ≡ Ok tt) ⊎ ((ran ≡ Err Left) ⊎ (ran ≡ Err (Device fault.Time)))
 
--- Lines that ended so were judged so.
+-- How the result of a whole run follows from how its lines ended.
 pub record Judges {R : Type 0} (ran result : Result (Unit {0}) (the_data R)) : Type 0 where
   pub well : result ≡ Ok tt → MayBeWell ran
   pub lost : (count : ℕ) → result ≡ Err (Lost count) → MayBeWell ran

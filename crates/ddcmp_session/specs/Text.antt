@@ -27,7 +27,7 @@ abbrev pub dropped_by : Notice → ℕ
 dropped_by (notice.Restarted count) = count
 dropped_by _ = 0
 
--- a notice: with messages in binary it is no part of standard output
+-- a notice; with messages in binary it doesn't go to standard output
 abbrev pub notice_text : Form → Notice → List ℕ
 notice_text Digits n = notice_line [] n ++ lost_text Digits (dropped_by n)
 notice_text Binary n = []
@@ -36,15 +36,15 @@ unfoldable pub notices_text : Form → List Notice → List ℕ
 notices_text form [] = []
 notices_text form (n ∷ rest) = notice_text form n ++ notices_text form rest
 
--- what is reported of it, if there was room
+-- the report of a loss, if there was room
 abbrev pub reported_lost : Bool → Form → ℕ → List ℕ
 reported_lost has_room form count = if has_room then lost_text form count else []
 
--- A text is appended if it has room.
+-- A text is appended if there is room for it.
 abbrev pub Puts : List ℕ → QueueView → QueueView → Type 0
 Puts text old new = length text ≤ old.room → new ≡ after_pushed text old
 
--- A text was appended, all of it, and nothing cut; room may have been made before.
+-- A text was appended whole; room may have been made before.
 pub record Wrote (text : List ℕ) (old new : QueueView) : Type 0 where
   pub waiting : new.waiting ≡ old.waiting ++ text
   pub room : old.room ≤ new.room + length text

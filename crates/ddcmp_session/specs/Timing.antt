@@ -1,4 +1,4 @@
--- When the line of a session is left, until when it waits, and when a line is opened again.
+-- When a session leaves its line, how long it waits, and when it opens a line again.
 use Rattle.std.specs.Prelude.{◌≡◌, ◌⊎◌, ℕ, ◌-◌, ◌*◌, Bool, true, false, ◌&&◌, ◌||◌, not, ◌==◌}
 use Rattle.std.specs.Prelude.{nat_le, nat_lt}
 use Rattle.std.specs.Prelude.{min, if◌then◌else◌, Option, None, Some}
@@ -15,7 +15,7 @@ use Rattle.ddcmp_session.specs.Session.{SessionView, after_time, is_delivered}
 
 -- ---- the end
 
--- a link that listens, and has had no input
+-- a link that listens and has read no message
 abbrev pub is_listener : LineKind → Bool
 is_listener Listen = true
 is_listener _ = false
@@ -23,7 +23,7 @@ is_listener _ = false
 abbrev pub had_input : SessionView → Bool
 had_input s = nat_lt 0 s.link.totals.sent || s.was_refused
 
--- it goes on once all of the input was delivered
+-- the session continues after all of the input was delivered
 abbrev pub stays : SessionView → Bool
 stays s = s.options.stay || (is_listener s.kind && not (had_input s))
 
@@ -32,14 +32,14 @@ stays s = s.options.stay || (is_listener s.kind && not (had_input s))
 abbrev pub is_spent : SessionView → Bool
 is_spent s = is_delivered s || (s.is_read && (s.course.has_run && not s.has_line))
 
--- all is done, once a peer that has more to send was heard out
+-- all is done, except that a peer may have more to send
 abbrev pub is_done : SessionView → Bool
 is_done s = is_spent s && not (stays s)
 
 abbrev pub lingers_until : SessionView → ℕ
 lingers_until s = later s.course.quiet_since s.options.linger_ms
 
--- Seven tries are the most before a station runs, if no option says how many; 0 is any number.
+-- The most tries. By default they are seven until the station runs; 0 is no limit.
 abbrev pub most_tries : ℕ → Bool → ℕ
 most_tries attempts runs =
     if attempts == 4294967295 then (if runs then 0 else 7) else attempts
@@ -77,20 +77,21 @@ next_timeout s =
     min (min (min (run_ends_at s) (or_never (timer_at s.link))) (or_never s.course.pause))
     s.course.report_at
 
--- this moment, or that when a peer was heard out if all else is done
+-- this moment, or if all else is done the moment when the peer was quiet for long enough, if that
+-- is earlier
 abbrev pub unless_done : ℕ → SessionView → ℕ
 unless_done moment s = if is_done s then min moment (lingers_until s) else moment
 
 abbrev pub wakes_at : SessionView → ℕ
 wakes_at s = unless_done (next_timeout s) s
 
--- how many milliseconds that is after the last moment that was passed
+-- the milliseconds from the last moment that was passed until then
 abbrev pub wait_ms : SessionView → ℕ
 wait_ms s = wakes_at s - s.course.moment
 
 -- ---- without a line
 
--- a wait ends when the run does, a report is due, or the line is to be opened
+-- a wait ends when the run ends, when a report is due, or when the line is to be opened
 abbrev pub wakes_without_line_at : ℕ → SessionView → ℕ
 wakes_without_line_at now s =
     let first = unless_done (min (run_ends_at s) s.course.report_at) s in
@@ -100,7 +101,7 @@ wakes_without_line_at now s =
 abbrev pub reopens : SessionView → Bool
 reopens s = s.options.again || (is_listener s.kind && not s.course.peer_has_started)
 
--- the pause after a line: none after a station that ran, nor for whoever listens
+-- the pause after a line: none if the station ran on it or the session listens
 abbrev pub after_line : SessionView → SessionView
 after_line s = record s {
   course =
@@ -118,8 +119,8 @@ seconds_after_line s =
 abbrev pub after_failure : SessionView → SessionView
 after_failure s = record s { course = after_opening_failed s.course }
 
--- A moment passed without a line; then one couldn't be opened, or one that was left is to be opened
--- again. Nothing else changes.
+-- A moment passed without a line; then a line couldn't be opened, or one that was left is to be
+-- opened again. Nothing else changes.
 pub record PassesTime (old new : SessionView) : Type 0 where
   pub now : ℕ
   pub course : (new.course ≡ (after_time now old).course)

@@ -30,14 +30,14 @@ use Rattle.ddcmp_session.specs.declared.trace.Way.{Way}
 use Rattle.ddcmp_session.specs.declared.trace.Way.TheVariants.{ToLine, FromLine}
 use Rattle.ddcmp_session.specs.Errors.{ErrorsView, HasLine}
 
--- What was heard of one way: how far its frames are read; the last item, or where the bytes end
--- that were reported since; and where the first of those after it is that is no fill.
+-- What was traced in one direction: the state of its reader; the last item, or the end of the bytes
+-- reported since; and the offset of the first byte after that which is no fill.
 pub record WayReaderView : Type 0 where
   pub frames : ReaderView
   pub reached : Reached
   pub junk : Option ℕ
 
--- How much room is left to other lines, what was heard of each way, and the moment.
+-- How much room is left to other lines, what was traced in each direction, and the moment.
 pub record TraceView : Type 0 where
   pub spared : ℕ
   pub sent : WayReaderView
@@ -61,7 +61,7 @@ skipped_between text from to =
     then Some (record { from = from; count = to - from })
     else None
 
--- the same, if they are this many
+-- the same, if they are at least this many
 abbrev pub skipped_at_least : ℕ → List ℕ → ℕ → ℕ → Option Skipped
 skipped_at_least least text from to =
     if nat_le least (to - from) then skipped_between text from to else None
@@ -70,9 +70,9 @@ skipped_at_least least text from to =
 abbrev pub first_junk : List ℕ → ℕ → Option ℕ
 first_junk text from = position_from is_junk from (drop from text)
 
--- ---- what was heard of one way
+-- ---- what was traced in one direction
 
--- A text went this way, of which all up to `from` is reported.
+-- A text went in this direction, and all of it up to `from` is reported.
 pub record HasHeard (text : List ℕ) (from : ℕ) (at : WayReaderView) : Type 0 where
   pub stands : StandsFor at.frames text
   pub reached : at.reached.offset + at.reached.taken ≡ from
@@ -87,7 +87,7 @@ abbrev pub from_after : ℕ → Option Completed → ℕ
 from_after from None = from
 from_after from (Some completed) = behind completed.item
 
--- One more byte is heard: the item that it completes, and what was discarded before that.
+-- One more byte is traced: the item that it completes, and the bytes discarded before that.
 pub record Hears (old : WayReaderView) (byte : ℕ) (given : Option Completed) (new : WayReaderView)
     : Type 0 where
   pub max : new.frames.max ≡ old.frames.max
@@ -101,13 +101,13 @@ pub record Hears (old : WayReaderView) (byte : ℕ) (given : Option Completed) (
       → IfSome given (λ c. c.discarded
       ≡ skipped_between (text ++ byte ∷ []) from (item_offset c.item))
 
--- What of it was discarded is reported up to an offset.
+-- Discarded bytes are reported up to an offset.
 abbrev pub from_discarded : ℕ → ℕ → Option Skipped → ℕ
 from_discarded from to None = from
 from_discarded from to (Some skipped) = to
 
--- What was discarded after the last item, up to where the frame begins that is unfinished, is
--- reported if it is this many bytes.
+-- The bytes discarded after the last item, up to the start of the unfinished frame, are reported if
+-- they are at least this many.
 pub record Discards (old : WayReaderView) (least : ℕ) (given : Option Skipped) (new : WayReaderView)
     : Type 0 where
   pub frames : new.frames ≡ old.frames
@@ -116,7 +116,7 @@ pub record Discards (old : WayReaderView) (least : ℕ) (given : Option Skipped)
   pub heard : (text : List ℕ) (from : ℕ) → HasHeard text from old
       → HasHeard text (from_discarded from (ending old.frames.max text).offset given) new
 
--- a byte whose offset has no room in 64 bits isn't heard
+-- a byte whose offset has no room in 64 bits isn't traced
 abbrev pub TakesByte : WayReaderView → ℕ → Option Completed → WayReaderView → Type 0
 TakesByte old byte given new =
     (old.frames.offset < 2 ^ 64 - 2 → Hears old byte given new)
@@ -149,11 +149,11 @@ abbrev pub reason_text : Option Reason → List ℕ
 reason_text None = []
 reason_text (Some reason) = codes " (" ++ reason_in_words reason ++ codes ")"
 
--- the moment and the way are before each line
+-- each line begins with the moment and the direction
 abbrev pub front_of : ℕ → Way → List ℕ
 front_of now way = decimal now ++ mark_of way
 
--- an item with the data that it lends
+-- an item with its data
 abbrev pub item_line : ℕ → Way → ReadItem → List ℕ
 item_line now way given =
     front_of now way ++ item_text given.0 ++ data_text given.0 given.1
@@ -166,7 +166,7 @@ skipped_line now way it = front_of now way ++ passed_text Plain it.from it.count
 abbrev pub timer_line : ℕ → List ℕ
 timer_line now = decimal now ++ codes " timer\n"
 
--- at most what 64 bits hold
+-- at most the largest number of 64 bits
 abbrev pub capped : ℕ → ℕ
 capped n = min n (2 ^ 64 - 1)
 
@@ -184,11 +184,11 @@ completed_lines now way (Some it) lent =
 abbrev pub timer_lines : ℕ → Bool → List (ℕ × List ℕ)
 timer_lines now has_expired = if has_expired then (NOTE, timer_line now) ∷ [] else []
 
--- room is left to other lines
+-- the room that a line needs, with the room left for other lines
 abbrev pub room_beside : ℕ → ℕ → ℕ
 room_beside spared needed = capped (capped (spared + needed) + LAST_ROOM)
 
--- Lines were queued one after another, each if it had room.
+-- Lines were queued one after another, each if there was room for it.
 abbrev pub HasLines : ℕ → List (ℕ × List ℕ) → ErrorsView → ErrorsView → Type 0
 HasLines spared [] old new = new ≡ old
 HasLines spared (line ∷ later) old new =
@@ -205,7 +205,7 @@ abbrev pub with_heard : Way → WayReaderView → TraceView → TraceView
 with_heard ToLine heard t = record t { sent = heard }
 with_heard FromLine heard t = record t { came = heard }
 
--- A byte went this way: the lines of what it completed were queued.
+-- A byte went in this direction: the lines of what it completed were queued.
 pub record LogsByte (way : Way) (byte : ℕ) (old new : TraceView) (before after : ErrorsView)
     : Type 0 where
   pub given : Option Completed
@@ -214,7 +214,7 @@ pub record LogsByte (way : Way) (byte : ℕ) (old new : TraceView) (before after
       (completed_lines old.now way given (heard_of way new).frames.lent) before after
   pub stays : new ≡ with_heard way (heard_of way new) old
 
--- The line of what was discarded after the last item was queued, if it is this many bytes.
+-- The bytes discarded after the last item were reported, if they are at least this many.
 pub record LogsDiscarded (way : Way) (least : ℕ) (old new : TraceView) (before after : ErrorsView)
     : Type 0 where
   pub given : Option Skipped
@@ -222,21 +222,21 @@ pub record LogsDiscarded (way : Way) (least : ℕ) (old new : TraceView) (before
   pub lines : HasLines old.spared (skipped_lines old.now way given) before after
   pub stays : new ≡ with_heard way (heard_of way new) old
 
--- Bytes went this way, one after another; after them 256 bytes that were discarded are reported
--- without an item.
+-- Bytes went in this direction, one after another; then 256 or more discarded bytes are reported
+-- without waiting for an item.
 abbrev pub Logs : Way → List ℕ → TraceView → TraceView → ErrorsView → ErrorsView → Type 0
 Logs way [] old new before after = LogsDiscarded way 256 old new before after
 Logs way (byte ∷ later) old new before after =
     (mid : TraceView) × (between : ErrorsView) × LogsByte way byte old mid before between
     × Logs way later mid new between after
 
--- All that was discarded at the end of a line was reported.
+-- All bytes that were discarded by the end of a line were reported.
 abbrev pub LogsEnd : TraceView → TraceView → ErrorsView → ErrorsView → Type 0
 LogsEnd old new before after =
     (mid : TraceView) × (between : ErrorsView) × LogsDiscarded ToLine 1 old mid before between
     × LogsDiscarded FromLine 1 mid new between after
 
--- Nothing was heard yet of another line, of frames of at most this many bytes of data.
+-- Nothing was traced yet of a new line, whose frames have at most this many bytes of data.
 abbrev pub IsNew : ℕ → WayReaderView → Type 0
 IsNew most heard = HasHeard [] 0 heard × (heard.frames.max ≡ most)
 

@@ -1,4 +1,4 @@
-//! What was read for a session and not used yet.
+//! Bytes that were read for a session and not used yet.
 ghost use Rattle.std.specs.Prelude.{◌≡◌, [], IfOk};
 ghost use Rattle.ddcmp_session.specs.Devices.{nothing_read};
 
@@ -15,17 +15,18 @@ pub use runner::{drain_errors, drain_output};
 use std::alloc::{AllocError, Global};
 use std::marker::Model;
 
-/// What was read for a session and not used yet. `run` moves bytes between the session and its
-/// devices, and decides nothing.
+/// Bytes that were read for a session and not used yet. `run` moves bytes between the session and
+/// its devices, and makes no decisions.
 ///
 /// `run_to_end` runs a session from its first line to its last and finishes it. `run_lines` does so
-/// up to where it closes it, and `run` runs over one line after `begin_line`. `drain_output` and
-/// `drain_errors` write what waits, as at the end.
+/// until it has closed the session, and `run` runs over one line after `begin_line`. `drain_output`
+/// and `drain_errors` write what is queued, as at the end.
 pub struct Buffers {
     input: Chunk,
     received: Chunk,
     input_is_over: bool,
-    /// Why the line takes nothing any more, if it doesn't. What it has given is still read.
+    /// Why nothing more is written to the line, if it is down. Bytes already received are still
+    /// read.
     down: Option<Down>,
 }
 
@@ -62,7 +63,7 @@ impl Buffers {
     ghost use Rattle.ddcmp_session.specs.Lines.{Closes, GoesOver, line_begun, none_received};
     ghost use Rattle.ddcmp_session.specs.Session.{after_connected};
 
-    /// Makes empty ones. They take all the memory that they will need.
+    /// Makes empty buffers. Allocates all the memory that they will need.
     pub fn new(alloc: Global) -> Result<Buffers, AllocError>
         ensures { IfOk result (λ made. made ≡ nothing_read) }
     {
@@ -74,8 +75,8 @@ impl Buffers {
         })
     }
 
-    /// Connects a session to a line that was opened, on which nothing has come. Returns false if
-    /// received messages weren't delivered before.
+    /// Connects a session to a line that was opened, on which nothing was received yet. Returns
+    /// false if received messages weren't delivered before.
     pub fn begin_line(&mut self, session: &mut Session) -> bool
         ensures state { self.new ≡ none_received self.old }
         ensures connected { session.new.state
@@ -121,7 +122,8 @@ impl Buffers {
         self.received.is_empty() && session.wants_line()
     }
 
-    /// Ends the run of a session. The messages that were read and that it hasn't had are lost.
+    /// Ends the run of a session. The messages that were read and that the session hasn't used are
+    /// lost.
     pub fn close(&self, session: &mut Session)
         ensures closes { Closes self.now session.old.state session.new.state }
         ensures log { session.new.log ≡ record session.old.log {

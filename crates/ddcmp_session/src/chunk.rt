@@ -8,10 +8,10 @@ use ddcmp_io::Got;
 use std::alloc::{AllocError, Global};
 use std::marker::Model;
 
-/// The bytes that are read at once.
+/// How many bytes are read at once.
 const SIZE: usize = 65536;
 
-/// What one read returned. The next read is made once all of it was used.
+/// The bytes that one read returned. The next read is made once all of them were used.
 pub(crate) struct Chunk {
     bytes: Vec<u8>,
     start: usize,
@@ -41,7 +41,7 @@ impl Drop for Chunk {
 }
 
 impl Chunk {
-    /// Makes an empty one. It takes all the memory that it will need.
+    /// Makes an empty chunk. Allocates all the memory that it will need.
     pub(crate) fn new(alloc: Global) -> Result<Chunk, AllocError>
         ensures { IfOk result (λ made. made ≡ []) }
     {

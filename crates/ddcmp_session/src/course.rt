@@ -1,4 +1,4 @@
-//! How the run of a session gets on: when its line is left, and when it is opened again.
+//! How the run of a session proceeds: when its line is left, and when it is opened again.
 ghost use Rattle.std.specs.Prelude.{◌≡◌};
 ghost use Rattle.ddcmp_session.specs.Course.{after_acknowledged, after_connecting, after_entering};
 ghost use Rattle.ddcmp_session.specs.Course.{after_looked};
@@ -17,7 +17,7 @@ const LEAST_SECONDS: u64 = 1;
 
 const MOST_SECONDS: u64 = 30;
 
-/// What a link had got to.
+/// The progress of a link.
 #[derive(Clone, Copy)]
 pub(crate) struct Progress {
     /// How far the startup handshake is.
@@ -28,42 +28,42 @@ pub(crate) struct Progress {
     pub(crate) received: u32,
 }
 
-/// How the run of a session gets on. All moments are in milliseconds since it was made.
+/// How the run of a session proceeds. All moments are in milliseconds since the session was made.
 ///
-/// The line is to be left once too many tries came in a row without progress: no message was
+/// The line is to be left after too many tries in a row without progress: no message was
 /// acknowledged, none was received and the startup handshake made no step. A try is an expiry of
 /// the reply timer, or a pause since the peer refuses messages.
 ///
-/// After a NAK the station sends its messages again at once, which mends what a line has damaged.
-/// If a second NAK comes before the peer has acknowledged a message, they wait for as long as the
-/// reply timer would: a peer that refuses a message, as one that is too long for it, gets at most a
-/// window of messages in that time. NAKs in reply to REP don't count, since REPs come at that pace
-/// by themselves.
+/// After a NAK the station retransmits its messages at once, which repairs what a line has damaged.
+/// If a second NAK is received before the peer has acknowledged a message, they are held back for
+/// the time of the reply timer: a peer that refuses a message, such as one that is too long for it,
+/// gets at most a window of messages in that time. NAKs in reply to REP don't count, since REPs are
+/// sent at that pace anyway.
 #[derive(Clone, Copy)]
 pub(crate) struct Course {
     /// The last moment that was passed.
     pub(crate) moment: u64,
     /// When the next report of the counters is due.
     pub(crate) report_at: u64,
-    /// The moment since which the peer seems to be done.
+    /// The moment since when the peer seems to be done.
     pub(crate) quiet_since: u64,
-    /// How many tries came in a row.
+    /// How many tries there were in a row.
     pub(crate) tries: u32,
     /// Why the peer refused the last message, if that was the last try.
     pub(crate) refusal: Option<Nak>,
-    /// What the link had got to over this line.
+    /// The progress of the link over this line.
     pub(crate) progress: Option<Progress>,
     /// How many messages had been acknowledged before the last NAK.
     pub(crate) acknowledged: u64,
-    /// Whether a NAK came since the last message was acknowledged.
+    /// Whether a NAK was received since the last message was acknowledged.
     pub(crate) is_refused: bool,
-    /// Until when messages wait, if they do.
+    /// Until when messages are held back, if they are.
     pub(crate) pause: Option<u64>,
     /// The last pause before the line was opened again, in seconds.
     pub(crate) retry_seconds: u64,
     /// When the line may be opened.
     pub(crate) opens_at: u64,
-    /// Whether the peer has begun to start, over the line that is open.
+    /// Whether the peer has begun the startup handshake over the line that is open.
     pub(crate) peer_has_started: bool,
     /// Whether the station has run over the line that is open, and over any line.
     pub(crate) has_run_here: bool,
@@ -74,8 +74,8 @@ pub(crate) struct Course {
 }
 
 impl Course {
-    /// Returns that of a new session, which reports its counters every `report_ms` milliseconds,
-    /// if that isn't 0.
+    /// Makes that of a new session, which reports its counters every `report_ms` milliseconds, if
+    /// that isn't 0.
     pub(crate) fn begun(report_ms: u64) -> Course
         ensures { result ≡ course_begun report_ms }
     {
@@ -99,8 +99,8 @@ impl Course {
         }
     }
 
-    /// Notes the moment: returns whether a report is due. The next one is due a whole
-    /// number of periods after it.
+    /// Notes the moment, and returns whether a report is due. The next report is due a whole number
+    /// of periods after the last.
     pub(crate) fn pass(&mut self, now: u64, report_ms: u64) -> bool
         ensures state { self.new ≡ after_moment report_ms now self.old }
         ensures due { result ≡ reports_at report_ms now self.old }
@@ -114,7 +114,7 @@ impl Course {
         true
     }
 
-    /// Lets messages go once their time has come.
+    /// Ends a pause of messages once it is due.
     pub(crate) fn end_pause(&mut self)
         ensures { self.new ≡ after_pause self.old }
     {
@@ -125,7 +125,7 @@ impl Course {
         }
     }
 
-    /// Begins on a line.
+    /// Starts on a line.
     pub(crate) fn connect(&mut self)
         ensures { self.new ≡ after_connecting self.old }
     {
@@ -140,7 +140,8 @@ impl Course {
         self.quiet_since = self.moment;
     }
 
-    /// Begins in maintenance mode, if that was entered: nothing is to start there.
+    /// Starts on a line in maintenance mode, if the station entered it; there is no startup
+    /// handshake.
     pub(crate) fn enter(&mut self, enters: bool)
         ensures { self.new ≡ after_entering enters self.old }
     {
@@ -148,7 +149,7 @@ impl Course {
         self.has_run |= enters;
     }
 
-    /// Counts a try, which was refused for this reason, if it was.
+    /// Counts a try, and notes the reason if the peer refused it.
     pub(crate) fn count_try(&mut self, refusal: Option<Nak>)
         ensures { self.new ≡ try_counted refusal self.old }
     {
@@ -156,8 +157,8 @@ impl Course {
         self.refusal = refusal;
     }
 
-    /// Looks at a link that was fed, when it had received these NAKs: messages that it sends again
-    /// wait for this many milliseconds.
+    /// Looks at a link after it was fed. `before` are the NAKs that it had received before;
+    /// messages that the peer refuses again are held back for `timer_ms`.
     #[tactic(auto, unfolding(crate::specs::Course::after_looked))]
     pub(crate) fn look(&mut self, before: &NakCounts, link: &Link, timer_ms: u32)
         ensures { self.new ≡ after_looked timer_ms before.now link.now self.old }
@@ -184,7 +185,7 @@ impl Course {
         }
     }
 
-    /// Lets messages wait if the peer refuses them again.
+    /// Holds messages back if the peer refuses them again.
     fn note_refusal(&mut self, refusal: Option<Nak>, timer_ms: u32)
         ensures { self.new ≡ after_refusal timer_ms refusal self.old }
     {
@@ -211,7 +212,7 @@ impl Course {
         }
     }
 
-    /// Counts tries anew if there was progress.
+    /// Resets the number of tries if there was progress.
     fn note_progress(&mut self, progress: Progress)
         ensures { self.new ≡ after_progress progress self.old }
     {
@@ -245,7 +246,7 @@ impl Course {
     }
 
     /// Doubles the pause before the line is opened again, since it couldn't be opened, or ended
-    /// before its station ran: returns its seconds. It is 1 second at first, and 30 at most.
+    /// before its station ran, and returns it in seconds. It is 1 second at first, and 30 at most.
     pub(crate) fn retry_later(&mut self) -> u64
         ensures state { self.new ≡ after_opening_failed self.old }
         ensures seconds { result ≡ self.new.retry_seconds }
@@ -265,8 +266,8 @@ impl Course {
     }
 }
 
-/// Returns the reason of a NAK that isn't a reply to REP and came between these two counts, if one
-/// did.
+/// Returns the reason of a NAK, other than a reply to REP, that was received between these two
+/// counts, if there is one.
 fn refusal_between(before: &NakCounts, now: &NakCounts) -> Option<Nak>
     ensures { result ≡ refusal_between before.now now.now }
 {
@@ -307,7 +308,7 @@ fn step_of(state: State) -> u8
     }
 }
 
-/// Returns what a link has got to.
+/// Returns the progress of a link.
 fn progress_of(link: &Link) -> Progress
     ensures { result ≡ progress_of link.now }
 {
@@ -318,7 +319,7 @@ fn progress_of(link: &Link) -> Progress
     }
 }
 
-/// Returns whether nothing was got to since.
+/// Returns whether there was no progress since.
 fn is_at(progress: Progress, before: Option<Progress>) -> bool
     ensures { result ≡ is_at progress before }
 {
@@ -332,7 +333,7 @@ fn is_at(progress: Progress, before: Option<Progress>) -> bool
     }
 }
 
-/// Returns whether the handshake made a step since, or a message was received.
+/// Returns whether the handshake made a step since, or a message was received; true at first.
 fn goes_on(progress: Progress, before: Option<Progress>) -> bool
     ensures { result ≡ goes_on progress before }
 {

@@ -21,13 +21,14 @@ pub trait Devices {
     ghost use Rattle.ddcmp_session.specs.Lines.{line_begun};
     ghost use Rattle.std.specs.Prelude.{◌≢◌, Ok, true};
 
-    // What they have given and taken, if that is known.
+    // The bytes read from them and written to them, if that is known.
     ghost traffic: { Self → Option Traffic };
 
-    /// Why a line can't be opened.
+    /// The reason why a line can't be opened.
     type Refusal: Copy;
 
-    /// Opens a line as far as that doesn't wait, and reports to whom; returns whether it is open.
+    /// Opens a line as far as that is possible without waiting, and reports the peer; returns
+    /// whether it is open.
     fn open_line(&mut self, session: &mut Session) -> Result<bool, Self::Refusal>
         ensures session { session.new.state ≡ session.old.state }
         ensures log { session.new.log
@@ -36,26 +37,27 @@ pub trait Devices {
             → Becomes (traffic self.old) (traffic self.new) line_begun }
         ensures not_opened { result ≢ Ok true → traffic self.new ≡ traffic self.old };
 
-    /// Reports why a line couldn't be opened, which is tried again after this many seconds.
+    /// Reports why a line couldn't be opened, and that it is tried again after this many seconds.
     fn report_retry(&mut self, session: &mut Session, refusal: Self::Refusal, seconds: u64)
         ensures session { session.new.state ≡ session.old.state }
         ensures log { session.new.log
             ≡ record session.old.log { errors = session.new.log.errors } }
         ensures devices { traffic self.new ≡ traffic self.old };
 
-    /// Closes the line, if one is open: the peer learns of that at once, and has a moment to close
-    /// it, too.
+    /// Closes the line, if one is open: the peer is notified at once, and has a moment to close it,
+    /// too.
     fn close_line(&mut self)
         ensures { traffic self.new ≡ traffic self.old };
 
-    /// Reads the input into the front of `space`, if it has something. No bytes are its end.
+    /// Reads the input into the front of `space`, if it has bytes. A read of 0 bytes is the end of
+    /// the input.
     fn read_input(&mut self, space: &mut [u8]) -> Got
         requires space { 0 < length space.old }
         ensures read { Becomes (traffic self.old) (traffic self.new)
             (after_read result space.new) }
         ensures fits { count_read result ≤ length space.new };
 
-    /// Returns whether a read of the line may give something.
+    /// Returns whether a read of the line may return bytes.
     fn may_read_line(&self) -> bool;
 
     /// Reads the line into the front of `space`.
@@ -78,16 +80,16 @@ pub trait Devices {
     fn write_errors(&mut self, bytes: &[u8]) -> Transfer
         ensures { traffic self.new ≡ traffic self.old };
 
-    /// Waits until a device is ready that the session wants, at most this many milliseconds, as
-    /// nothing is left to be done without a device; returns whether it could.
+    /// Waits until a device is ready that the session wants, at most this many milliseconds.
+    /// Nothing is left to do without a device. Returns false if the wait failed.
     fn rest(&mut self, session: &Session, buffers: &Buffers, most_ms: u64) -> bool
         requires rests { Rests buffers.now session.now.state }
         requires goes_on { end session.now.state ≡ None }
         requires until { most_ms ≤ wait_ms session.now.state }
         ensures { Becomes (traffic self.old) (traffic self.new) (after_wait result) };
 
-    /// Waits until a device that is wanted is ready, at most this many milliseconds; returns
-    /// whether it could.
+    /// Waits until a device that is wanted is ready, at most this many milliseconds; returns false
+    /// if the wait failed.
     fn wait(&mut self, wanted: Wanted, most_ms: u64) -> bool
         ensures { Becomes (traffic self.old) (traffic self.new) (after_wait result) };
 
@@ -96,13 +98,13 @@ pub trait Devices {
         ensures { traffic self.new ≡ traffic self.old };
 }
 
-/// What became of a read or a write that doesn't wait.
+/// The result of a read or a write that doesn't wait.
 #[derive(Clone, Copy, PartialEq, Eq)]
 pub enum Transfer {
     Bytes(usize),
-    /// Nothing came, or there was no room.
+    /// There was nothing to read, or no room to write.
     Nothing,
-    /// The call was interrupted, and is to be made again.
+    /// The call was interrupted, and is to be repeated.
     Interrupted,
     /// The device has ended or failed.
     Ended(Down),
@@ -125,12 +127,12 @@ impl Transfer {
 pub enum Down {
     /// The other end has closed it.
     Closed,
-    /// A read or a write failed so.
+    /// A read or a write failed with this error.
     Failed(ErrorKind),
 }
 
 impl Down {
-    /// Returns why, in words.
+    /// Returns the reason in words.
     pub(crate) fn words(self) -> &'static str
         ensures { result.now ≡ down_text self }
     {
@@ -151,20 +153,20 @@ impl fmt::Display for Down {
     }
 }
 
-/// Why a session can't go on over its devices.
+/// The reason why a session can't continue over its devices.
 #[derive(Clone, Copy, PartialEq, Eq)]
 pub enum Fault {
     /// The line has ended or failed.
     Line(Down),
-    /// The input, or waiting, failed.
+    /// The input failed, or a wait failed.
     Input,
     /// Standard output failed.
     Output,
-    /// A time is over: that of the run, or that of an output that takes nothing.
+    /// A time limit was reached: that of the run, or that of a blocked output.
     Time,
 }
 
-/// Which devices are waited for.
+/// The devices to wait for.
 #[derive(Clone, Copy)]
 pub struct Wanted {
     pub input: bool,

@@ -9,32 +9,32 @@ use jiff_fmt::temporal::DateTimePrinter;
 use std::alloc::{AllocError, Global};
 use std::marker::Model;
 
-/// The room that is kept for the line that reports how many others were left out, and for two
+/// The room that is reserved for the line that reports how many others were left out, and for two
 /// times of day.
 const NOTE: usize = 160;
 
-/// The room that is kept for the last lines.
+/// The room that is reserved for the last lines.
 pub(crate) const LAST_ROOM: usize = 8192;
 
-/// The room for a line that is no line of a trace, no line of counters and none of the last.
+/// The room for a line that is neither of a trace nor of counters nor one of the last.
 pub(crate) const SHORT_LINE: usize = 512 + LAST_ROOM;
 
-/// The longest event: a name in it may be a path, of at most 4096 bytes. `SHORT_LINE` has room for
-/// it, and for a time of day and a line feed.
+/// The longest event, in bytes: a name in it may be a path, of at most 4096 bytes. `SHORT_LINE` has
+/// room for it, and for a time of day and a line feed.
 pub const EVENT_ROOM: usize = 8192;
 
-/// Lines that are queued for standard error. A line that finds no room is left out, so that a
-/// standard error that isn't read holds nothing up. How many were left out is reported before the
-/// next line that finds room. Each begins with the time of day, if that is asked for.
+/// Lines that are queued for standard error. A line without room is left out, so that nothing is
+/// blocked if standard error isn't read. How many were left out is reported before the next line
+/// that has room. Each line begins with the time of day, if that is asked for.
 ///
 /// To write a line call `begin_line`, and if that returns true write the line into `queue`.
 #[derive(Drop)]
 pub(crate) struct Errors {
     pub(crate) queue: ByteQueue,
     left_out: u64,
-    /// The milliseconds from 1970 to the moment 0, if lines begin with the time of day.
+    /// The moment 0 in milliseconds after 1970, if lines begin with the time of day.
     began: Option<u64>,
-    /// The moment of the lines to come, in milliseconds.
+    /// The moment of the next lines, in milliseconds.
     moment: u64,
 }
 
@@ -78,15 +78,15 @@ impl Errors {
         self.began = Some(began);
     }
 
-    /// Notes the moment of the lines to come.
+    /// Notes the moment of the next lines.
     pub(crate) fn pass_time(&mut self, now: u64)
         ensures { self.new ≡ record self.old { now = now } }
     {
         self.moment = now;
     }
 
-    /// Begins a line of at most `needed` bytes, which is to be written into `queue` next: returns
-    /// whether there is room for it; if not, it is counted as left out.
+    /// Begins a line of at most `needed` bytes, which is to be written into `queue` next, and
+    /// returns whether there is room for it; if not, it is counted as left out.
     pub(crate) fn begin_line(&mut self, needed: usize) -> bool
         ensures room { result ≡ has_room needed self.old }
         ensures begun { HasLine needed [] self.old self.new }
@@ -111,8 +111,8 @@ impl Errors {
         has_room
     }
 
-    /// Makes room for a line of at most `needed` bytes, and reports those that were left out before
-    /// it: returns whether there is room; if not, it is counted as left out.
+    /// Makes room for a line of at most `needed` bytes, reports those that were left out before it,
+    /// and returns whether there is room; if not, it is counted as left out.
     fn make_room(&mut self, needed: usize) -> bool
         ensures room { result ≡ has_room needed self.old }
         ensures noted { result ≡ true → HasNoted self.old self.new }
@@ -134,7 +134,7 @@ impl Errors {
         self.queue.settle();
     }
 
-    /// Returns whether a line of at most `needed` bytes has room, and a note before it.
+    /// Returns whether there is room for a line of at most `needed` bytes, and a note before it.
     fn has_room(&self, needed: usize) -> bool
         ensures { result ≡ nat_le (needed + NOTE) self.now.queue.room }
     {
@@ -198,7 +198,7 @@ impl Errors {
         self.left_out = 0;
     }
 
-    /// Returns whether lines were left out, and a note of that has room.
+    /// Returns whether lines were left out and there is room for a note of that.
     fn reports_left_out(&self) -> bool
         ensures { result ≡ reports_left_out self.now }
     {
@@ -225,7 +225,7 @@ impl Errors {
         }
     }
 
-    /// Reports that a part of the input, which `part` names, is no message.
+    /// Reports that a part of the input, named by `part`, is no message.
     pub(crate) fn write_refused(&mut self, part: &[u8], number: u64, why: &[u8])
         ensures { HasLine SHORT_LINE (refused_text part.now number why.now) self.old self.new }
     {
@@ -255,7 +255,8 @@ impl Errors {
         self.queue.waiting()
     }
 
-    /// Notes that the first `n` bytes were written. Once all are, left out lines are reported.
+    /// Notes that the first `n` bytes were written. Once all are, reports how many lines were left
+    /// out.
     pub(crate) fn took(&mut self, n: usize)
         ensures { Took n self.old self.new }
     {
@@ -274,7 +275,7 @@ fn nanoseconds(began: u64, moment: u64) -> i128
     (began as i128 + moment as i128) * 1_000_000
 }
 
-/// Returns what is after the number of lines that were left out.
+/// Returns the words after the number of lines that were left out.
 fn left_out_words(n: u64) -> &'static [u8]
     ensures { result.now ≡ left_out_words n }
 {

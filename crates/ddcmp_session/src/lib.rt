@@ -1,5 +1,5 @@
-//! A link between a line and a pipe, without devices. `Session` decides all that `ddcmp link` does:
-//! bytes and moments in, bytes and moments out.
+//! A link between a line and a pipe, without devices. `Session` makes all decisions of `ddcmp
+//! link`: bytes and moments in, bytes and moments out.
 #![tactic(auto)]
 
 mod buffers;

@@ -15,25 +15,25 @@ use crate::session::Session;
 use ddcmp_station::ConfigRefusal;
 use std::alloc::Global;
 
-/// How a link ended that nothing stopped.
+/// How a link ended that wasn't stopped.
 #[derive(Clone, Copy)]
 pub enum LinkOutcome {
     /// All of the input was delivered.
     Delivered,
-    /// All was delivered of it that was a message.
+    /// All messages of the input were delivered, but a part of it was refused.
     SomeRefused,
 }
 
-/// Why a link ended before all was delivered.
+/// The reason why a link ended before all was delivered.
 #[derive(Clone, Copy)]
 pub enum LinkFault<R> {
-    /// No session is made of its options, or an allocation failed.
+    /// Its options were refused, or an allocation failed.
     Refused(ConfigRefusal),
     /// Its run was stopped.
     Stopped(Stop<R>),
 }
 
-/// Makes a session with these options, and runs it over these devices to its end: over one line of
+/// Makes a session with these options, and runs it over these devices to its end, over one line of
 /// this kind after the other. Its moment 0 is `began` milliseconds after 1970, if that is known.
 pub fn run_link<D: Devices>(
     alloc: Global,

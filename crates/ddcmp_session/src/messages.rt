@@ -12,13 +12,13 @@ use std::alloc::{AllocError, Global};
 /// How messages are written on standard input and output.
 #[derive(Clone, Copy, Debug, PartialEq, Eq)]
 pub enum Form {
-    /// A line of hexadecimal digits for each.
+    /// Each as a line of hexadecimal digits.
     Digits,
     /// Each after its length as two bytes, high byte first.
     Binary,
 }
 
-/// Reads messages from an input that comes in chunks of any size.
+/// A reader of messages from an input in chunks of any size.
 pub(crate) enum Messages {
     Digits(HexLines),
     Binary(Lengths),
@@ -35,7 +35,7 @@ impl Drop for Messages {
 }
 
 impl Messages {
-    /// Makes a reader of messages of 1 to `max` bytes. It takes all the memory that it will need.
+    /// Makes a reader of messages of 1 to `max` bytes. Allocates all the memory that it will need.
     pub(crate) fn new(alloc: Global, form: Form, max: u16) -> Result<Messages, AllocError>
         ensures { IfOk result (λ made. made ≡ messages_begun form max) }
     {
@@ -55,7 +55,7 @@ impl Messages {
         }
     }
 
-    /// Takes bytes of the input, up to the first that completes a message or a part that is none.
+    /// Handles bytes of the input, up to the first that completes a message or a part that is none.
     pub(crate) fn push(&mut self, bytes: &[u8]) -> Pushed
         ensures used { result.used ≤ length bytes.now }
         ensures first { (n : ℕ) (entry : Entry) → result.entry ≡ Some entry → result.used ≡ n + 1
@@ -71,7 +71,7 @@ impl Messages {
         }
     }
 
-    /// Takes the end of the input: returns what the last line is, if it has no LF.
+    /// Handles the end of the input, and returns what the last line is, if it has no LF.
     pub(crate) fn end(&mut self) -> Option<Entry>
         ensures state { self.new ≡ after_last self.old }
         ensures entry { result ≡ entry_of_last self.old }
@@ -82,7 +82,7 @@ impl Messages {
         }
     }
 
-    /// Returns whether a message in binary has begun whose end is still to come.
+    /// Returns whether a message in binary has begun whose end wasn't read yet.
     pub(crate) fn is_unfinished(&self) -> bool
         ensures { result ≡ is_message_unfinished self.now }
     {

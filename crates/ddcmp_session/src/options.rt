@@ -1,4 +1,4 @@
-//! How a session runs.
+//! The options of a session.
 ghost use Rattle.std.specs.Prelude.{◌≡◌};
 ghost use Rattle.ddcmp_session.specs.Filling.{is_of_datagrams};
 ghost use Rattle.ddcmp_session.specs.Session.{is_connection, report_ms};
@@ -6,33 +6,33 @@ ghost use Rattle.ddcmp_session.specs.Session.{is_connection, report_ms};
 use crate::messages::Form;
 use ddcmp_station::Config;
 
-/// How a session runs.
+/// The options of a session.
 #[derive(Clone, Copy, Debug)]
 pub struct Options {
     pub config: Config,
     /// The reply timer, in milliseconds.
     pub timer_ms: u32,
-    /// After how many tries without progress a line is left; 0 is never, and `u32::MAX` is 7 until
-    /// the station runs and never from then on.
+    /// The number of tries without progress after which a line is left; 0 is never, and `u32::MAX`
+    /// is 7 until the station runs and never from then on.
     pub attempts: u32,
-    /// For how long it stays once all of the input was delivered and its peer seems to be done, in
+    /// How long it waits for more from a quiet peer once all of the input was delivered, in
     /// milliseconds.
     pub linger_ms: u32,
-    /// After how many seconds it ends.
+    /// After how many seconds the run ends.
     pub seconds: u32,
     /// After how many seconds each report of the counters is written; 0 is never.
     pub report: u32,
     pub form: Form,
-    /// Whether messages go as maintenance messages, each once: none is numbered, acknowledged or
-    /// retransmitted.
+    /// Whether messages are sent as maintenance messages, each once: none is numbered, acknowledged
+    /// or retransmitted.
     pub maintenance: bool,
-    /// Whether it goes on once all of the input was delivered.
+    /// Whether it continues once all of the input was delivered.
     pub stay: bool,
     /// Whether the line is opened again if it ends or can't be opened.
     pub again: bool,
     /// Whether counters are written before the last line.
     pub counters: bool,
-    /// Whether the frames of both ways are logged on standard error.
+    /// Whether the frames of both directions are logged on standard error.
     pub trace: bool,
     /// Whether lines on standard error begin with the time of day.
     pub clock: bool,
@@ -49,7 +49,7 @@ impl Options {
     }
 }
 
-/// What a line is, as far as that makes a difference.
+/// The kind of a line, as far as that makes a difference.
 #[derive(Clone, Copy)]
 pub enum LineKind {
     /// A connection to a peer.
@@ -70,7 +70,7 @@ impl LineKind {
         matches!(self, LineKind::Datagrams)
     }
 
-    /// Returns whether a peer is there once it is open.
+    /// Returns whether there is a peer as soon as it is open.
     pub(crate) fn is_connection(self) -> bool
         ensures { result ≡ is_connection self }
     {

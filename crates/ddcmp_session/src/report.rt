@@ -1,4 +1,4 @@
-//! Reports of what a link has counted, while it runs.
+//! Reports of the counters of a link, while it runs.
 ghost use Rattle.std.specs.Prelude.{◌+◌, ◌*◌};
 ghost use Rattle.ddcmp_session.specs.Errors.{HasLine, HasObject, report_members, report_text};
 ghost use Rattle.ddcmp_session.specs.declared.errors.TheConstants.{LAST_ROOM};
@@ -17,7 +17,7 @@ pub(crate) fn write_line(errors: &mut Errors, link: &Link, lost: u64)
     }
 }
 
-/// Writes it as a JSON object.
+/// Writes a report for standard error as a JSON object.
 pub(crate) fn write_object(errors: &mut Errors, link: &Link, lost: u64)
     ensures { HasObject (2 * END_ROOM + LAST_ROOM) (report_members lost link.now)
         errors.old errors.new }

@@ -19,37 +19,37 @@ use ddcmp_station::{ConfigRefusal, Link};
 use std::alloc::Global;
 use std::marker::Model;
 
-/// The bytes that are queued for standard output beside the longest message.
+/// The room for queued standard output beside the longest message, in bytes.
 const OUTPUT_ROOM: usize = 65536;
 
-/// The bytes of lines that are queued for standard error, and eight times as many with a trace.
+/// The room for queued lines for standard error, in bytes; with a trace it is eight times as large.
 const ERRORS_ROOM: usize = 65536;
 
-/// Why a session leaves its line.
+/// The reason for which a session leaves its line.
 #[derive(Clone, Copy, Debug, PartialEq, Eq)]
 pub enum End {
     /// All of the input was delivered, or lost with a line that has ended.
     Delivered,
-    /// The time of the run is over.
+    /// The time limit of the run was reached.
     Time,
-    /// The peer restarted, and the station was halted by that.
+    /// The peer restarted, which halted the station.
     Restarted,
-    /// The peer didn't reply, or refused what was sent, too many times in a row.
+    /// The peer didn't reply, or refused messages, too many times in a row.
     GivenUp,
 }
 
 /// A link with its messages as text: standard input on one side, a line on the other, and two
-/// outputs. It decides, and has no device and no clock: pass it the bytes that came and the moment
-/// that it is, in milliseconds since it was made, and write what it returns.
+/// outputs. It makes all decisions, and has no device and no clock: pass it the received bytes and
+/// the current time in milliseconds since it was made, and write what it returns.
 ///
 /// Once a line is open call `connected`. Then, in any order: `typed` with bytes of the input while
 /// `wants_input`, and `input_ended` at its end; `received` with bytes of the line while
 /// `wants_line`; `fill`, then write what `to_line` returns and call `line_took`; the same with
 /// `to_output` and `to_errors`; `deliver` after each of these, until it returns false. Call
 /// `handle_timeout` before and after each wait, and wait until `wakes_at` at most. If `end` returns
-/// something, or the line ends, call `line_ended`, which reports what is lost; without it that is
-/// only counted, once the session starts on another line. `close` and `finish` end the run. No call
-/// after `new` allocates.
+/// a reason, or the line ends, call `line_ended`, which reports what is lost; without that call the
+/// loss is only counted, once the session starts on another line. `close` and `finish` end the run.
+/// No call after `new` allocates.
 pub struct Session {
     options: Options,
     kind: LineKind,
@@ -64,7 +64,7 @@ pub struct Session {
     read: u64,
     input_is_read: bool,
     was_refused: bool,
-    /// Whether a line is open, whose end loses what isn't acknowledged.
+    /// Whether a line is open: what isn't acknowledged is lost when it ends.
     has_line: bool,
 }
 
@@ -119,7 +119,7 @@ impl Drop for Session {
     }
 }
 
-/// Makes the trace that is asked for, if one is.
+/// Makes a trace, if one is asked for.
 fn trace_of(alloc: Global, options: &Options) -> Result<Option<Trace>, ConfigRefusal>
     ensures made { IfOk result (λ trace. TracesIfAsked options.now trace) }
     ensures only { IsOk result ⊎ (result ≡ Err ConfigRefusal.Memory) }
@@ -144,7 +144,7 @@ impl Session {
     ghost use Rattle.ddcmp_session.specs.Reported.{TracesIfAsked, log_made};
     ghost use Rattle.ddcmp_session.specs.Session.{session_made};
 
-    /// Makes a session that has no line yet. It takes all the memory that it will need.
+    /// Makes a session that has no line yet. Allocates all the memory that it will need.
     pub fn new(alloc: Global, options: Options, kind: LineKind) -> Result<Session, ConfigRefusal>
         ensures made { IfOk result (λ s. s.state
             ≡ session_made options kind s.state.link.station.line) }
@@ -152,7 +152,8 @@ impl Session {
         ensures log { IfOk result (λ s. s.log ≡ log_made options s.log.trace) }
         ensures traced { IfOk result (λ s. TracesIfAsked options s.log.trace) }
 
-        // The first size that is out of range is refused; if none is, only an allocation failure.
+        // If a size is out of range, the first such is the refusal; otherwise it can only be an
+        // allocation failure.
         ensures refused { (refusal : ConfigRefusal) → first_refusal options.config ≡ Some refusal
             → result ≡ Err refusal }
         ensures only { first_refusal options.config ≡ None → IsOk result

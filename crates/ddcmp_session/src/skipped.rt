@@ -1,4 +1,4 @@
-//! The bytes that went one way over a line: their frames, and what was discarded between them.
+//! The bytes in one direction over a line: their frames, and what was discarded between them.
 ghost use Rattle.std.specs.Prelude.{◌≡◌, ◌+◌, ◌-◌, ◌<◌, ◌≤◌, ◌^◌, ◌∷◌, ◌++◌, [], ℕ, length};
 ghost use Rattle.std.specs.Prelude.{List, None, IfOk};
 ghost use Rattle.std.specs.Result.{result_map_both};
@@ -14,13 +14,13 @@ use ddcmp_frame::{Item, Reader, ReaderRefusal};
 use std::alloc::Global;
 use std::marker::Model;
 
-/// The byte that some stations pad their frames with.
+/// The byte with which some stations pad their frames.
 const DEL: u8 = 0xff;
 
-/// This many discarded bytes are reported although no frame came after them.
+/// This many discarded bytes are reported even if no frame follows them.
 pub(crate) const MOST_DISCARDED: u64 = 256;
 
-/// Returns whether a byte between frames is fill, as stations send it before a frame or after it.
+/// Returns whether a byte between frames is fill, which stations send before or after a frame.
 fn is_fill(byte: u8) -> bool
     ensures { result ≡ fills byte }
 {
@@ -34,12 +34,12 @@ pub(crate) struct Completed {
     pub(crate) discarded: Option<Skipped>,
 }
 
-/// What was heard of one way.
+/// A reader of the bytes in one direction.
 pub(crate) struct WayReader {
     frames: Reader,
-    /// The last item, or where the bytes end that were reported since.
+    /// The last item, or the end of the bytes that were reported since.
     reached: Reached,
-    /// The offset of the first of those that is no fill. Fill alone isn't reported.
+    /// The offset of the first byte after that which is no fill. Fill alone isn't reported.
     junk: Option<u64>,
 }
 
@@ -63,7 +63,7 @@ impl Drop for WayReader {
 }
 
 impl WayReader {
-    /// Nothing, of frames of at most this many bytes of data.
+    /// Makes a reader of frames of at most this many bytes of data.
     pub(crate) fn new(alloc: Global, max: u16) -> Result<WayReader, ReaderRefusal>
         ensures makes { MakesReader max
             (result_map_both (λ h. h.frames) (λ refusal. refusal) result) }
@@ -90,8 +90,8 @@ impl WayReader {
         self.junk = None;
     }
 
-    /// Takes a byte: the item that it completes, and what was discarded before that. A byte whose
-    /// offset has no room in 64 bits isn't taken.
+    /// Handles a byte, and returns the item that it completes and what was discarded before that. A
+    /// byte whose offset has no room in 64 bits is ignored.
     pub(crate) fn push(&mut self, byte: u8) -> Option<Completed>
         ensures hears { self.old.frames.offset < 2 ^ 64 - 2 → Hears self.old byte result self.new }
         ensures full { 2 ^ 64 - 2 ≤ self.old.frames.offset → (result ≡ None)
@@ -111,7 +111,7 @@ impl WayReader {
         }
     }
 
-    /// Notes the next byte, if it is the first that is no fill.
+    /// Notes the offset of the next byte, if it is the first that is no fill.
     fn note(&mut self, byte: u8)
         requires { self.old.frames.offset + 1 < 2 ^ 64 }
         ensures frames { self.new.frames ≡ self.old.frames }
@@ -143,14 +143,14 @@ impl WayReader {
         }
     }
 
-    /// The data that the item lends that the last byte has completed.
+    /// Returns the data of the item that the last byte completed.
     pub(crate) fn data(&self) -> &[u8]
         ensures { result.now ≡ self.now.frames.lent }
     {
         self.frames.data()
     }
 
-    /// An item was completed: what was discarded before it.
+    /// Notes a completed item, and returns what was discarded before it.
     fn reach(&mut self, item: &Item) -> Option<Skipped>
         ensures frames { self.new.frames ≡ self.old.frames }
         ensures reached { self.new.reached.offset + self.new.reached.taken ≡ behind item.now }
@@ -168,7 +168,7 @@ impl WayReader {
         skipped
     }
 
-    /// Returns what was discarded after the last frame, if that many bytes were.
+    /// Returns the bytes discarded after the last frame, if there are at least this many.
     pub(crate) fn discard(&mut self, least: u64) -> Option<Skipped>
         ensures { Discards self.old least result self.new }
     {
@@ -181,7 +181,7 @@ impl WayReader {
                     return None;
                 }
                 self.reached = Reached::at(end);
-                // The frame that isn't finished may turn out to be none.
+                // The unfinished frame may turn out to be no frame.
                 self.junk = (open > 0).then_some(end);
                 Some(skipped)
             }

@@ -17,13 +17,14 @@ use ddcmp_station::{
 };
 use itoa::Buffer;
 
-/// The most bytes of the line of a notice.
+/// The longest line of a notice, in bytes.
 pub(crate) const NOTICE_ROOM: usize = 48;
 
-/// The most bytes of the line of a loss.
+/// The longest line that reports a loss, in bytes.
 pub(crate) const LOST_ROOM: usize = 16;
 
-/// The room for a notice, for what it drops, and for what is lost if the line ends then.
+/// The room for a notice, for a report of what it drops, and for one of what is lost if the line
+/// ends then.
 pub(crate) const LINE_ROOM: usize = NOTICE_ROOM + 2 * LOST_ROOM;
 
 /// The room for the last lines, with all counters.
@@ -36,7 +37,7 @@ pub(crate) fn mail_room(max: u16) -> usize
     2 * max as usize + LINE_ROOM
 }
 
-/// Appends bytes that have room.
+/// Appends bytes for which there is room.
 fn put(out: &mut ByteQueue, bytes: &[u8])
     ensures { Puts bytes.now out.old out.new }
 {
@@ -45,10 +46,10 @@ fn put(out: &mut ByteQueue, bytes: &[u8])
     }
 }
 
-/// How many bytes are put into digits at once.
+/// How many bytes are converted to digits at once.
 const CHUNK: usize = 512;
 
-/// Appends the digits of some bytes.
+/// Appends the digits of a few bytes.
 fn put_chunk(out: &mut ByteQueue, bytes: &[u8])
     requires { length bytes.now ≤ CHUNK }
     ensures { Puts (encode_lower bytes.now) out.old out.new }
@@ -152,7 +153,8 @@ fn write_end_line(page: &mut Page, out: &mut ByteQueue, link: &Link)
     page.write(out, b"\n");
 }
 
-/// Writes the last lines of a run: that, after the counters if these are asked for.
+/// Writes the last lines of a run: the state and the totals, after the counters if these are asked
+/// for.
 pub(crate) fn write_end(out: &mut ByteQueue, link: &Link, counted: bool)
     ensures { HandsOver (queued out.old) (queued out.new) (end_text counted link.now) }
 {

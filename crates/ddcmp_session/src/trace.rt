@@ -1,5 +1,5 @@
-//! A trace: the frames that went to the line and those that came from it, discarded bytes, and
-//! expiries of the reply timer.
+//! A trace: the frames that were written to the line and those received from it, discarded bytes,
+//! and expiries of the reply timer.
 ghost use Rattle.std.specs.Prelude.{◌≡◌, ◌+◌, ◌*◌, ◌∷◌, ◌++◌, List, ℕ, [], length, max, min};
 ghost use Rattle.std.specs.Prelude.{codes, IfErr, IfOk, Some};
 ghost use Rattle.ddcmp_explain.specs.Output.{line_in};
@@ -23,10 +23,10 @@ use ddcmp_io::{ByteQueue, Page};
 use std::alloc::Global;
 use std::marker::Model;
 
-/// The most bytes of text beside the digits of the data that a frame carries.
+/// The most bytes of text in a line beside the digits of the frame's data.
 const NOTE: usize = 256;
 
-/// Which way bytes went.
+/// The direction of bytes.
 #[derive(Clone, Copy)]
 pub(crate) enum Way {
     ToLine,
@@ -34,7 +34,7 @@ pub(crate) enum Way {
 }
 
 impl Way {
-    /// Returns what is between the moment and the line of a frame.
+    /// Returns the mark between the moment and the text of a frame.
     fn mark(self) -> &'static [u8]
         ensures { result.now ≡ mark_of self }
     {
@@ -45,10 +45,9 @@ impl Way {
     }
 }
 
-/// A trace of a line. What standard error has no room for is left out, so that no trace holds a
-/// link up.
+/// A trace of a line. Lines without room are left out, so that a trace never blocks a link.
 pub(crate) struct Trace {
-    /// How much room is left to other reports.
+    /// How much room is left for other reports.
     spared: usize,
     sent: WayReader,
     came: WayReader,
@@ -77,7 +76,7 @@ impl Drop for Trace {
 }
 
 impl Trace {
-    /// A trace of a line of messages of at most this many bytes.
+    /// Makes a trace of a line whose messages have at most this many bytes.
     pub(crate) fn new(alloc: Global, most: u16, spared: usize) -> Result<Trace, ReaderRefusal>
         ensures sent { IfOk result (λ t. IsNew (min (max most 1) 16383) t.sent) }
         ensures came { IfOk result (λ t. IsNew (min (max most 1) 16383) t.came) }
@@ -100,7 +99,7 @@ impl Trace {
         }
     }
 
-    /// The line is another from now on.
+    /// Reports the end of the line, and restarts on another.
     pub(crate) fn restart(&mut self, errors: &mut Errors)
         ensures { BeginsAnew self.old self.new errors.old errors.new }
     {
@@ -109,7 +108,7 @@ impl Trace {
         self.came.restart();
     }
 
-    /// The line has ended: what was discarded after the last frames is reported.
+    /// Reports what was discarded after the last frames, when the line has ended.
     pub(crate) fn end(&mut self, errors: &mut Errors)
         ensures { LogsEnd self.old self.new errors.old errors.new }
     {
@@ -117,8 +116,8 @@ impl Trace {
         self.log_discarded(Way::FromLine, 1, errors);
     }
 
-    /// Puts the lines of the frames that bytes complete, which went this way, after a text, and of
-    /// what was discarded before them.
+    /// Writes the lines of the frames that bytes in this direction complete, and of the bytes
+    /// discarded before them.
     pub(crate) fn log(&mut self, way: Way, bytes: &[u8], errors: &mut Errors)
         ensures { Logs way bytes.now self.old self.new errors.old errors.new }
     {
@@ -130,7 +129,7 @@ impl Trace {
         self.log_discarded(way, MOST_DISCARDED, errors);
     }
 
-    /// Puts the lines of what a byte completes.
+    /// Writes the lines of what a byte completes.
     fn log_byte(&mut self, way: Way, byte: u8, errors: &mut Errors)
         ensures { LogsByte way byte self.old self.new errors.old errors.new }
     {
@@ -144,7 +143,7 @@ impl Trace {
         }
     }
 
-    /// Takes a byte that went this way.
+    /// Handles a byte in this direction.
     fn push(&mut self, way: Way, byte: u8) -> Option<Completed>
         ensures takes { TakesByte (heard_of way self.old) byte result (heard_of way self.new) }
         ensures stays { self.new ≡ with_heard way (heard_of way self.new) self.old }
@@ -155,7 +154,7 @@ impl Trace {
         }
     }
 
-    /// The data of the item that the last byte completed which went this way.
+    /// Returns the data of the item that the last byte in this direction completed.
     fn data(&self, way: Way) -> &[u8]
         ensures { result.now ≡ (heard_of way self.entry.now).frames.lent }
     {
@@ -165,7 +164,7 @@ impl Trace {
         }
     }
 
-    /// Puts the line of what was discarded after the last frame, if that many bytes were.
+    /// Reports the bytes discarded after the last frame, if there are at least this many.
     fn log_discarded(&mut self, way: Way, least: u64, errors: &mut Errors)
         ensures { LogsDiscarded way least self.old self.new errors.old errors.new }
     {
@@ -173,7 +172,8 @@ impl Trace {
         put_skipped(self.spared, self.now, way, discarded, errors);
     }
 
-    /// Returns what was discarded after the last frame that went this way, if that many bytes were.
+    /// Returns the bytes discarded after the last frame in this direction, if there are at least
+    /// this many.
     fn discard(&mut self, way: Way, least: u64) -> Option<Skipped>
         ensures discards { Discards (heard_of way self.old) least result (heard_of way self.new) }
         ensures stays { self.new ≡ with_heard way (heard_of way self.new) self.old }
@@ -184,7 +184,7 @@ impl Trace {
         }
     }
 
-    /// It is this moment, and the station's timer has expired or not.
+    /// Notes the moment, and writes a line if the station's timer has expired.
     pub(crate) fn wake(&mut self, now: u64, has_expired: bool, errors: &mut Errors)
         ensures now { self.new ≡ record self.old { now = now } }
         ensures lines { HasLines self.old.spared (timer_lines now has_expired)
@@ -197,7 +197,8 @@ impl Trace {
     }
 }
 
-/// Begins a line of at most `needed` bytes, if there is room for it and for what else is reported.
+/// Begins a line of at most `needed` bytes, if there is room for it and the room left to other
+/// reports.
 fn begin_line(spared: usize, needed: usize, errors: &mut Errors) -> bool
     ensures room { result ≡ has_room (room_beside spared needed) errors.old }
     ensures line { HasLine (room_beside spared needed) [] errors.old errors.new }
@@ -205,7 +206,7 @@ fn begin_line(spared: usize, needed: usize, errors: &mut Errors) -> bool
     errors.begin_line(spared.saturating_add(needed).saturating_add(LAST_ROOM))
 }
 
-/// Puts the line of an expiry of the timer.
+/// Writes the line of an expiry of the timer.
 fn put_timer(spared: usize, now: u64, errors: &mut Errors)
     ensures { HasLine (room_beside spared NOTE) (timer_line now) errors.old errors.new }
 {
@@ -223,7 +224,7 @@ fn write_timer(now: u64, text: &mut ByteQueue)
     let _is_whole = page.flush(text);
 }
 
-/// Puts the line of discarded bytes, if there are any.
+/// Writes the line of discarded bytes, if there are any.
 fn put_skipped(spared: usize, now: u64, way: Way, skipped: Option<Skipped>, errors: &mut Errors)
     ensures { HasLines spared (skipped_lines now way skipped) errors.old errors.new }
 {
@@ -258,7 +259,7 @@ fn write_skipped(now: u64, way: Way, skipped: Skipped, text: &mut ByteQueue)
     let _is_whole = page.flush(text);
 }
 
-/// Puts the line of an item with the data that it lends.
+/// Writes the line of an item with its data.
 fn put_item(spared: usize, now: u64, way: Way, item: &Item, data: &[u8], errors: &mut Errors)
     ensures { HasLine (room_beside spared (capped (2 * length «data».now + NOTE)))
         (item_line now way (item.now, «data».now)) errors.old errors.new }
@@ -320,7 +321,7 @@ fn write_words(reason: Nak, text: &mut ByteQueue)
     let _is_whole = page.flush(text);
 }
 
-/// The reason of a NAK that is good.
+/// Returns the reason of a good NAK.
 fn reason_in(item: &Item) -> Option<Nak>
     ensures { result ≡ reason_of item.now }
 {

@@ -1,11 +1,11 @@
--- The words for what a station has counted.
+-- The text of a station's counters.
 use Rattle.std.specs.Prelude.{ℕ, List, ◌++◌, codes, decimal}
 use Rattle.ddcmp_core.specs.declared.counters.NakCounts.{NakCounts}
 use Rattle.ddcmp_core.specs.declared.counters.Counters.{Counters}
 use Rattle.ddcmp_station.specs.declared.counts.Layout.{Layout}
 use Rattle.ddcmp_station.specs.declared.counts.Layout.TheVariants.{Text, Json}
 
--- what is before a name, and between it and its value
+-- the text before a name, and between it and its value
 abbrev pub before_name : Layout → List ℕ
 before_name Text = codes " "
 before_name Json = codes ",\""
@@ -22,7 +22,7 @@ named layout name value = before_name layout ++ name ++ before_value layout ++ v
 abbrev pub counter_text : Layout → List ℕ → ℕ → List ℕ
 counter_text layout name n = named layout name (decimal n)
 
--- the NAKs of each reason that went one way
+-- the NAKs of each reason in one direction
 abbrev pub nak_counts_text : Layout → List ℕ → NakCounts → List ℕ
 nak_counts_text layout way c =
     counter_text layout (way ++ codes "header_check") c.header_check
@@ -34,7 +34,7 @@ nak_counts_text layout way c =
     ++ counter_text layout (way ++ codes "format") c.format
     ++ counter_text layout (way ++ codes "other") c.other
 
--- what came and went
+-- what was received and sent
 abbrev pub traffic_text : Layout → Counters → List ℕ
 traffic_text layout c =
     counter_text layout (codes "rep_sent") c.rep_sent
@@ -46,7 +46,7 @@ traffic_text layout c =
     ++ counter_text layout (codes "messages_up") c.messages_up
     ++ counter_text layout (codes "bytes_up") c.bytes_up
 
--- what went wrong
+-- the faults
 abbrev pub fault_counts_text : Layout → Counters → List ℕ
 fault_counts_text layout c =
     counter_text layout (codes "expiries") c.expiries

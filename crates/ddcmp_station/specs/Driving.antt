@@ -1,4 +1,4 @@
--- What `drive` does: its turns, and what came of them.
+-- What `drive` does: its turns, and their result.
 use Rattle.std.specs.Prelude.{◌≡◌, ℕ, ◌+◌, ◌≤◌, ◌<◌, Bool, false, ◌&&◌, if◌then◌else◌, ◌==◌, nat_le}
 use Rattle.std.specs.Prelude.{min, List, [], ◌∷◌, ◌++◌, length, take, Option, Some, None, Result}
 use Rattle.std.specs.Prelude.{Ok, Err}
@@ -23,15 +23,15 @@ use Rattle.ddcmp_proto.specs.Bytes.{after_piece, notices_of_piece, frame_on_line
 use Rattle.ddcmp_station.specs.UserCalls.{UserCall, calls_of_offer, calls_of_notices, calls_of_mail}
 use Rattle.ddcmp_proto.specs.Station.{StationView}
 
--- One turn: the moment that the clock returned, the message that the user offered (no bytes if
--- it offered none or wasn't asked), and the bytes that the read gave.
+-- One turn: the moment that the clock returned, the message that the user offered (no bytes if it
+-- offered none or wasn't asked), and the bytes that were read.
 pub record DriveTurn : Type 0 where
   pub now : ℕ
   pub offered : List ℕ
   pub came : List ℕ
 
--- A driven station: the station itself, the text of its line, the deadline of its timer, if
--- this call has set one, and the bytes that this call has written.
+-- A driven station: the station itself, the text of its line, the deadline of its timer, if this
+-- call has set one, the bytes that this call has written, and the calls that its user saw.
 pub record Driving : Type 0 where
   pub core : CoreView
   pub text : List ℕ
@@ -44,12 +44,12 @@ driving_from k text = record { core = k; text = text; deadline = None; written =
 
 -- ---- the timer
 
--- a moment this many milliseconds later, which a clock can return
+-- the moment this many milliseconds later, or the last one that a clock can return
 abbrev pub later : ℕ → ℕ → ℕ
 later now milliseconds = min (now + milliseconds) 18446744073709551615
 
--- The deadline is set if the timer was started since it was last asked, or is on while this
--- call has set none.
+-- The deadline is set if the timer was started and that wasn't reported yet, or if it is on and
+-- this call has set no deadline.
 abbrev pub deadline_at : ℕ → ℕ → Timer → Option ℕ → Option ℕ
 deadline_at milliseconds now Off deadline = deadline
 deadline_at milliseconds now Fresh deadline = Some (later now milliseconds)
@@ -71,12 +71,12 @@ core_after_expire k =
 abbrev pub core_after_take_arm : CoreView → CoreView
 core_after_take_arm k = record k { station = after_take_arm k.station }
 
--- whether a timer that is looked after at this moment expires
+-- whether a timer that is handled at this moment expires
 abbrev pub expires_at : ℕ → ℕ → Timer → Option ℕ → Bool
 expires_at milliseconds now timer deadline =
     is_on timer && is_due now (deadline_at milliseconds now timer deadline)
 
--- if the timer is on and its deadline has come, it expires
+-- the timer expires if it is on and its deadline is reached
 abbrev pub core_at_deadline : ℕ → Option ℕ → CoreView → CoreView
 core_at_deadline now deadline k =
     if is_on k.station.timer && is_due now deadline then core_after_expire k else k
@@ -93,7 +93,7 @@ abbrev pub frame_bytes : ℕ → Option Frame → List ℕ
 frame_bytes syn None = []
 frame_bytes syn (Some f) = frame_on_line syn f
 
--- all received messages go to the user
+-- all received messages are passed to the user
 abbrev pub core_after_mail : CoreView → CoreView
 core_after_mail k = record k { station = record k.station { inbox = [] } }
 
@@ -122,7 +122,7 @@ before_read milliseconds syn turn d = record d {
   seen = d.seen ++ calls_of_offer (before_offer milliseconds turn d) turn.offered;
 }
 
--- and the read: what came is taken, and all received messages are delivered
+-- and the read: the bytes that were read are handled, and all received messages are delivered
 abbrev pub after_read : List ℕ → Driving → Driving
 after_read came d = record d {
   core = core_after_mail (after_piece d.text came d.core);
@@ -140,7 +140,7 @@ after_turns milliseconds syn [] d = d
 after_turns milliseconds syn (turn ∷ rest) d =
     after_turns milliseconds syn rest (after_turn milliseconds syn turn d)
 
--- all that the reads gave
+-- all bytes that were read
 abbrev pub bytes_read : List DriveTurn → List ℕ
 bytes_read turns = flat_map (λ t. t.came) turns
 
@@ -148,31 +148,31 @@ bytes_read turns = flat_map (λ t. t.came) turns
 abbrev pub moments : List DriveTurn → List ℕ
 moments turns = flat_map (λ t. t.now ∷ []) turns
 
--- each turn reads once: an idle read gives no bytes
+-- each turn reads once; an idle read returns no bytes
 unfoldable pub read_answer : ℕ → Got
 read_answer n = if n == 0 then Idle else Bytes n
 
 abbrev pub read_answers : List DriveTurn → List Got
 read_answers turns = flat_map (λ t. read_answer (length t.came) ∷ []) turns
 
--- and what the read of a turn that was broken off answered, if there was one
+-- the result of the read of a turn that was broken off, if there was one
 abbrev pub last_read_answer : LineFault → List Got
 last_read_answer Read = Failed ∷ []
 last_read_answer Write = []
 last_read_answer Ended = Bytes 0 ∷ []
 last_read_answer Memory = []
 
--- A read returns at most 256 bytes, and if the source was never idle since its making at least
--- one: at the end of its input `drive` ends.
+-- A read returns at most 256 bytes, and at least one if the source was never idle since it was
+-- made: `drive` ends at the end of its input.
 unfoldable pub ReadsInTurns : Worst → List DriveTurn → Type 0
 ReadsInTurns worst [] = Unit {0}
 ReadsInTurns worst (turn ∷ rest) =
     (length turn.came ≤ 256) × (worst ≡ Fine → 0 < length turn.came) × ReadsInTurns worst rest
 
--- ---- what drive did
+-- ---- what `drive` did
 
--- What a source has left and what a sink holds, before and after; and the worst answer of the
--- source after.
+-- What a source has left, what a sink holds, the moments of the clock and the results of the reads,
+-- before and after; and the status of the source after.
 pub record Devices : Type 0 where
   pub left : Option (List ℕ)
   pub left_after : Option (List ℕ)
@@ -184,8 +184,8 @@ pub record Devices : Type 0 where
   pub answers : Option (List Got)
   pub answers_after : Option (List Got)
 
--- The same out of the devices themselves, before and after: first come what a source, a sink and
--- a clock show to contracts.
+-- The same from the devices themselves, before and after. The first arguments are what a source, a
+-- sink and a clock show to contracts.
 abbrev pub devices_of : {R W C : Type 0}
     → (R → Option (List ℕ)) → (R → Worst) → (R → Option (List Got)) → (W → Option (List ℕ))
     → (C → Option (List ℕ)) → R → R → W → W → C → C → Devices
@@ -202,9 +202,9 @@ devices_of left worst answers contents told
       answers_after = answers reader_after;
     }
 
--- These turns were taken: the source lost the bytes that came, the sink holds the bytes written,
--- the station is the driven one, whichever text it stands for, and `saw` holds of the calls of the
--- user.
+-- These turns were taken: the source lost the bytes read, the sink holds the bytes written, the
+-- station is the driven one, for every text that its reader stands for, and `saw` holds for the
+-- calls of the user.
 pub record TakesTurns (milliseconds : ℕ) (turns : List DriveTurn) (written : List ℕ)
     (seen : List UserCall) (deadline : Option ℕ) (old new : StationView)
     (devices : Devices) (saw : List UserCall → Type 0) : Type 0 where
@@ -229,8 +229,8 @@ pub record TakesTurns (milliseconds : ℕ) (turns : List DriveTurn) (written : L
         seen = seen;
       }
 
--- These turns were taken and one more up to its read, whose frame is `frame`, of which the sink
--- has got `sent`. Then the station was halted.
+-- These turns were taken, and one more up to its read, whose frame is `frame`; `sent` of it was
+-- written. Then the station was halted.
 pub record BreaksOff (milliseconds : ℕ) (turns : List DriveTurn) (last : DriveTurn)
     (written frame sent : List ℕ) (seen : List UserCall) (old new : StationView)
     (devices : Devices) (saw : List UserCall → Type 0) (fault : LineFault) : Type 0 where
@@ -259,7 +259,7 @@ pub record BreaksOff (milliseconds : ℕ) (turns : List DriveTurn) (last : Drive
       → (before_read milliseconds old.syn last
       (after_turns milliseconds old.syn turns (driving_from old.core text))).seen ≡ seen
 
--- how much of its last frame went out: all of it before a read, else some of it
+-- how much of the last frame was written: a prefix if the write failed, otherwise all of it
 abbrev pub IsSentPart : LineFault → List ℕ → List ℕ → Type 0
 IsSentPart Read sent frame = sent ≡ frame
 IsSentPart Write sent frame = (n : ℕ) × (sent ≡ take n frame)
@@ -274,7 +274,8 @@ EndsAtFault milliseconds count old new devices saw fault =
     × (length turns < count) × IsSentPart fault sent frame
     × BreaksOff milliseconds turns last written frame sent seen old new devices saw fault
 
--- What a call of `drive` for `count` turns did. Of refused memory its clause `memory` speaks.
+-- What a call of `drive` for `count` turns did. Its clause `memory` states what an allocation
+-- failure does.
 abbrev pub Drives : ℕ → ℕ → StationView → StationView → Devices → (List UserCall → Type 0)
     → Result Driven LineFault → Type 0
 Drives milliseconds count old new devices saw (Ok told) =

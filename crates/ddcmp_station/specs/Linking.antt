@@ -1,4 +1,4 @@
--- A link as its callers see it: a station as a service, and what each call does.
+-- A link as its callers see it, and what each call does.
 use Rattle.std.specs.Prelude.{ℕ, zero, suc, ◌+◌, ◌-◌, Bool, true, false, ◌&&◌, ◌||◌, not, nat_le}
 use Rattle.std.specs.Prelude.{nat_lt}
 use Rattle.std.specs.Prelude.{◌==◌, if◌then◌else◌, min, List, [], ◌∷◌, ◌++◌, length, drop, Option}
@@ -28,7 +28,7 @@ use Rattle.ddcmp_station.specs.Driving.{core_after_halt}
 use Rattle.ddcmp_station.specs.declared.link.Totals.{Totals}
 use Rattle.ddcmp_station.specs.declared.outbox.TheConstants.{ROOM}
 
--- Bytes that wait for the line, and how many bytes more may.
+-- The bytes pending for the line, and how many more there is room for.
 pub record OutboxView : Type 0 where
   pub waiting : List ℕ
   pub room : ℕ
@@ -36,7 +36,7 @@ pub record OutboxView : Type 0 where
 abbrev pub no_bytes : OutboxView
 no_bytes = record { waiting = []; room = ROOM }
 
--- if nothing waits any more there is all the room again
+-- once no byte is pending, all the room is free again
 abbrev pub after_taken : ℕ → OutboxView → OutboxView
 after_taken n o =
     record {
@@ -47,8 +47,8 @@ after_taken n o =
 abbrev pub after_put : List ℕ → OutboxView → OutboxView
 after_put bytes o = record { waiting = o.waiting ++ bytes; room = o.room - length bytes }
 
--- A link: its station, the bytes pending for the line, when the timer expires, if that is
--- set, how many milliseconds after its start that is, and what was counted.
+-- A link: its station, the bytes pending for the line, the deadline of the timer, if it is set, how
+-- many milliseconds after the start of the timer it is, and the totals.
 pub record LinkView : Type 0 where
   pub station : StationView
   pub outbox : OutboxView
@@ -56,7 +56,7 @@ pub record LinkView : Type 0 where
   pub milliseconds : ℕ
   pub totals : Totals
 
--- ---- what is counted
+-- ---- totals
 
 -- a total after n more: it stays at its largest value
 abbrev pub total_plus : ℕ → ℕ → ℕ
@@ -87,7 +87,7 @@ started s = if may_start s then after_start s else s
 abbrev pub entered : StationState → StationState
 entered s = if may_start s then after_enter_maintenance s else s
 
--- the deadline is looked after as `drive` does at the beginning of a turn
+-- the timer is handled as by `drive` at the beginning of a turn
 abbrev pub after_wake : ℕ → LinkView → LinkView
 after_wake now d = record d {
   station = record d.station {
@@ -98,7 +98,7 @@ after_wake now d = record d {
   deadline = deadline_at d.milliseconds now d.station.core.station.timer d.deadline;
 }
 
--- when that is to be done at the latest
+-- the moment when the timer is to be handled at the latest
 abbrev pub moment_or_now : Option ℕ → ℕ
 moment_or_now None = 0
 moment_or_now (Some moment) = moment
@@ -107,7 +107,7 @@ abbrev pub wakes_at : LinkView → Option ℕ
 wakes_at d =
     if is_on d.station.core.station.timer then Some (moment_or_now d.deadline) else None
 
--- whether a message of fitting length is accepted
+-- whether a message of suitable length is accepted
 abbrev pub takes_message : LinkView → Bool
 takes_message d =
     is_running d.station.core.station.state
@@ -153,8 +153,8 @@ abbrev pub is_nak_for_buffer : Header → Bool
 is_nak_for_buffer (header.Control h) = is_nak h.kind && (h.sub == NO_BUFFER_REASON)
 is_nak_for_buffer _ = false
 
--- A NAK 8 (no buffer) isn't sent before there is a buffer: while the inbox is full it is held
--- back, and with it what would be sent after it.
+-- A NAK 8 (no buffer) isn't sent before there is a buffer: while the inbox is full it is held back,
+-- and so are the frames after it.
 abbrev pub is_held_back : Option Frame → Limits → StationState → Bool
 is_held_back None l s = false
 is_held_back (Some f) l s = is_nak_for_buffer (header_of f) && not (has_room l s)
@@ -174,7 +174,8 @@ is_message (Some f) = is_data (header_of f)
 abbrev pub carries_message : LinkView → Bool
 carries_message d = is_message (frame_of_link d)
 
--- whether the next frame replies to a good one of the peer: an ACK, or a NAK that replies to a REP
+-- whether the next frame is a reply to a good one of the peer: an ACK, or a NAK that replies to a
+-- REP
 abbrev pub is_reply_of : ControlType → ℕ → Bool
 is_reply_of control.Ack sub = true
 is_reply_of control.Nak sub = sub == 3
@@ -188,15 +189,15 @@ abbrev pub is_reply_frame : Option Frame → Bool
 is_reply_frame None = false
 is_reply_frame (Some f) = is_reply (header_of f)
 
--- The peer isn't done: it is owed a reply, or is in the middle of a frame, of which the header came.
+-- The peer isn't done: a reply to it is pending, or a frame of it with a good header is unfinished.
 abbrev pub is_needed : LinkView → Bool
 is_needed d = is_reply_frame (frame_of_link d) || nat_le 8 (open_of d.station.line)
 
--- whether a frame of any length has room
+-- whether there is room for a frame of any length
 abbrev pub fits : LinkView → Bool
 fits d = nat_le (d.station.syn + d.station.core.limits.longest + 10) d.outbox.room
 
--- whether the station is polled, and whether it gives a frame then
+-- whether the station is polled, and whether it yields a frame then
 abbrev pub polls : LinkView → Bool
 polls d = fits d && not (holds_back d)
 
@@ -227,7 +228,7 @@ after_sent n d = record d {
   totals = record d.totals { written = total_plus d.totals.written n };
 }
 
--- ---- what comes
+-- ---- received bytes
 
 -- how many bytes of the line can be counted before it is cleared
 abbrev pub countable : StationView → ℕ
@@ -251,15 +252,16 @@ after_taking d = record (with_state (after_take d.station.core.station) d) {
   totals = totals_after_take d.station.core.station.inbox d.totals;
 }
 
--- ---- its ends
+-- ---- delivery and restarts
 
--- all that was accepted is acknowledged, and nothing is to be sent
+-- all accepted messages are acknowledged, and nothing is to be sent
 abbrev pub delivered : LinkView → Bool
 delivered d =
     length d.station.core.station.out == 0 && length d.outbox.waiting == 0
     && is_none (frame_of_link d)
 
--- halted, with nothing pending for the line, and started, if all received messages were taken
+-- the link is halted, its pending bytes are dropped, and it is started, if all received messages
+-- were taken
 abbrev pub anew : ReaderView → LinkView → LinkView
 anew line d = record d {
   station = record {
@@ -272,7 +274,7 @@ anew line d = record d {
   outbox = no_bytes;
 }
 
--- the same, but for maintenance
+-- the same for maintenance
 abbrev pub anew_for_maintenance : ReaderView → LinkView → LinkView
 anew_for_maintenance line d = record d {
   station = record {
@@ -285,7 +287,7 @@ anew_for_maintenance line d = record d {
   outbox = no_bytes;
 }
 
--- a new link, whose line has had no bytes
+-- a new link, whose line has received no bytes
 abbrev pub link_made : Config → ℕ → ReaderView → LinkView
 link_made config milliseconds line = record {
   station = record { core = core_made config; syn = config.syn; line = line };

@@ -1,4 +1,4 @@
-//! The text of what a station has counted.
+//! The text of a station's counters.
 ghost use Rattle.std.specs.Prelude.{◌≡◌, ◌++◌};
 ghost use Rattle.ddcmp_io.specs.Written.{HandsOver, output_of};
 ghost use Rattle.ddcmp_station.specs.CountersText.{counter_text, named, nak_counts_text};
@@ -22,7 +22,7 @@ pub enum Layout {
 impl Layout {
     ghost use Rattle.ddcmp_station.specs.CountersText.{before_name, before_value};
 
-    /// Returns what is before a name.
+    /// Returns the text before a name.
     fn before_name(self) -> &'static [u8]
         ensures { result.now ≡ before_name self }
     {
@@ -32,7 +32,7 @@ impl Layout {
         }
     }
 
-    /// Returns what is between a name and its value.
+    /// Returns the text between a name and its value.
     fn before_value(self) -> &'static [u8]
         ensures { result.now ≡ before_value self }
     {
@@ -61,7 +61,7 @@ pub fn write_counter<W: Sink, I: Integer>(
     write_number(page, out, count);
 }
 
-/// The NAKs of one reason that went one way.
+/// The NAKs of one reason in one direction.
 fn write_reason<W: Sink>(
     page: &mut Page,
     out: &mut W,
@@ -102,7 +102,7 @@ fn write_nak_counts<W: Sink>(
     write_reason(page, out, layout, way, b"other", counts.other);
 }
 
-/// Writes what came and went.
+/// Writes the counters of what was received and sent.
 fn write_traffic<W: Sink>(page: &mut Page, out: &mut W, layout: Layout, counts: &Counters)
     ensures { HandsOver (output_of W.broken W.contents out.old page.old)
         (output_of W.broken W.contents out.new page.new) (traffic_text layout counts.now) }
@@ -117,7 +117,7 @@ fn write_traffic<W: Sink>(page: &mut Page, out: &mut W, layout: Layout, counts: 
     write_counter(page, out, layout, b"bytes_up", counts.bytes_up);
 }
 
-/// Writes what went wrong.
+/// Writes the counters of faults.
 fn write_fault_counts<W: Sink>(page: &mut Page, out: &mut W, layout: Layout, counts: &Counters)
     ensures { HandsOver (output_of W.broken W.contents out.old page.old)
         (output_of W.broken W.contents out.new page.new) (fault_counts_text layout counts.now) }
@@ -140,7 +140,7 @@ pub fn write_counts<W: Sink>(page: &mut Page, out: &mut W, layout: Layout, count
     write_fault_counts(page, out, layout, counts);
 }
 
-/// Writes the line of all counters of a station, after the words for who has it.
+/// Writes the line of all counters of a station, after the words that name the station.
 pub fn write_counters<W: Sink>(page: &mut Page, writer: &mut W, who: &[u8], counts: &Counters)
     ensures { HandsOver (output_of W.broken W.contents writer.old page.old)
         (output_of W.broken W.contents writer.new page.new) (counters_line who.now counts.now) }

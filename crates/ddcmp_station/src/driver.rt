@@ -20,10 +20,10 @@ use ddcmp_io::LineFault;
 use ddcmp_proto::{MAX_COUNT, MAX_SYN, Notice, State, Station};
 use std::alloc::Global;
 
-/// The most bytes that are read in a turn.
+/// The largest number of bytes that are read in a turn.
 pub const READ_ROOM: usize = 256;
 
-/// What a call of `drive` did.
+/// The result of a call of `drive`.
 #[derive(Clone, Copy, Debug, PartialEq, Eq)]
 pub struct Driven {
     pub turns: u32,
@@ -33,19 +33,20 @@ pub struct Driven {
     pub written: u64,
 }
 
-/// What the turns so far have left.
+/// The state after the turns so far.
 #[derive(Drop)]
 struct Tally {
-    /// When the timer expires, if this call has set that.
+    /// The deadline of the timer, if this call has set one.
     deadline: Option<u64>,
     read: u64,
     written: u64,
 }
 
 /// Runs a station over a line for a number of turns. In a turn the reply timer is handled, a
-/// message of the user is sent, a frame is written, and what a read yields is handled: its notices
-/// and then all received messages go to the user. An idle read is no fault. After a fault of the
-/// line the station is halted. Start the station first, and give no reader that has failed.
+/// message of the user is sent, a frame is written, and the bytes of a read are handled: the
+/// notices and then all received messages are passed to the user. An idle read is no fault. After a
+/// fault of the line the station is halted. Start the station first, and pass no reader that has
+/// failed.
 pub fn drive<R: Source, W: Sink, U: User, C: Clock>(
     alloc: Global,
     station: &mut Station,
@@ -63,7 +64,7 @@ pub fn drive<R: Source, W: Sink, U: User, C: Clock>(
         (devices_of R.left R.state R.answers W.contents C.told reader.old reader.new
         writer.old writer.new clock.old clock.new) (Calls U.becomes user.old user.new) result }
 
-    // When each fault comes.
+    // When each fault is returned.
     ensures read { (result ≡ Err LineFault.Read) ↔ (R.state reader.new ≡ Worst.Failed) }
     ensures write { (result ≡ Err LineFault.Write) ↔ (W.broken writer.new ≡ true) }
     ensures ended { result ≡ Err LineFault.Ended → IsAtEnd (R.left reader.new) }
@@ -74,7 +75,7 @@ pub fn drive<R: Source, W: Sink, U: User, C: Clock>(
     let Ok(mut frame) = Vec::from_elem(alloc, 0u8, station.frame_room()) else {
         return Err(LineFault::Memory);
     };
-    // For a frame, for the message of the user, and for a received one.
+    // Room for a frame, for the message of the user, and for a received one.
     let frame = frame.as_mut_slice();
     let mut piece = [0; READ_ROOM];
     let mut tally = Tally {
@@ -100,7 +101,7 @@ pub fn drive<R: Source, W: Sink, U: User, C: Clock>(
     })
 }
 
-/// One turn.
+/// Runs one turn.
 fn turn<R: Source, W: Sink, U: User, C: Clock>(
     station: &mut Station,
     reader: &mut R,
@@ -138,8 +139,8 @@ fn turn<R: Source, W: Sink, U: User, C: Clock>(
     Ok(())
 }
 
-/// Asks the user for a message if the station takes one, and sends it; returns its length. It is at
-/// the front of the buffer.
+/// Asks the user for a message if the station accepts one, and sends it; returns its length. It is
+/// at the front of the buffer.
 #[tactic(auto, unfolding(crate::specs::UserCalls::Calls))]
 fn offer_message<U: User>(station: &mut Station, user: &mut U, buffer: &mut [u8]) -> usize
     requires { station.old.core.limits.longest ≤ length buffer.old }
@@ -233,7 +234,7 @@ fn receive<R: Source, U: User>(
     Ok(came)
 }
 
-/// Feeds a whole piece. Each notice goes to the user.
+/// Feeds a whole piece, and passes each notice to the user.
 fn feed_all<U: User>(station: &mut Station, user: &mut U, piece: &[u8])
     requires { station.old.line.offset + length piece.now < 2 ^ 64 }
     ensures stands { (text : List ℕ) → StandsFor station.old.line text

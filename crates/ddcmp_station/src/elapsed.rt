@@ -3,7 +3,7 @@ use crate::user::Clock;
 use std::io;
 use std::time::{self, Instant};
 
-/// The time since the making, by the system's clock. If that fails, the time stops.
+/// The time since it was made, by the system's clock. If the clock fails, the time stops.
 #[derive(Drop)]
 pub struct Elapsed<'a, C> {
     clock: &'a C,

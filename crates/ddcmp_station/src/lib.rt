@@ -1,7 +1,7 @@
 //! A station driven over a line. `drive` runs one over any reader and writer, turn by turn; `Link`
-//! is one for an event loop, the part of `ddcmp link` that decides, without a device and a clock.
-//! The station itself, over bytes alone, is that of `ddcmp_proto`. Also the words for what it
-//! reports: its state, its notices and its counters.
+//! is one for an event loop, the part of `ddcmp link` that makes the decisions, without a device
+//! and a clock. The station itself, over bytes alone, is that of `ddcmp_proto`. Also the texts of
+//! what it reports: its state, its notices and its counters.
 #![tactic(auto)]
 
 mod counts;

@@ -1,4 +1,4 @@
-//! A station with its way to the line and its deadline.
+//! A station with its outbox and its deadline.
 ghost use Rattle.std.specs.Prelude.{◌≡◌};
 ghost use Rattle.ddcmp_core.specs.Table.{acknowledged_by};
 ghost use Rattle.ddcmp_station.specs.Linking.{is_nak_for_buffer, is_reply as is_reply_header};
@@ -13,12 +13,12 @@ use ddcmp_proto::{
 use std::alloc::Global;
 use std::marker::Model;
 
-/// What a link has counted since it was made. Each stays at 2^64 - 1 once it is there.
+/// The totals of a link since it was made. Each stays at 2^64 - 1 once it is reached.
 #[derive(Clone, Copy, Debug, PartialEq, Eq)]
 pub struct Totals {
     /// The bytes of the line that were used.
     pub read: u64,
-    /// The bytes that the line took.
+    /// The bytes that were written to the line.
     pub written: u64,
     /// The messages that were accepted.
     pub sent: u64,
@@ -94,7 +94,8 @@ impl Link {
         ensures made { IfOk result (λ l. l ≡ link_made config timer_ms l.station.line) }
         ensures stands { IfOk result (λ l. StandsFor l.station.line []) }
 
-        // The first size that is out of range is refused; if none is, only an allocation failure.
+        // If a size is out of range, the first such is the refusal; otherwise it can only be an
+        // allocation failure.
         ensures refused { (refusal : ConfigRefusal) → first_refusal config ≡ Some refusal → result
             ≡ Err refusal }
         ensures only { first_refusal config ≡ None → IsOk result
@@ -122,8 +123,8 @@ impl Link {
         })
     }
 
-    /// Asks the peer to start; returns how many messages that weren't acknowledged were dropped.
-    /// Refused if the station isn't halted, or received messages weren't taken.
+    /// Asks the peer to start; returns how many unacknowledged messages were dropped. Refused if
+    /// the station isn't halted, or received messages weren't taken.
     pub fn start(&mut self) -> Result<u8, StartRefusal>
         ensures state { self.new ≡ with_state (started self.old.station.core.station) self.old }
         ensures answer { result ≡ answer_to_start self.old.station.core.station }
@@ -131,17 +132,17 @@ impl Link {
         self.station.start()
     }
 
-    /// Sends and takes nothing more. What is pending for the line stays.
+    /// Halts the station: it sends and accepts nothing more. Bytes pending for the line stay.
     pub fn halt(&mut self)
         ensures { self.new ≡ with_state (after_halt self.old.station.core.station) self.old }
     {
         self.station.halt();
     }
 
-    /// Halts the station, drops what is pending for the line and the bytes received from it, and
-    /// starts; returns how many messages that weren't acknowledged were dropped. If received
-    /// messages weren't taken it is refused, halted and cleared all the same: take them, then
-    /// start.
+    /// Halts the station, drops the bytes pending for the line and those received from it, and
+    /// starts; returns how many unacknowledged messages were dropped. If received messages weren't
+    /// taken this is refused, but the station is halted and the line cleared all the same: take
+    /// them, then start.
     pub fn restart(&mut self) -> Result<u8, StartRefusal>
         ensures state { self.new ≡ anew self.new.station.line self.old }
         ensures cleared { StandsFor self.new.station.line [] }
@@ -162,7 +163,7 @@ impl Link {
         self.station.enter_maintenance()
     }
 
-    /// Halts the station, and drops what is pending for the line and the bytes received from it.
+    /// Halts the station, and drops the bytes pending for the line and those received from it.
     fn clear(&mut self)
         ensures state { self.new ≡ record self.old {
           station = record {
@@ -179,8 +180,8 @@ impl Link {
         self.outbox.clear();
     }
 
-    /// Handles the reply timer: returns whether it expired. Call it last before a wait, and first
-    /// after it.
+    /// Handles the reply timer, and returns whether it expired. Call it last before a wait, and
+    /// first after it.
     pub fn wake(&mut self, now: u64) -> bool
         ensures state { self.new ≡ after_wake now self.old }
         ensures expires { result ≡ expires_at self.old.milliseconds now
@@ -210,7 +211,7 @@ impl Link {
         self.state() == State::Running && self.station.room()
     }
 
-    /// Accepts a message to be sent.
+    /// Accepts a message to be sent, or returns why not.
     pub fn offer(&mut self, message: &[u8]) -> Result<(), SendRefusal>
         ensures state { self.new ≡ after_offered message.now self.old }
         ensures answer { result ≡ answer_to_offered message.now self.old }
@@ -224,7 +225,8 @@ impl Link {
         }
     }
 
-    /// Accepts a message to be sent in maintenance mode: once, unnumbered, and never acknowledged.
+    /// Accepts a message to be sent in maintenance mode, once: it is neither numbered nor
+    /// acknowledged.
     pub fn offer_maintenance(&mut self, message: &[u8]) -> Result<(), SendRefusal>
         ensures state { self.new ≡ after_offered_maintenance message.now self.old }
         ensures answer { result ≡ answer_to_offered_maintenance message.now self.old }
@@ -246,8 +248,8 @@ impl Link {
         self.totals.sent = self.totals.sent.saturating_add(1);
     }
 
-    /// Puts the next frame after what is pending for the line; returns whether there was one and
-    /// room for it. A NAK 8 (no buffer) isn't put there while the inbox is full.
+    /// Queues the next frame after the bytes pending for the line; returns whether there was one
+    /// and room for it. A NAK 8 (no buffer) isn't queued while the inbox is full.
     pub fn fill_one(&mut self) -> bool
         ensures state { self.new ≡ after_frame self.old }
         ensures answer { result ≡ puts_frame self.old }
@@ -259,7 +261,7 @@ impl Link {
         self.outbox.put_frame(&mut self.station)
     }
 
-    /// Puts frames after what is pending for the line, as long as `fill_one` puts one.
+    /// Queues frames after the bytes pending for the line, as long as `fill_one` queues one.
     pub fn fill(&mut self)
         ensures frames { (n : ℕ) × (self.new ≡ after_frames n self.old) }
         ensures all { puts_frame self.new ≡ false }
@@ -267,11 +269,11 @@ impl Link {
         while self.fill_one() {}
     }
 
-    /// Returns whether the next frame is a NAK 8 (no buffer), and there is no buffer yet.
+    /// Returns whether the next frame is a NAK 8 (no buffer), and there is still no buffer.
     fn holds_back(&self) -> bool
         ensures { result ≡ holds_back self.now }
     {
-        // With room in the inbox, as most often, what is next is decided by `poll` alone.
+        // If there is room in the inbox, which is the usual case, `poll` alone decides.
         if self.wants_line() {
             return false;
         }
@@ -281,16 +283,15 @@ impl Link {
         }
     }
 
-    /// Returns whether the next frame carries a message: one that is new, or one to be
-    /// retransmitted.
+    /// Returns whether the next frame carries a message, a new one or one to be retransmitted.
     pub fn sends_message(&self) -> bool
         ensures { result ≡ carries_message self.now }
     {
         matches!(self.station.next_header(), Some(Header::Data(_)))
     }
 
-    /// Returns whether the peer isn't done: it is owed an ACK, or a NAK in reply to a REP, or is in
-    /// the middle of a frame, of which a good header came. Junk has none.
+    /// Returns whether the peer isn't done: an ACK for it is pending, or a NAK in reply to a REP,
+    /// or a frame of it is partly received, with a good header. Junk has no such header.
     pub fn is_needed(&self) -> bool
         ensures { result ≡ is_needed self.now }
     {
@@ -349,7 +350,7 @@ impl Link {
           station = self.new.station;
           totals = totals_after_feed result.used result.notice self.old.totals;
         } }
-        // Without a text.
+        // The same with no text.
         ensures offset { self.new.station.line.offset
             ≡ self.old.station.line.offset + result.used }
         ensures limits { self.new.station.core.limits ≡ self.old.station.core.limits }
@@ -417,21 +418,21 @@ impl Link {
         self.station.state()
     }
 
-    /// Returns what the station counted.
+    /// Returns the counters of the station.
     pub fn counters(&self) -> &Counters
         ensures { result.now ≡ self.now.station.core.counters }
     {
         self.station.counters()
     }
 
-    /// Returns what the link counted.
+    /// Returns the totals of the link.
     pub fn totals(&self) -> Totals
         ensures { result ≡ self.now.totals }
     {
         self.totals
     }
 
-    /// Returns the sizes that it was made with.
+    /// Returns the sizes with which it was made.
     pub fn config(&self) -> Config
         ensures { result ≡ config_of self.now.station.core.limits self.now.station.syn }
     {

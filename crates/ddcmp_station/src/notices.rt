@@ -39,7 +39,7 @@ pub fn notice_number(notice: Notice) -> Option<u8>
     }
 }
 
-/// Writes the line of a notice, after the words for who has it.
+/// Writes the line of a notice, after the words that name the station.
 pub fn write_notice<W: Sink>(page: &mut Page, writer: &mut W, who: &[u8], notice: Notice)
     ensures { HandsOver (output_of W.broken W.contents writer.old page.old)
         (output_of W.broken W.contents writer.new page.new) (notice_line who.now notice) }

@@ -10,14 +10,14 @@ use ddcmp_proto::Station;
 use std::alloc::{AllocError, Global};
 use std::marker::Model;
 
-/// The most bytes that wait for the line: more than the longest frame has.
+/// The most bytes that can be pending: more than the longest frame has.
 pub const ROOM: usize = 65536;
 
-/// Bytes that wait for the line, in their order.
+/// Bytes pending for the line, in their order.
 #[derive(Drop)]
 pub(crate) struct Outbox {
     bytes: Vec<u8>,
-    /// Where the pending ones begin and end.
+    /// The start and the end of the pending bytes.
     start: usize,
     end: usize,
 }
@@ -39,7 +39,7 @@ impl Model for Outbox {
 }
 
 impl Outbox {
-    /// No bytes. It takes all the memory that it will need.
+    /// Makes an empty one. Allocates all the memory that it will need.
     pub(crate) fn new(alloc: Global) -> Result<Outbox, AllocError>
         ensures { IfOk result (λ made. made ≡ no_bytes) }
     {
@@ -50,7 +50,7 @@ impl Outbox {
         })
     }
 
-    /// Returns how many bytes more it has room for.
+    /// Returns for how many more bytes there is room.
     pub(crate) fn room(&self) -> usize
         ensures value { result ≡ self.now.room }
         ensures most { result + length self.now.waiting ≤ ROOM }
@@ -58,7 +58,7 @@ impl Outbox {
         ROOM - self.end
     }
 
-    /// Puts the next frame of a station after what is pending; returns whether there was one.
+    /// Queues the next frame of a station after the pending bytes; returns whether there was one.
     pub(crate) fn put_frame(&mut self, station: &mut Station) -> bool
         requires { station.old.syn + station.old.core.limits.longest + 10 ≤ self.old.room }
         ensures station { station.new ≡ record station.old { core = after_poll station.old.core } }
@@ -82,8 +82,8 @@ impl Outbox {
         &self.bytes[self.start..self.end]
     }
 
-    /// Notes that the line took the first `n` of them. If none is pending all the room is free
-    /// again.
+    /// Notes that the line took the first `n` pending bytes. Once none is pending, all the room is
+    /// free again.
     pub(crate) fn took(&mut self, n: usize)
         requires { n ≤ length self.old.waiting }
         ensures { self.new ≡ after_taken n self.old }
@@ -95,7 +95,7 @@ impl Outbox {
         }
     }
 
-    /// Drops all.
+    /// Drops all bytes.
     pub(crate) fn clear(&mut self)
         ensures { self.new ≡ no_bytes }
     {

@@ -6,7 +6,7 @@ ghost use Rattle.ddcmp_station.specs.Driving.{expires_at};
 use ddcmp_proto::Station;
 
 /// Sets the deadline of a timer that was started, or that was on before this call, and lets it
-/// expire if that has come. Returns whether it has.
+/// expire if the deadline is reached. Returns whether it has.
 pub(crate) fn keep_time(
     station: &mut Station,
     now: u64,

@@ -8,7 +8,7 @@ pub trait Clock {
     ghost use Rattle.std.specs.Prelude.{ℕ, List, [], ◌∷◌, Option, None};
     ghost use Rattle.std.specs.Io.KnownBytes.{Appends};
 
-    // The moments that it has returned, if these are known.
+    // The moments that it has returned, if they are known.
     ghost told: { Self → Option (List ℕ) } = { λ _. None };
 
     /// The time in milliseconds.
@@ -21,7 +21,7 @@ pub trait User {
     ghost use Rattle.std.specs.Prelude.{◌≤◌, length, take};
     ghost use Rattle.ddcmp_station.specs.UserCalls.{UserCall, Asked, Told, Handed};
 
-    // What becomes of it by a call, if that is known.
+    // Its state after a call, if that is known.
     ghost becomes: { Self → UserCall → Self → Type 0 } = { λ _ _ _. Unit {0} };
 
     /// Writes a message to be sent at the front of `out`; returns its length, 0 for none.
@@ -29,11 +29,11 @@ pub trait User {
         ensures within { result ≤ length out.new }
         ensures asked { becomes self.old (Asked (length out.new) (take result out.new)) self.new };
 
-    /// Takes a notice.
+    /// Handles a notice.
     fn notice(&mut self, notice: Notice)
         ensures { becomes self.old (Told notice) self.new };
 
-    /// Takes a received message.
+    /// Handles a received message.
     fn mail(&mut self, message: &[u8])
         ensures { becomes self.old (Handed message.now) self.new };
 }

@@ -11,13 +11,13 @@ pub record Incoming : Type 0 where
   pub r : ℕ
   pub inbox : List (List ℕ)
 
--- An inbox: the largest number of messages, the largest length of one, and what was received.
+-- An inbox: the largest number of messages, the largest length of one, and its number and messages.
 pub record InboxView : Type 0 where
   pub limit : ℕ
   pub longest : ℕ
   pub incoming : Incoming
 
--- what holds of every inbox
+-- what holds for every inbox
 pub record IsSoundInbox (v : InboxView) : Type 0 where
   pub number : v.incoming.r < 256
   pub stored : IsStored v.limit v.longest v.incoming.inbox
@@ -40,7 +40,7 @@ incoming_after_offer limit s number message = record {
   inbox = if may_receive limit s number then s.inbox ++ message ∷ [] else s.inbox;
 }
 
--- a message with no number
+-- a message without a number
 abbrev pub incoming_after_put : ℕ → Incoming → List ℕ → Incoming
 incoming_after_put limit s message =
     record s { inbox = if nat_lt (length s.inbox) limit then s.inbox ++ message ∷ [] else s.inbox }

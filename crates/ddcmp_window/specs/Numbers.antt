@@ -1,4 +1,4 @@
--- Numbers modulo 256 as tests and steps that compute.
+-- Computable tests and steps of numbers modulo 256.
 use Rattle.std.specs.Prelude.{ℕ, ◌+◌, ◌%◌, Bool, nat_le}
 use Rattle.ddcmp_num.specs.Sequence.{distance}
 

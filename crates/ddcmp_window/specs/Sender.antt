@@ -10,14 +10,15 @@ use Rattle.ddcmp_window.specs.Numbers.{next_number, is_within}
 use Rattle.ddcmp_window.specs.Store.{IsStored}
 
 -- The highest number acknowledged (a), the highest number sent (n), the next number to send (t),
--- and the messages kept, the first of which has the number a + 1.
+-- and the queued messages, the first of which has the number a + 1.
 pub record Outgoing : Type 0 where
   pub a : ℕ
   pub n : ℕ
   pub t : ℕ
   pub out : List (List ℕ)
 
--- A sender: the largest number of messages, the largest length of one, and what is sent.
+-- A sender: the largest number of messages, the largest length of one, and its numbers and
+-- messages.
 pub record SenderView : Type 0 where
   pub limit : ℕ
   pub longest : ℕ
@@ -26,12 +27,13 @@ pub record SenderView : Type 0 where
 abbrev pub nothing_sent : Outgoing
 nothing_sent = record { a = 0; n = 0; t = 1; out = [] }
 
--- How many of the messages kept come before t. It is the distance from a to t - 1: if 255 are
--- kept and all are sent, t is a again.
+-- How many queued messages are before t. This is the distance from a to t - 1: if 255 are queued
+-- and all are sent, t is a again.
 abbrev pub outgoing_before_next : Outgoing → ℕ
 outgoing_before_next s = (s.t + 511 - s.a) % 256
 
--- numbers are bytes, t is in a + 1 to n + 1, and what was sent and isn't acknowledged is kept
+-- numbers are bytes, t lies in a + 1 to n + 1, and messages that were sent and aren't acknowledged
+-- are queued
 pub record IsInWindow (s : Outgoing) : Type 0 where
   pub a_byte : s.a < 256
   pub n_byte : s.n < 256
@@ -39,20 +41,20 @@ pub record IsInWindow (s : Outgoing) : Type 0 where
   pub next_sent : outgoing_before_next s ≤ distance s.a s.n
   pub sent_kept : distance s.a s.n ≤ length s.out
 
--- what holds of every sender
+-- what holds for every sender
 pub record IsSoundSender (v : SenderView) : Type 0 where
   pub in_window : IsInWindow v.outgoing
   pub stored : IsStored v.limit v.longest v.outgoing.out
 
--- Why a message isn't kept: the first of these that fits. It has no bytes, it is longer than the
--- longest that is kept, or as many are kept as the limit allows.
+-- Why a message isn't accepted: the first of these that applies. It has no bytes, it is longer than
+-- the longest that is accepted, or as many are queued as the limit allows.
 abbrev pub accept_refusal : ℕ → ℕ → Outgoing → List ℕ → Option SendRefusal
 accept_refusal limit longest s message =
     if length message == 0 then Some Empty
     else (if nat_lt longest (length message) then Some TooLong
     else (if nat_le limit (length s.out) then Some WindowFull else None))
 
--- the number of the next message that is kept
+-- the number of the next message that is accepted
 abbrev pub number_accepted : Outgoing → Seq
 number_accepted s = record { 0 = (s.a + (length s.out + 1)) % 256 }
 
@@ -71,7 +73,7 @@ outgoing_after_accept limit longest s message =
 abbrev pub count_acknowledged : Outgoing → ℕ → ℕ
 count_acknowledged s q = if is_within s.a q s.n then distance s.a q else 0
 
--- an acknowledgement of q: the messages up to q leave, and t passes q
+-- an acknowledgement of q: the messages up to q leave the queue, and t is after q
 abbrev pub outgoing_after_ack : Outgoing → ℕ → Outgoing
 outgoing_after_ack s q =
     record s {
@@ -80,7 +82,7 @@ outgoing_after_ack s q =
       out = drop (count_acknowledged s q) s.out;
     }
 
--- a NAK with q: an acknowledgement of q, and all that is kept then is retransmitted
+-- a NAK with q: an acknowledgement of q, and all messages still queued are retransmitted
 abbrev pub outgoing_after_nak : Outgoing → ℕ → Outgoing
 outgoing_after_nak s q =
     record (outgoing_after_ack s q) {
@@ -102,6 +104,6 @@ outgoing_after_next s =
       t = if has_next_message s then next_number s.t else s.t;
     }
 
--- the first message leaves, with no number
+-- the first message leaves the queue, without a number
 abbrev pub outgoing_after_pop : Outgoing → Outgoing
 outgoing_after_pop s = record s { out = drop 1 s.out }

@@ -1,4 +1,4 @@
-//! The receiving half: messages that came in sequence.
+//! The receiving half: messages that were received in sequence.
 ghost use Rattle.std.specs.Prelude.{◌≡◌, ◌≢◌, ◌↔◌, ◌<◌, ◌≤◌, [], length, slice_index_or, sum_by};
 ghost use Rattle.std.specs.Prelude.{IsTrue, Option, Some, option_map};
 
@@ -6,7 +6,7 @@ use crate::store::{Store, take_first};
 use ddcmp_num::Seq;
 use std::marker::Model;
 
-/// What became of a message that was offered.
+/// The result of offering a message.
 #[derive(Clone, Copy, Debug, PartialEq, Eq)]
 pub enum Offer {
     /// It is in the inbox.
@@ -17,7 +17,7 @@ pub enum Offer {
     NoRoom,
 }
 
-/// Messages that came in sequence and weren't taken yet.
+/// Messages that were received in sequence and weren't taken yet.
 #[derive(Drop)]
 pub struct Inbox<S: Store> {
     store: S,
@@ -47,7 +47,7 @@ impl<S: Store> Inbox<S> {
     ghost use Rattle.ddcmp_window.specs.Inbox.{incoming_after_offer, incoming_after_put};
     ghost use Rattle.ddcmp_window.specs.Inbox.{incoming_after_take};
 
-    /// An inbox that has received nothing.
+    /// Makes an inbox that has received nothing.
     pub fn new(store: S) -> Self
         requires { S.messages store ≡ [] }
         ensures value { result
@@ -73,7 +73,7 @@ impl<S: Store> Inbox<S> {
         self.last = Seq(0);
     }
 
-    /// Takes a message if its number follows the last one and there is room.
+    /// Accepts a message if its number follows the last one and there is room.
     pub fn offer(&mut self, number: Seq, message: &[u8]) -> Offer
         requires not_empty { 1 ≤ length message.now }
         requires not_too_long { length message.now ≤ self.old.longest }
@@ -83,7 +83,7 @@ impl<S: Store> Inbox<S> {
         ensures answer { result ≡ answer_to_offer self.old.limit self.old.incoming number.0 }
         ensures sound { IsSoundInbox self.new }
 
-        // When each refusal comes.
+        // When each refusal is returned.
         ensures out_of_sequence { (result ≡ Offer.OutOfSequence)
             ↔ (number.0 ≢ next_number self.old.incoming.r) }
         ensures no_room { (result ≡ Offer.NoRoom) ↔ ((number.0 ≡ next_number self.old.incoming.r)
@@ -100,7 +100,7 @@ impl<S: Store> Inbox<S> {
         Offer::Accepted
     }
 
-    /// Takes a message that has no number, if there is room.
+    /// Accepts a message without a number, if there is room.
     pub fn put(&mut self, message: &[u8]) -> bool
         requires not_empty { 1 ≤ length message.now }
         requires not_too_long { length message.now ≤ self.old.longest }
@@ -129,7 +129,7 @@ impl<S: Store> Inbox<S> {
         take_first(&mut self.store, out)
     }
 
-    /// The highest number received in sequence.
+    /// Returns the highest number received in sequence.
     pub fn last(&self) -> Seq
         ensures { result.0 ≡ self.now.incoming.r }
     {
@@ -169,11 +169,11 @@ impl<S: Store> Inbox<S> {
         self.store.bytes()
     }
 
-    /// What holds of every inbox: a law, for those who have one. It does nothing.
+    /// States what holds for every inbox. Does nothing.
     pub fn holds(&self)
         ensures { IsSoundInbox self.now }
     {
-        // If a field is looked at, the proof knows what holds of all of them.
+        // A look at a field lets the proof use what holds for all of them.
         let _ = &self.store;
     }
 }

@@ -1,5 +1,5 @@
-//! Messages in a window: those that are kept until they are acknowledged, and those that came in
-//! sequence.
+//! Messages in a window: those that are queued until they are acknowledged, and those that were
+//! received in sequence.
 #![tactic(auto)]
 
 mod inbox;

@@ -1,4 +1,4 @@
-//! A store that keeps all messages in one ring of bytes.
+//! A store with one ring for the bytes of all messages.
 ghost use Rattle.ddcmp_num.specs.declared.limits.TheConstants.{MAX_COUNT, MAX_WINDOW};
 ghost use Rattle.std.specs.Prelude.{◌≡◌, ◌+◌, ◌*◌, ◌<◌, ◌≤◌, IfOk};
 ghost use Rattle.std.specs.Prelude.{[], ◌++◌, length, take, drop, slice_index, sum, All};
@@ -27,7 +27,7 @@ pub struct RingStore {
 }
 
 impl RingStore {
-    /// Makes a store that holds no message. All memory is taken here.
+    /// Makes an empty store. Allocates all the memory that it will need.
     pub fn new(alloc: Global, limit: u8, longest: u16) -> Result<RingStore, Memory>
         requires limit { 1 ≤ limit }
         requires longest { (1 ≤ longest) × (longest ≤ MAX_COUNT) }
@@ -88,7 +88,7 @@ fn drop_first<T: Drop>(ring: &mut HeapCircularBuffer<T>, n: usize)
     ring.truncate_front(ring.len() - n);
 }
 
-/// Copies the bytes from `start` on, of two slices of which one follows the other, into `out`.
+/// Copies the bytes from `start` on, in two consecutive slices, into `out`.
 fn copy_across(front: &[u8], back: &[u8], start: usize, out: &mut [u8])
     requires { start + length out.old ≤ length (front.now ++ back.now) }
     ensures { out.new ≡ take (length out.old) (drop start (front.now ++ back.now)) }

@@ -1,4 +1,4 @@
-//! The sending half: messages are kept until they are acknowledged.
+//! The sending half: messages are queued until they are acknowledged.
 ghost use Rattle.std.specs.Prelude.{◌≡◌, ◌≢◌, ◌↔◌, ◌<◌, ◌≤◌, [], length, sum_by, IsTrue, Option};
 ghost use Rattle.std.specs.Prelude.{Some, None, option_map, if◌then◌else◌, Err, OnOk};
 
@@ -6,16 +6,16 @@ use crate::store::{Store, take_first};
 use ddcmp_num::Seq;
 use std::marker::Model;
 
-/// Why a message to be sent isn't accepted: the first that fits.
+/// The reason why a message to be sent isn't accepted: the first that applies.
 #[derive(Clone, Copy, Debug, PartialEq, Eq)]
 pub enum SendRefusal {
     /// The station is in another state. Only a station returns this.
     WrongState,
     /// The message has no bytes.
     Empty,
-    /// The message is longer than the longest that is kept.
+    /// The message is longer than the longest that is accepted.
     TooLong,
-    /// As many messages are kept as the window allows.
+    /// As many messages are queued as the window allows.
     WindowFull,
 }
 
@@ -124,7 +124,7 @@ impl<S: Store> Sender<S> {
             (number_accepted self.old.outgoing) }
         ensures sound { OnOk result (IsSoundSender self.new) }
 
-        // When each refusal comes.
+        // When each refusal is returned.
         ensures wrong_state { result ≢ Err SendRefusal.WrongState }
         ensures empty { (result ≡ Err SendRefusal.Empty) ↔ (length message.now ≡ 0) }
         ensures too_long { (result ≡ Err SendRefusal.TooLong)
@@ -140,15 +140,15 @@ impl<S: Store> Sender<S> {
         Ok(Seq(self.acknowledged.0.wrapping_add(self.store.len())))
     }
 
-    /// The peer has all messages up to `number`; returns how many of them it hadn't acknowledged
-    /// before.
+    /// Handles an acknowledgement of all messages up to `number`; returns how many are newly
+    /// acknowledged.
     pub fn acknowledged(&mut self, number: Seq) -> u8
         ensures state { self.new
             ≡ record self.old { outgoing = outgoing_after_ack self.old.outgoing number.0 } }
         ensures newly { result ≡ count_acknowledged self.old.outgoing number.0 }
         ensures sound { IsSoundSender self.new }
     {
-        // Most frames acknowledge nothing new.
+        // The usual frame acknowledges nothing new.
         if number == self.acknowledged || !Seq::within(self.acknowledged, number, self.sent) {
             return 0;
         }
@@ -161,8 +161,8 @@ impl<S: Store> Sender<S> {
         newly
     }
 
-    /// The peer has all messages up to `number` and asks for those after it; returns how many it
-    /// hadn't acknowledged before, or None if `number` isn't one that it can have.
+    /// Handles a NAK, which acknowledges all messages up to `number` and asks for those after it;
+    /// returns how many are newly acknowledged, or None if `number` can't be acknowledged.
     pub fn refused(&mut self, number: Seq) -> Option<u8>
         ensures state { self.new
             ≡ record self.old { outgoing = outgoing_after_nak self.old.outgoing number.0 } }
@@ -179,7 +179,7 @@ impl<S: Store> Sender<S> {
         Some(newly)
     }
 
-    /// Returns the number and the length of the next message to send, which stays the next.
+    /// Returns the number and the length of the next message to send, without advancing.
     pub fn peek(&self) -> Option<(Seq, usize)>
         ensures { result
             ≡ option_map (λ message. (record { 0 = self.now.outgoing.t }, length message))
@@ -192,7 +192,7 @@ impl<S: Store> Sender<S> {
         Some((self.next, self.store.length(before)))
     }
 
-    /// Writes the next message to send at the front of `out`: its number and its length.
+    /// Writes the next message to send at the front of `out`; returns its number and its length.
     pub fn next(&mut self, out: &mut [u8]) -> Option<(Seq, usize)>
         requires { self.old.longest ≤ length out.old }
         ensures state { self.new
@@ -212,7 +212,7 @@ impl<S: Store> Sender<S> {
         Some((number, length))
     }
 
-    /// Moves the first message, which gets no number, to the front of `out` and returns its length.
+    /// Moves the first message, without a number, to the front of `out` and returns its length.
     pub fn pop(&mut self, out: &mut [u8]) -> Option<usize>
         requires longest { self.old.longest ≤ length out.old }
         requires all_acknowledged { self.old.outgoing.a ≡ self.old.outgoing.n }
@@ -243,14 +243,14 @@ impl<S: Store> Sender<S> {
         Seq::distance(self.acknowledged, self.sent)
     }
 
-    /// The highest number sent.
+    /// Returns the highest number sent.
     pub fn last_sent(&self) -> Seq
         ensures { result.0 ≡ self.now.outgoing.n }
     {
         self.sent
     }
 
-    /// The highest number acknowledged.
+    /// Returns the highest number acknowledged.
     pub fn last_acknowledged(&self) -> Seq
         ensures { result.0 ≡ self.now.outgoing.a }
     {
@@ -264,32 +264,32 @@ impl<S: Store> Sender<S> {
         self.next
     }
 
-    /// Returns the number of messages kept.
+    /// Returns the number of queued messages.
     pub fn len(&self) -> u8
         ensures { result ≡ length self.now.outgoing.out }
     {
         self.store.len()
     }
 
-    /// Returns whether one more message may be kept.
+    /// Returns whether one more message may be queued.
     pub fn room(&self) -> bool
         ensures { IsTrue result ↔ (length self.now.outgoing.out < self.now.limit) }
     {
         self.store.room()
     }
 
-    /// Returns the length of all messages kept.
+    /// Returns the length of all queued messages.
     pub fn bytes(&self) -> usize
         ensures { result ≡ sum_by length self.now.outgoing.out }
     {
         self.store.bytes()
     }
 
-    /// What holds of every sender: a law, for those who have one. It does nothing.
+    /// States what holds for every sender. Does nothing.
     pub fn holds(&self)
         ensures { IsSoundSender self.now }
     {
-        // If a field is looked at, the proof knows what holds of all of them.
+        // A look at a field lets the proof use what holds for all of them.
         let _ = &self.store;
     }
 

@@ -1,4 +1,4 @@
-//! A store that keeps each message in a buffer of its own.
+//! A store with a buffer for each message.
 ghost use Rattle.ddcmp_num.specs.declared.limits.TheConstants.{MAX_COUNT, MAX_WINDOW};
 ghost use Rattle.std.specs.Prelude.{◌≡◌, ◌<◌, ◌≤◌, ℕ, [], length, slice_index_or, vec_capacity};
 ghost use Rattle.std.specs.Prelude.{IfOk};
@@ -27,7 +27,7 @@ pub struct SlotStore {
 }
 
 impl SlotStore {
-    /// Makes a store that holds no message. All memory is taken here.
+    /// Makes an empty store. Allocates all the memory that it will need.
     pub fn new(alloc: Global, limit: u8, longest: u16) -> Result<SlotStore, Memory>
         requires limit { 1 ≤ limit }
         requires longest { (1 ≤ longest) × (longest ≤ MAX_COUNT) }

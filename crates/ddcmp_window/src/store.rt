@@ -1,4 +1,4 @@
-//! What holds messages, within two limits.
+//! Stores of messages, within two limits.
 ghost use Rattle.std.specs.Prelude.{◌≡◌, ◌↔◌, ℕ, ◌+◌, ◌<◌, ◌≤◌, List, [], ◌∷◌, ◌++◌, length, drop};
 ghost use Rattle.std.specs.Prelude.{slice_index_or, sum_by, IsTrue, Option, Some, None, option_map};
 ghost use Rattle.ddcmp_num.specs.declared.limits.TheConstants.{MAX_COUNT, MAX_WINDOW};
@@ -17,9 +17,9 @@ impl From<AllocError> for Memory {
 }
 
 /// A list of messages, first in, first out. It holds at most `limit` messages of 1 to `longest`
-/// bytes. All its memory is reserved when it is made: no call takes any.
+/// bytes. All its memory is reserved when it is made: no call allocates.
 pub trait Store {
-    // The messages, the first to leave first; the largest number of messages; the largest length.
+    // The messages in their order; the largest number of messages; the largest length.
     ghost messages: { Self → List (List ℕ) };
 
     ghost limit: { Self → ℕ };
@@ -38,7 +38,7 @@ pub trait Store {
     fn longest(&self) -> u16
         ensures { result ≡ longest self.now };
 
-    /// Returns whether one more message fits.
+    /// Returns whether there is room for one more message.
     fn room(&self) -> bool
         ensures { IsTrue result ↔ (length (messages self.now) < limit self.now) };
 
@@ -81,7 +81,7 @@ pub trait Store {
         ensures limit { limit self.new ≡ limit self.old }
         ensures longest { longest self.new ≡ longest self.old };
 
-    // What holds of every store.
+    // What holds for every store.
     ghost within_limit: { (s : Self) → length (messages s) ≤ limit s };
 
     ghost limit_in_range: { (s : Self) → (1 ≤ limit s) × (limit s ≤ MAX_WINDOW) };

@@ -1,4 +1,4 @@
--- What a core found to be sent next, as a row of the table.
+-- The frame that a core is to send next, as a row of the table.
 use Rattle.std.specs.Prelude.{◌≡◌, ◌<◌, true, false, [], length, drop, slice_index_or}
 use Rattle.ddcmp_core.specs.declared.state.State.TheVariants.{Running, Maintenance}
 use Rattle.ddcmp_core.specs.declared.state.Owed.TheVariants.{Quiet}
@@ -9,7 +9,7 @@ use Rattle.ddcmp_core.specs.Table.{StationState, Data, Acked, Naked, Rep, Strt, 
 use Rattle.ddcmp_core.specs.Table.{Idle, Sends, before_next, message_at_next, after_data}
 use Rattle.ddcmp_core.specs.Core.{is_sent_reason}
 
--- the row: what is sent, and the station after it
+-- the row: the frame that is sent, and the station after it
 abbrev pub next_of : Sending → StationState → Next
 next_of sending.Nothing s = Idle
 next_of sending.Strt s = Sends Strt (record s { due = false; timer = Fresh })
@@ -22,7 +22,7 @@ next_of sending.Ack s = Sends (Acked s.r) (record s { reply = Quiet })
 next_of (sending.Maint bytes) s =
     Sends (Maint (slice_index_or s.out 0 [])) (record s { out = drop 1 s.out })
 
--- the reason is one that a station sends; number and length are those of the message that is next
+-- the reason is one that a station sends; number and length are those of the next message
 abbrev pub FitsSending : Sending → StationState → Type 0
 FitsSending (sending.Nak why) s = is_sent_reason why ≡ true
 FitsSending (sending.Data number bytes) s = (s.state ≡ Running) × (before_next s < length s.out)

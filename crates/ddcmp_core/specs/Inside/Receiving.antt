@@ -1,5 +1,5 @@
--- What a core is once something came, and what its user is reported: the rows of each state, with
--- what they count.
+-- A core after an input, and what is reported to its user: the rows of each state, with their
+-- counters.
 use Rattle.std.specs.Prelude.{ℕ, List, length, Option}
 use Rattle.ddcmp_frame.specs.Fields.{ShortFields}
 use Rattle.ddcmp_core.specs.declared.counters.Counters.{Counters}
@@ -11,7 +11,7 @@ use Rattle.ddcmp_core.specs.Counting.{maintenance_counters}
 use Rattle.ddcmp_core.specs.Frames.{frame_of_control}
 use Rattle.ddcmp_core.specs.Core.{CoreView}
 
--- a good control message came
+-- a good control message as an input
 abbrev pub received_control : ShortFields → Received
 received_control h = Good (frame_of_control h.kind h)
 
@@ -45,7 +45,7 @@ core_on_maintenance h c = record c {
 abbrev pub told_in_maintenance : Received → CoreView → Option Notice
 told_in_maintenance h c = maintenance_notice c.limits c.station h
 
--- a data message is counted if the inbox takes it
+-- a data message is counted if the inbox accepts it
 abbrev pub counters_on_data : ℕ → List ℕ → CoreView → Counters
 counters_on_data num message c =
     counters_after_up_if (takes_data c.limits c.station num) (length message) c.counters

@@ -1,4 +1,4 @@
-//! What a station does on input.
+//! How a station handles its input.
 ghost use Rattle.std.specs.Prelude.{◌≡◌};
 ghost use Rattle.ddcmp_core.specs.Table.{acknowledged_notice as notice_told};
 ghost use Rattle.ddcmp_core.specs.Frames.{is_data_header};
@@ -10,7 +10,7 @@ use crate::station_core::Core;
 use ddcmp_frame::{ControlType, Counted, Header, Nak, Short};
 use ddcmp_window::{Offer, Seq, Store};
 
-/// The notice that this many messages were acknowledged.
+/// Returns the notice that this many messages were acknowledged.
 fn acknowledged(messages: u8) -> Option<Notice>
     ensures { result ≡ notice_told messages }
 {
@@ -57,7 +57,7 @@ impl<S: Store> Core<S> {
               (received input.now) self.old.counters;
         } }
         ensures told { result ≡ notice_of self.old.limits self.old.station (received input.now) }
-        // What is reported acknowledged has left.
+        // Messages that are reported acknowledged have left the queue.
         ensures leaves { acknowledged_by result + length self.new.station.out
             ≤ length self.old.station.out }
     {
@@ -219,7 +219,7 @@ impl<S: Store> Core<S> {
         }
     }
 
-    /// A reply to what came is to be sent.
+    /// Sets the pending reply.
     fn owe(&mut self, reply: Owed) -> Option<Notice>
         requires { is_sent_reply reply ≡ true }
         ensures state { self.new
@@ -230,7 +230,7 @@ impl<S: Store> Core<S> {
         None
     }
 
-    /// The peer asks what came in sequence: this number is the highest that it sent.
+    /// Handles a REP: this number is the highest that the peer sent.
     fn on_rep(&mut self, num: Seq) -> Option<Notice>
         ensures state { self.new ≡ record self.old { station = on_rep self.old.station num.0 } }
         ensures told { result ≡ None }
@@ -242,7 +242,7 @@ impl<S: Store> Core<S> {
         }
     }
 
-    /// The peer asks a running end to start.
+    /// Handles a STRT in a running station.
     fn on_strt(&mut self) -> Notice
         requires { self.old.station.state ≡ State.Running }
         ensures state { self.new
@@ -256,7 +256,8 @@ impl<S: Store> Core<S> {
         Notice::PeerRestarted
     }
 
-    /// The peer has all messages up to a number; returns how many it hadn't acknowledged before.
+    /// Handles an acknowledgement of all messages up to a number; returns how many are newly
+    /// acknowledged.
     fn acknowledging(&mut self, resp: Seq) -> u8
         requires { self.old.station.state ≡ State.Running }
         ensures state { self.new ≡ record self.old { station = after_ack self.old.station resp.0 } }
@@ -274,7 +275,7 @@ impl<S: Store> Core<S> {
         messages
     }
 
-    /// The peer has all messages up to a number, and asks for those after it.
+    /// Handles a NAK: it acknowledges all messages up to a number, and asks for those after it.
     fn on_nak(&mut self, resp: Seq) -> Option<Notice>
         requires { self.old.station.state ≡ State.Running }
         ensures state { self.new ≡ record self.old { station = on_nak self.old.station resp.0 } }
@@ -290,7 +291,7 @@ impl<S: Store> Core<S> {
         }
     }
 
-    /// A data message for a running end.
+    /// Handles a data message in a running station.
     fn on_data(&mut self, header: Counted, message: &[u8]) -> Option<Notice>
         requires running { self.old.station.state ≡ State.Running }
         requires count { header.count ≡ length message.now }

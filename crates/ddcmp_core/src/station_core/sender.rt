@@ -1,4 +1,4 @@
-//! What a station sends.
+//! The frames that a station sends.
 ghost use Rattle.std.specs.Prelude.{◌≡◌, ◌<◌, ◌≤◌};
 ghost use Rattle.ddcmp_core.specs.Frames.{control_header, data_header, maint_header};
 
@@ -14,7 +14,7 @@ const NO_FLAGS: Flags = Flags { q: false, s: false };
 
 const BOTH_FLAGS: Flags = Flags { q: true, s: true };
 
-/// What is sent next: a row of the table.
+/// The frame that is sent next: a row of the table.
 #[derive(Clone, Copy)]
 enum Sending {
     Nothing,
@@ -29,7 +29,7 @@ enum Sending {
     Maint(usize),
 }
 
-/// A control message.
+/// Makes the header of a control message.
 fn control(kind: ControlType, sub: u8, flags: Flags, resp: u8, num: u8) -> Header
     requires { sub < 64 }
     ensures { result ≡ control_header kind sub flags resp num }
@@ -44,7 +44,7 @@ fn control(kind: ControlType, sub: u8, flags: Flags, resp: u8, num: u8) -> Heade
     })
 }
 
-/// A data message of this many bytes.
+/// Makes the header of a data message of this many bytes.
 fn data(count: usize, resp: u8, num: u8) -> Header
     requires { (1 ≤ count) × (count ≤ MAX_COUNT) }
     ensures { result ≡ data_header count resp num }
@@ -58,7 +58,7 @@ fn data(count: usize, resp: u8, num: u8) -> Header
     })
 }
 
-/// A maintenance message of this many bytes.
+/// Makes the header of a maintenance message of this many bytes.
 fn maintenance(count: usize) -> Header
     requires { (1 ≤ count) × (count ≤ MAX_COUNT) }
     ensures { result ≡ maint_header count }
@@ -109,7 +109,7 @@ impl<S: Store> Core<S> {
         self.header(self.sending())
     }
 
-    /// The row of the table that is next: what is sent, and before what else.
+    /// Returns the row of the table that is next, by the order of precedence.
     #[tactic(auto, unfolding(crate::specs::Table::next))]
     fn sending(&self) -> Sending
         ensures row { next self.now.station ≡ next_of result self.now.station }
@@ -127,7 +127,7 @@ impl<S: Store> Core<S> {
         }
     }
 
-    /// The same of a running station.
+    /// The same for a running station.
     fn sending_running(&self) -> Sending
         requires { self.now.station.state ≡ State.Running }
         ensures row { let s = self.now.station in next_running s.reply s ≡ next_of result s }
@@ -146,7 +146,7 @@ impl<S: Store> Core<S> {
         }
     }
 
-    /// Returns the header of what is sent.
+    /// Returns the header of the frame that is sent.
     fn header(&self, sending: Sending) -> Option<Header>
         requires { FitsSending sending self.now.station }
         ensures header { result
@@ -216,7 +216,7 @@ impl<S: Store> Core<S> {
         }
     }
 
-    /// Goes past the next message of the window.
+    /// Sends the next message of the window.
     #[tactic(auto, unfolding(crate::specs::Counting::counters_after_next))]
     fn advance_data(&mut self, number: Seq, bytes: usize, out: &mut [u8])
         requires fits { FitsSending (Sending.Data number bytes) self.old.station }
@@ -231,7 +231,7 @@ impl<S: Store> Core<S> {
         ensures out { let row = next_of (Sending.Data number bytes) self.old.station in
             out.new ≡ with_front (option_map message_of (next_frame row)) out.old }
     {
-        // An ACK that is owed goes with the data.
+        // The data carry a pending ACK.
         self.reply = Owed::Quiet;
         self.timer = self.timer.started();
         let first = self.sender.last_sent().next();
@@ -243,7 +243,7 @@ impl<S: Store> Core<S> {
         }
     }
 
-    /// The first of the maintenance messages leaves.
+    /// Sends the first maintenance message.
     #[tactic(auto, unfolding(crate::specs::Counting::counters_after_next))]
     fn advance_maintenance(&mut self, bytes: usize, out: &mut [u8])
         requires fits { FitsSending (Sending.Maint bytes) self.old.station }

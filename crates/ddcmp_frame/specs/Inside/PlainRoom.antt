@@ -1,9 +1,9 @@
--- What holds of the plain reader's fields.
+-- What holds for the plain reader's fields.
 use Rattle.std.specs.Prelude.{◌≡◌, ◌+◌, ◌<◌, ◌≤◌, false, vec_len, vec_capacity}
 use Rattle.ddcmp_num.specs.declared.limits.TheConstants.{MAX_COUNT}
 use Rattle.ddcmp_frame.specs.declared.plain.PlainReader.TheInside.{Inside}
 
--- The buffer was reserved for the longest frame that is taken, and an unfinished one is shorter.
+-- The buffer was reserved for the longest frame that is accepted, and an unfinished one is shorter.
 pub record HasPlainRoom (r : Inside) : Type 0 where
   pub some : 0 < r.max
   pub most : r.max ≤ MAX_COUNT

@@ -1,4 +1,4 @@
--- What a scan of a line holds, and what its steps do.
+-- The state of a scan of a line, and what its steps do.
 use Rattle.std.specs.Prelude.{◌≡◌, ℕ, ◌+◌, ◌<◌, ◌≤◌, ◌^◌, Bool, true, false, List, [], ◌∷◌, ◌++◌}
 use Rattle.std.specs.Prelude.{length, take, drop, slice_index, Option, Some, None, Ok, Err, vec_len}
 use Rattle.std.specs.Prelude.{vec_capacity}
@@ -20,9 +20,9 @@ use Rattle.ddcmp_frame.specs.Reading.{place_after, count_of, by_verdict, is_data
 use Rattle.ddcmp_frame.specs.Reader.{ReaderView, StandsFor, LentBeside, EndsWith, items_given}
 use Rattle.ddcmp_frame.specs.Step.{place_untold}
 
--- ---- what is held
+-- ---- the bytes held
 
--- the bytes of the unfinished frame that are kept
+-- the buffered bytes of the unfinished frame
 abbrev pub bytes_in : Phase → List ℕ → List ℕ
 bytes_in Seeking buffer = []
 bytes_in Header buffer = buffer
@@ -68,14 +68,14 @@ pub record HasFrame (max : ℕ) (h : HeaderValue) (count : ℕ) (bytes : List �
   pub counted : count_of h ≡ Some count
   pub taken : count ≤ max
 
--- what holds of the bytes in the buffer
+-- what holds for the bytes in the buffer
 abbrev pub FitsPhase : ℕ → Phase → List ℕ → Type 0
 FitsPhase max Seeking bytes = Unit {0}
 FitsPhase max Header bytes = HasHeader bytes
 FitsPhase max (Frame h n) bytes = HasFrame max h n bytes
 FitsPhase max (TooLong skipped left) bytes = (0 < left) × (skipped + left ≤ MAX_COUNT + 10)
 
--- The buffer was reserved for the longest frame that is taken.
+-- The buffer was reserved for the longest frame that is accepted.
 pub record IsSoundScan (s : Scan) : Type 0 where
   pub some : 0 < s.max
   pub most : s.max ≤ MAX_COUNT
@@ -86,16 +86,16 @@ pub record IsSoundScan (s : Scan) : Type 0 where
   pub lent : 0 < s.lent → 8 + s.lent ≤ vec_len s.buffer
   pub lent_within : s.lent ≤ s.max
 
--- It lends nothing, and there is a piece to take from.
+-- The scan lends nothing, and the piece isn't empty.
 pub record IsReady (s : Scan) (piece : List ℕ) : Type 0 where
   pub sound : IsSoundScan s
   pub lent : s.lent ≡ 0
   pub some : 0 < length piece
   pub fits : s.offset + length piece < 2 ^ 64
 
--- ---- what eight bytes are
+-- ---- the meaning of eight bytes
 
--- the eight bytes are all that the item takes
+-- the item consists of just the eight bytes
 pub record GivesItem (max at : ℕ) (bytes : List ℕ) (item : Item) : Type 0 where
   pub row : (lost : Bool) → by_verdict max (place_untold at lost bytes) (parsed bytes)
       ≡ Some ((item, []) ∷ [], place_after 8 false (place_untold at lost bytes))
@@ -112,7 +112,7 @@ IsCandidate max at bytes (Announces h n) =
 
 -- ---- what a piece does
 
--- What bytes do to a reader that stands for a text: only the last of them may give an item.
+-- What bytes do to a reader that stands for a text: only the last of them may yield an item.
 pub record GrowsBy (old : ReaderView) (piece : List ℕ) (given : Option Item) (new : ReaderView)
     (text : List ℕ) : Type 0 where
   pub stands : StandsFor new (text ++ piece)
@@ -121,7 +121,7 @@ pub record GrowsBy (old : ReaderView) (piece : List ℕ) (given : Option Item) (
   pub items : items old.max (text ++ piece) ≡ items old.max text ++ items_given given new.lent
   pub wire : EndsWith given new.lent (text ++ piece)
 
--- what a step does that uses some bytes of a piece
+-- what a step does, which uses some bytes of a piece
 pub record TakesPiece (old : ReaderView) (piece : List ℕ) (used : ℕ) (given : Option Item)
     (new : ReaderView) : Type 0 where
   pub within : used ≤ length piece
@@ -132,12 +132,12 @@ pub record TakesPiece (old : ReaderView) (piece : List ℕ) (used : ℕ) (given 
   pub lent_within : length new.lent ≤ old.max
   pub grows : (text : List ℕ) → StandsFor old text → GrowsBy old (take used piece) given new text
 
--- the same, of a scan
+-- the same for a scan
 abbrev pub Takes : Scan → List ℕ → Pushed → Scan → Type 0
 Takes old piece pushed new =
     TakesPiece (view_of old) piece pushed.used pushed.item (view_of new)
 
--- a whole data frame, both of whose checks are right
+-- a whole data frame with both CRCs right
 pub record IsDataFrame (max : ℕ) (h : CountedFields) (text : List ℕ) : Type 0 where
   pub bytes : IsBytes text
   pub size : length text ≡ h.count + 10
@@ -146,7 +146,7 @@ pub record IsDataFrame (max : ℕ) (h : CountedFields) (text : List ℕ) : Type 
   pub taken : h.count ≤ max
   pub right : is_data_right h.count text ≡ true
 
--- a step that takes one from the front of a piece, where its data stay
+-- a step that reads such a frame from the front of a piece, where its data stay
 abbrev pub TakesFrame : Scan → List ℕ → CountedFields → Scan → Type 0
 TakesFrame old piece h new =
     TakesPiece (view_of old) piece (h.count + 10) (Some (Good old.offset (Data h)))

@@ -1,4 +1,4 @@
--- What contracts see of one end of a pair, and what holds of each.
+-- What contracts see of one end of a pair, and what holds for each.
 use Rattle.std.specs.Prelude.{◌≡◌, ℕ, ◌+◌, ◌<◌, ◌≤◌, false, List, [], length, slice_index_or}
 use Rattle.std.specs.Prelude.{Option, Some}
 use Rattle.ddcmp_frame.specs.Reader.{ReaderView, StandsFor}
@@ -8,13 +8,13 @@ use Rattle.ddcmp_proto.specs.Station.{StationView}
 use Rattle.ddcmp_pair.specs.Place.{WholeFrame, place_of}
 use Rattle.ddcmp_pair.specs.Run.{EndState}
 
--- An end, and the place of the good frames that arrived here among those that the other end sent:
--- none, once an arrival here wasn't honest.
+-- An end, and the place of the good frames that arrived here among those that the other end sent;
+-- no place, once an arrival here wasn't honest.
 pub record SideView : Type 0 where
   pub state : EndState
   pub place : Option ℕ
 
--- the end whose station this is, with what it has done since the line was cleared
+-- the end with this station and this history since the line was cleared
 abbrev pub end_with : StationView → List (List ℕ) → List (List ℕ) → List WholeFrame → List ℕ
     → ℕ → ℕ → EndState
 end_with station given taken sent arrived acknowledged starts = record {
@@ -28,8 +28,8 @@ end_with station given taken sent arrived acknowledged starts = record {
   starts = starts;
 }
 
--- What was reported acknowledged had been accepted; so had, if this end isn't halted, what is
--- kept. What was taken is no longer than what this end receives.
+-- Only accepted messages were reported acknowledged; if this end isn't halted, its queued messages
+-- were accepted, too. No message that was taken is longer than this end receives.
 pub record IsSoundEnd (x : EndState) : Type 0 where
   pub told : x.acknowledged ≤ length x.given
   pub kept : is_halted x.core.station.state ≡ false
@@ -37,7 +37,7 @@ pub record IsSoundEnd (x : EndState) : Type 0 where
   pub short : (i : ℕ) → i < length x.taken
       → length (slice_index_or x.taken i []) ≤ x.core.limits.longest
 
--- A place that is known is the place of all good frames that arrived.
+-- A known place is the place of all good frames that arrived.
 abbrev pub IsPlaced : SideView → List WholeFrame → Type 0
 IsPlaced x sent =
     (n : ℕ) → x.place ≡ Some n

@@ -18,7 +18,7 @@ use ddcmp_core::Notice;
 use ddcmp_frame::{Header, Item, Reader};
 use ddcmp_proto::{Memory, Station};
 
-/// What was reported, and what of it is counted.
+/// The notices, and the counts taken from them.
 #[derive(Drop)]
 struct NoticeTally {
     notices: Vec<Notice>,
@@ -27,7 +27,7 @@ struct NoticeTally {
 }
 
 impl NoticeTally {
-    /// One more notice. There is room for it.
+    /// Adds a notice for which there is room.
     fn hear(&mut self, notice: Notice)
         requires room { vec_len self.old.notices < vec_capacity self.old.notices }
         requires small { 0 < acknowledged_by (Some notice)
@@ -68,7 +68,7 @@ fn feed_all(station: &mut Station, arrived: &[u8], from: usize, heard: &mut Noti
         (notices_of_piece (take from arrived.now) (drop from arrived.now) station.old.core) }
     ensures starts { heard.new.starts ≡ count_plus heard.old.starts (restarts_in
         (notices_of_piece (take from arrived.now) (drop from arrived.now) station.old.core)) }
-    // What was reported acknowledged has left.
+    // Messages that were reported acknowledged have left the queue.
     ensures leaves { heard.new.acknowledged + length station.new.core.station.out
         ≤ heard.old.acknowledged + length station.old.core.station.out }
     // A halted station stays halted, and reports nothing acknowledged.
@@ -86,7 +86,7 @@ fn feed_all(station: &mut Station, arrived: &[u8], from: usize, heard: &mut Noti
     }
 }
 
-/// One past the first frame, from `place` on, that is this one.
+/// Returns one past the first frame, from `place` on, that equals this one.
 fn place_after(sent: &Frames, place: usize, header: &Header, data: &[u8]) -> Option<usize>
     requires { place ≤ length sent.now.all }
     ensures value { result ≡ place_after_of (header.now, «data».now) sent.now.all place }
@@ -100,8 +100,8 @@ fn place_after(sent: &Frames, place: usize, header: &Header, data: &[u8]) -> Opt
     None
 }
 
-/// Returns the place after what a byte completed: a good frame is looked for after the one before
-/// it.
+/// Returns the place after the item that a byte completed: a good frame is searched after the one
+/// before it.
 fn next_place(item: Option<Item>, data: &[u8], sent: &Frames, place: Option<usize>) -> Option<usize>
     requires { IfSome place (λ n. n ≤ length sent.now.all) }
     ensures value { result ≡ place_next item «data».now sent.now.all place }
@@ -149,7 +149,7 @@ impl Side {
     ghost use Rattle.ddcmp_pair.specs.Run.{after_arrival_here, notices_at};
     ghost use Rattle.ddcmp_pair.specs.Inside.Sides.{IsPlaced};
 
-    /// Bytes arrive.
+    /// Handles bytes that arrive.
     pub(super) fn arrive(&mut self, bytes: &[u8], sent: &Frames) -> Result<Reply, Memory>
         requires { IsPlaced self.old sent.now.all }
         ensures state { IsOk result → self.new.state

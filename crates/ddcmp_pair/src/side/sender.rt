@@ -1,4 +1,4 @@
-//! What the user of an end sends and takes, and the frames that it writes.
+//! The messages that the user of an end sends and takes, and the frames that the end writes.
 ghost use Rattle.std.specs.Prelude.{◌≡◌, ◌+◌, ◌<◌, ◌≤◌, ◌++◌, ℕ, List, [], length, replicate, Some};
 ghost use Rattle.std.specs.Prelude.{option_map, option_to_list, unwrap_or, vec_capacity, vec_len};
 ghost use Rattle.ddcmp_frame.specs.declared.codes.TheConstants.{SYN};
@@ -18,7 +18,7 @@ use ddcmp_frame::Header;
 use ddcmp_frame::codes::HEADER_BYTES;
 use ddcmp_proto::{Memory, Station};
 
-/// Returns the number of bytes of data that a header counts.
+/// Returns the number of bytes of data with a header.
 fn data_length(header: &Header) -> usize
     ensures { (message : List ℕ) → IsFrame header.now message → result ≡ length message }
 {
@@ -29,7 +29,7 @@ fn data_length(header: &Header) -> usize
     }
 }
 
-/// Returns the data of a frame with this header, which is on a line after its fill.
+/// Returns the data of a frame with this header, from its bytes on the line after its fill.
 fn data_of<'a>(line: &'a [u8], syn: u8, header: &Header) -> &'a [u8]
     requires { (message : List ℕ) × IsFrame header.now message
         × (line.now ≡ replicate syn SYN ++ wire header.now message) }
@@ -40,8 +40,8 @@ fn data_of<'a>(line: &'a [u8], syn: u8, header: &Header) -> &'a [u8]
     &line[from..from + data_length(header)]
 }
 
-/// Polls the next frame, which has this header, by way of a buffer, appends its bytes on the line
-/// and keeps it.
+/// Polls the next frame, which has this header, into a buffer, appends its bytes on the line and
+/// keeps it.
 fn poll_into(
     station: &mut Station,
     syn: u8,
@@ -80,7 +80,7 @@ impl Side {
     ghost use Rattle.ddcmp_pair.specs.Run.{after_send_here, accepted, after_poll_here, wrote};
     ghost use Rattle.ddcmp_pair.specs.Run.{line_bytes, after_take_here, took};
 
-    /// The user sends a message.
+    /// Sends a message of the user.
     pub(super) fn send(&mut self, message: &[u8]) -> Result<Reply, Memory>
         ensures state { IsOk result → self.new
             ≡ record self.old { state = after_send_here message.now self.old.state } }
@@ -129,7 +129,7 @@ impl Side {
         Ok(Reply::Wrote(Bytes::new(line)))
     }
 
-    /// The user takes a message.
+    /// Takes a message for the user.
     pub(super) fn take(&mut self) -> Result<Reply, Memory>
         ensures state { IsOk result → self.new
             ≡ record self.old { state = after_take_here self.old.state } }

@@ -1,4 +1,4 @@
--- Bytes of the line up to an item, as their part of `feed` is proved.
+-- Bytes of the line up to an item, the part of `feed` that is proved by itself.
 use Rattle.std.specs.Prelude.{◌≡◌, ℕ, ◌+◌, ◌<◌, ◌≤◌, List, ◌++◌, length, take, option_to_list}
 use Rattle.std.specs.Prelude.{Option}
 use Rattle.ddcmp_frame.specs.Reader.{StandsFor}
@@ -8,8 +8,8 @@ use Rattle.ddcmp_core.specs.Table.{acknowledged_by}
 use Rattle.ddcmp_proto.specs.Bytes.{after_items, notices_of_items}
 use Rattle.ddcmp_proto.specs.Station.{StationView}
 
--- What bytes of the line do of which only the last may complete an item: the items that they add,
--- for every text that the reader stands for, and what these do to the station.
+-- What bytes of the line do if only the last may complete an item: the items that they add, for
+-- every text that the reader stands for, and what these do to the station.
 pub record TakesPart (old : StationView) (bytes : List ℕ) (new : StationView)
     (notice : Option Notice) : Type 0 where
   pub given : List ReadItem

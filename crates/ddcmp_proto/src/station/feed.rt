@@ -1,16 +1,16 @@
-//! What a station does with the bytes of its line.
+//! How a station handles the bytes of its line.
 ghost use Rattle.std.specs.Prelude.{◌≡◌};
 
 use crate::station::Station;
 use ddcmp_core::{Header, Input, Notice};
 use ddcmp_frame::{Item, Pushed};
 
-/// What a station made of a piece of its line.
+/// The result of feeding a piece of the line to a station.
 #[derive(Clone, Copy, Debug, PartialEq, Eq)]
 pub struct Fed {
     /// How many bytes were used. The caller feeds the rest.
     pub used: usize,
-    /// The notice that the last of these bytes gave rise to. Without one all bytes were used.
+    /// The notice that the last of these bytes yielded. Without one all bytes were used.
     pub notice: Option<Notice>,
 }
 
@@ -26,7 +26,8 @@ impl Station {
     /// Handles received bytes, up to the first that yields a notice.
     pub fn feed(&mut self, piece: &[u8]) -> Fed
         requires { self.old.line.offset + length piece.now < 2 ^ 64 }
-        // The station stands for the text with the bytes used, however the text was cut before.
+        // The reader stands for the text followed by the bytes used, whatever the chunks of the
+        // text.
         ensures stands { (text : List ℕ) → StandsFor self.old.line text
             → StandsFor self.new.line (text ++ take result.used piece.now) }
         ensures state { (text : List ℕ) → StandsFor self.old.line text
@@ -40,10 +41,10 @@ impl Station {
         ensures used { result.used ≤ length piece.now }
         ensures whole { result.notice ≡ None → result.used ≡ length piece.now }
         ensures some { 0 < length piece.now → 0 < result.used }
-        // What is reported acknowledged has left.
+        // Messages that are reported acknowledged have left the queue.
         ensures leaves { acknowledged_by result.notice + length self.new.core.station.out
             ≤ length self.old.core.station.out }
-        // Without a text.
+        // The same with no text.
         ensures offset { self.new.line.offset ≡ self.old.line.offset + result.used }
         ensures limits { self.new.core.limits ≡ self.old.core.limits }
         ensures syn { self.new.syn ≡ self.old.syn }
@@ -60,7 +61,7 @@ impl Station {
         Fed { used, notice: None }
     }
 
-    /// Takes bytes of the line up to the first that completes an item; returns how many they are,
+    /// Handles bytes of the line up to the first that completes an item; returns how many they are,
     /// and the notice of the item.
     fn take_part(&mut self, piece: &[u8]) -> (usize, Option<Notice>)
         requires some { 0 < length piece.now }
@@ -69,7 +70,7 @@ impl Station {
         ensures some { 0 < result.0 }
         ensures takes { TakesPart self.old (take result.0 piece.now) self.new result.1 }
     {
-        // The data of a frame that the piece has whole are copied to the inbox alone.
+        // The data of a frame that is whole in the piece are copied only to the inbox.
         if let Some(fields) = self.reader.push_frame(piece) {
             let end = fields.count as usize + 8;
             let input = Input::Good(Header::Data(fields), &piece[8..end]);
@@ -82,7 +83,7 @@ impl Station {
         }
     }
 
-    /// Takes an item of the line, whose data the reader lends; returns its notice.
+    /// Handles an item of the line, whose data the reader lends; returns its notice.
     fn take_item(&mut self, item: Item) -> Option<Notice>
         requires lent { LentBeside (Some item) self.old.line.lent }
         requires within { length self.old.line.lent ≤ self.old.core.limits.longest }

@@ -1,4 +1,4 @@
-//! The end of a run: what was received is delivered, and then the last lines are written.
+//! The end of a run: received messages are delivered, and then the last lines are written.
 ghost use Rattle.std.specs.Prelude.{◌≡◌, ◌≢◌, ◌&&◌, ◌⊎◌, Err, Ok, is_ok};
 ghost use Rattle.ddcmp_session.specs.Devices.{BuffersView, GoesOn, Reports};
 ghost use Rattle.ddcmp_session.specs.Finishing.{Drains, Finishes, IsDrained};
@@ -17,8 +17,8 @@ impl Buffers {
     ghost use Rattle.ddcmp_session.specs.Stopping.{StopsToEnd};
     ghost use Rattle.ddcmp_session.specs.declared.devices.Fault.{Fault as FaultValue};
 
-    /// Runs a new session as `run_lines` does, and then writes all that was received, and the last
-    /// lines. It ends well only if nothing is lost and the output has taken all.
+    /// Runs a new session as `run_lines` does, and then writes all received messages and the last
+    /// lines. It ends well only if nothing is lost and all output was written.
     pub fn run_to_end<D: Devices>(
         &mut self,
         session: &mut Session,
@@ -48,7 +48,7 @@ impl Buffers {
     }
 }
 
-/// Returns how a run ended: as its lines did, and if that was well as its output did.
+/// Returns the result of a run: that of its lines, and if that is `Ok` that of its output.
 fn outcome<R: Copy>(ran: Result<(), Stop<R>>, finished: Result<(), Fault>) -> Result<(), Stop<R>>
     ensures well { is_ok result ≡ is_ok ran && is_ok finished }
     ensures whole { result ≡ Ok tt → (ran ≡ Ok tt) × (finished ≡ Ok tt) }
@@ -91,7 +91,7 @@ fn finish<D: Devices>(session: &mut Session, devices: &mut D) -> Result<(), Faul
     drain_output(session, devices)
 }
 
-/// Writes all received messages, and reports it if they are lost since nobody reads them.
+/// Writes all received messages, and reports it if they are lost since the output isn't read.
 fn deliver_rest<D: Devices>(session: &mut Session, devices: &mut D) -> Result<(), Fault>
     ensures drains { Drains session.old.state (D.traffic devices.old)
         session.new.state (D.traffic devices.new) }

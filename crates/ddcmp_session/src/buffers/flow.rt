@@ -11,8 +11,8 @@ use crate::devices::{Devices, Fault, Transfer, Wanted};
 use crate::session::{End, Session};
 use ddcmp_io::Got;
 
-/// How many parts of the input are passed on before the line has its turn. Reports for that many
-/// lines `?` have room in the queue for standard error.
+/// How many parts of the input are passed to the session before the line is served. The queue for
+/// standard error has room for the reports of that many lines `?`.
 const INPUT_PARTS: u8 = 64;
 
 /// Writes the received messages that the output has room for; returns whether there was one.
@@ -46,7 +46,7 @@ impl Buffers {
     ghost use Rattle.ddcmp_session.specs.declared.devices.Down.{Down as DownValue};
     ghost use Rattle.ddcmp_session.specs.declared.devices.Fault.{Fault as FaultValue};
 
-    /// Moves what can be moved, without waiting, and returns whether there was anything: if not, it
+    /// Moves what can be moved, without waiting, and returns whether there was anything; if not, it
     /// is time to wait.
     pub fn pass<D: Devices>(
         &mut self,
@@ -86,7 +86,7 @@ impl Buffers {
         ensures rests { result ≡ Ok false → IsIdle self.new session.new.state }
         ensures untimed { result ≢ Err Fault.Time }
     {
-        // An acknowledgement goes out before the line is read to its end.
+        // An acknowledgement is written before the line is read to its end.
         session.fill();
         let mut moved = self.write_line(session, devices);
         moved |= self.read_input(session, devices)?;
@@ -114,7 +114,7 @@ impl Buffers {
         self.read_now(devices)
     }
 
-    /// Reads the input, if it has something.
+    /// Reads the input, if it has bytes or has ended.
     fn read_now<D: Devices>(&mut self, devices: &mut D) -> Result<bool, Fault>
         requires empty { self.old.input ≡ [] }
         requires goes_on { self.old.is_over ≡ false }
@@ -134,8 +134,8 @@ impl Buffers {
         Ok(true)
     }
 
-    /// Passes what was read of the input to the session, as far as it takes that. If more is left
-    /// it asks without waiting what else is ready, as the loop won't wait before that is used.
+    /// Passes what was read of the input to the session, as far as it accepts it. If some is left,
+    /// asks without waiting what else is ready, as the loop won't wait until that is used.
     fn pass_input<D: Devices>(
         &mut self,
         session: &mut Session,
@@ -190,8 +190,7 @@ impl Buffers {
         moved
     }
 
-    /// Reads once what the input has at this moment, so that messages that nobody will send are
-    /// counted as lost.
+    /// Reads once what the input has now, so that messages that won't be sent are counted as lost.
     pub fn read_the_rest<D: Devices>(&mut self, devices: &mut D) -> Result<(), Fault>
         ensures on { (session : SessionView) → GoesOn self.old session (D.traffic devices.old)
             self.new session (D.traffic devices.new) }
@@ -212,7 +211,7 @@ impl Buffers {
         }
     }
 
-    /// Writes what waits for the line, as far as that has room.
+    /// Writes the bytes pending for the line, as far as it has room.
     fn write_line<D: Devices>(&mut self, session: &mut Session, devices: &mut D) -> bool
         ensures on { GoesOn self.old session.old.state (D.traffic devices.old)
             self.new session.new.state (D.traffic devices.new) }
@@ -231,7 +230,7 @@ impl Buffers {
         true
     }
 
-    /// Reads what the line has, if what came before was used.
+    /// Reads what the line has, if all bytes received before were used.
     fn read_line<D: Devices>(
         &mut self,
         session: &mut Session,
@@ -258,8 +257,9 @@ impl Buffers {
         self.after_read(got)
     }
 
-    /// Reports that a write to the line has failed, once it has nothing to read either: a device
-    /// may never report that otherwise. Returns whether it has something by now.
+    /// Returns the fault of a failed write to the line, once there is nothing to read from it
+    /// either: a device may never report that otherwise. Returns whether the line can be read by
+    /// now.
     fn end_if_down<D: Devices>(&self, session: &Session, devices: &mut D) -> Result<bool, Fault>
         ensures on { GoesOn self.now session.now.state (D.traffic devices.old)
             self.now session.now.state (D.traffic devices.new) }
@@ -277,8 +277,8 @@ impl Buffers {
         }
     }
 
-    /// Returns whether a read of the line gave anything. What the line has is read to its end
-    /// before the fault of a write is reported.
+    /// Returns whether a read of the line returned anything. The line is read to its end before the
+    /// fault of a write is reported.
     fn after_read(&self, got: Transfer) -> Result<bool, Fault>
         ensures idle { result ≡ Ok false → got ≡ Transfer.Nothing }
         ensures fault { (fault : FaultValue) → result ≡ Err fault → (why : DownValue)
@@ -297,8 +297,8 @@ impl Buffers {
         }
     }
 
-    /// Passes what came of the line to the session, as far as it takes that, and delivers. Once the
-    /// peer has restarted the session takes no more.
+    /// Passes the bytes received from the line to the session, as far as it accepts them, and
+    /// delivers messages. Once the peer has restarted the session accepts no more.
     fn pass_received(&mut self, session: &mut Session) -> bool
         ensures on { (known : Option Traffic)
             → GoesOn self.old session.old.state known self.new session.new.state known }
@@ -369,7 +369,7 @@ pub(super) fn write_errors<D: Devices>(session: &mut Session, devices: &mut D) -
         Transfer::Bytes(n) => session.errors_took(n),
         Transfer::Nothing => return false,
         Transfer::Interrupted => {}
-        // What it will never take is dropped.
+        // What can never be written is dropped.
         Transfer::Ended(_) => session.errors_took(usize::MAX),
     }
     true

@@ -12,14 +12,14 @@ use crate::buffers::runner::leave_line;
 use crate::devices::{Devices, Fault, Wanted};
 use crate::session::{End, Session};
 
-/// Why a run ended before all was delivered.
+/// The reason why a run ended before all was delivered.
 #[derive(Clone, Copy, PartialEq, Eq)]
 pub enum Stop<R> {
     /// The line couldn't be opened, for this reason.
     NotOpened(R),
-    /// A device failed, or its time was over.
+    /// A device failed, or a time limit was reached.
     Device(Fault),
-    /// The line was left, and isn't opened again; over none the station has run.
+    /// The line was left, and isn't opened again; the station has run over no line.
     Left,
     /// The number of messages that were read and never acknowledged.
     Lost(u64),
@@ -39,8 +39,8 @@ impl Buffers {
     ghost use Rattle.ddcmp_session.specs.declared.devices.Fault.{Fault as FaultValue};
 
     /// Runs a new session over one line after the other, until nothing of the input is left or a
-    /// line ends for good, and closes it: what was read and isn't acknowledged is lost then. If
-    /// nothing is, all is delivered although the line has ended or the time is over.
+    /// line ends for good, and closes it: messages that were read and aren't acknowledged are lost
+    /// then. If none is, all is delivered even if the line has ended or the time is over.
     pub fn run_lines<D: Devices>(
         &mut self,
         session: &mut Session,
@@ -106,7 +106,7 @@ impl Buffers {
         Err(Stop::Device(Fault::Time))
     }
 
-    /// Runs a session over a line: returns whether all is done, or the line was left.
+    /// Runs a session over a line; returns whether all is done, or the line was left.
     fn run_one<D: Devices>(
         &mut self,
         session: &mut Session,
@@ -145,9 +145,9 @@ impl Buffers {
         }
     }
 
-    /// Opens a line and connects the session to it, unless the time of the run is over first. One
-    /// that can't be opened is tried again if that is asked for. Returns false if there is no line,
-    /// all is done, and a peer that may have more to send didn't come back in time.
+    /// Opens a line and connects the session to it, unless the time of the run is over first.
+    /// Retries if the line can't be opened and that is asked for. Returns false if there is no
+    /// line, all is done, and a peer that may have more to send didn't reconnect in time.
     fn begin<D: Devices>(
         &mut self,
         session: &mut Session,
@@ -187,7 +187,7 @@ impl Buffers {
         Err(Stop::Device(Fault::Time))
     }
 
-    /// Opens a line once it is time to: returns whether the session was connected to it.
+    /// Opens a line once it is time to, and returns whether the session was connected to it.
     fn try_line<D: Devices>(
         &mut self,
         session: &mut Session,
@@ -219,7 +219,7 @@ impl Buffers {
         }
     }
 
-    /// Closes the session after its lines, and judges how they ended.
+    /// Closes the session after its lines, and returns how the run ended.
     fn judge<D: Devices>(
         &mut self,
         session: &mut Session,
@@ -257,7 +257,7 @@ impl Buffers {
         }
     }
 
-    /// Reads what the input has at this moment, if it is to be read.
+    /// Reads what the input has now, if it is to be read.
     fn read_if<D: Devices>(&mut self, devices: &mut D, reads: bool) -> Result<(), Fault>
         ensures on { (session : SessionView) → GoesOn self.old session (D.traffic devices.old)
             self.new session (D.traffic devices.new) }
@@ -275,7 +275,7 @@ impl Buffers {
     }
 }
 
-/// Returns whether lines ended so that all may be delivered nevertheless.
+/// Returns whether the lines ended in a way in which all may be delivered nevertheless.
 fn is_over<R>(ran: &Result<(), Stop<R>>) -> bool
     ensures device { (fault : FaultValue) → fault ≢ Fault.Time
         → ran.now ≡ Err (Stop.Device fault) → result ≡ false }
@@ -286,7 +286,8 @@ fn is_over<R>(ran: &Result<(), Stop<R>>) -> bool
     matches!(ran, Err(Stop::Left | Stop::Device(Fault::Time)))
 }
 
-/// Returns how a run ended whose lines ended so, and in which `lost` messages were lost.
+/// Returns how a run ended, from how its lines ended, the number of lost messages and whether more
+/// input is unread.
 fn verdict<R: Copy>(
     ran: Result<(), Stop<R>>,
     has_run: bool,
@@ -315,7 +316,7 @@ fn verdict<R: Copy>(
     ran
 }
 
-/// Waits while there is no line: returns whether it could.
+/// Waits while there is no line; returns false if the wait failed.
 fn wait_between_lines<D: Devices>(session: &Session, devices: &mut D, now: u64) -> bool
     ensures over { (held : BuffersView) → StaysOver held session.now.state (D.traffic devices.old)
         held session.now.state (D.traffic devices.new) }
@@ -331,7 +332,7 @@ fn wait_between_lines<D: Devices>(session: &Session, devices: &mut D, now: u64) 
     devices.wait(wanted, moment.saturating_sub(now))
 }
 
-/// Leaves a line that has ended, and pauses before the next one is opened, if that is to be.
+/// Leaves a line that has ended, and sets the pause before the next one is opened, if there is one.
 fn leave<D: Devices>(session: &mut Session, devices: &mut D) -> Result<(), Fault>
     ensures over { (held : BuffersView) → StaysOver held session.old.state (D.traffic devices.old)
         held session.new.state (D.traffic devices.new) }
@@ -356,7 +357,7 @@ fn leave<D: Devices>(session: &mut Session, devices: &mut D) -> Result<(), Fault
     Ok(())
 }
 
-/// Has the time of the run pass if that of an output was over for which nothing waits.
+/// Passes the time of the run, if an output timed out for which nothing is queued.
 fn note_time(session: &mut Session, fault: Fault)
     ensures over { (held : BuffersView) (known : Option Traffic)
         → StaysOver held session.old.state known held session.new.state known }
@@ -368,7 +369,7 @@ fn note_time(session: &mut Session, fault: Fault)
     }
 }
 
-/// Passes the time of the run: this many lines, or calls, take longer than any run.
+/// Passes the time of the run: this many lines or calls take longer than any run.
 fn pass_run(session: &mut Session)
     ensures over { (held : BuffersView) (known : Option Traffic)
         → StaysOver held session.old.state known held session.new.state known }

@@ -13,11 +13,11 @@ use crate::buffers::flow::{deliver_all, write_errors, write_output};
 use crate::devices::{Devices, Fault, Wanted};
 use crate::session::{End, Session};
 
-/// In how many passes the devices are asked once which of them is ready although something moved,
-/// so that none starves another.
+/// After how many passes the devices are polled although something moved, so that none starves
+/// another.
 const PASSES: u64 = 16;
 
-/// How long an output may take nothing at the end of a run, in milliseconds.
+/// How long an output may be blocked at the end of a run, in milliseconds.
 pub(super) const END_MS: u64 = 1000;
 
 impl Buffers {
@@ -27,7 +27,7 @@ impl Buffers {
     ghost use Rattle.ddcmp_session.specs.declared.devices.Fault.{Fault as FaultValue};
     ghost use Rattle.ddcmp_session.specs.declared.session.End.{End as EndValue};
 
-    /// Runs a session over its line, until it leaves that or a device ends or fails.
+    /// Runs a session over its line, until the session leaves the line or a device ends or fails.
     pub fn run<D: Devices>(&mut self, session: &mut Session, devices: &mut D) -> Result<End, Fault>
         ensures on { GoesOn self.old session.old.state (D.traffic devices.old)
             self.new session.new.state (D.traffic devices.new) }
@@ -55,14 +55,14 @@ impl Buffers {
                 return Err(Fault::Input);
             }
         }
-        // So many passes take longer than any run.
+        // This many passes take longer than any run.
         let now = session.run_ends_at();
         session.handle_timeout(now);
         Ok(End::Time)
     }
 
-    /// Waits for a device or a moment if nothing moved; else asks without waiting which devices are
-    /// ready, if `asks`. Returns whether it could.
+    /// Waits for a device or a moment if nothing moved; otherwise, if `asks`, polls the devices
+    /// without waiting. Returns false if the wait failed.
     fn wait<D: Devices>(&self, session: &Session, devices: &mut D, moved: bool, asks: bool) -> bool
         requires rests { moved ≡ false → Rests self.now session.now.state }
         requires goes_on { end session.now.state ≡ None }
@@ -75,10 +75,10 @@ impl Buffers {
     }
 }
 
-/// How long standard error may take nothing at the end of a line, in milliseconds.
+/// How long standard error may be blocked at the end of a line, in milliseconds.
 const LINE_END_MS: u64 = 80;
 
-/// Leaves a line that has ended: what came over it is written, and what was lost is reported.
+/// Leaves a line that has ended: writes the messages received over it, and reports what was lost.
 pub(super) fn leave_line<D: Devices>(session: &mut Session, devices: &mut D) -> Result<(), Fault>
     ensures over { (held : BuffersView) → StaysOver held session.old.state (D.traffic devices.old)
         held session.new.state (D.traffic devices.new) }
@@ -109,8 +109,7 @@ pub(super) fn leave_line<D: Devices>(session: &mut Session, devices: &mut D) -> 
     Ok(())
 }
 
-/// Writes what is queued for standard error, until that has taken nothing for `most_ms`
-/// milliseconds.
+/// Writes what is queued for standard error, until it was blocked for `most_ms` milliseconds.
 pub fn drain_errors<D: Devices>(session: &mut Session, devices: &mut D, most_ms: u64)
     ensures on { (held : BuffersView) → GoesOn held session.old.state (D.traffic devices.old)
         held session.new.state (D.traffic devices.new) }
@@ -140,7 +139,7 @@ pub fn drain_errors<D: Devices>(session: &mut Session, devices: &mut D, most_ms:
 }
 
 /// Writes all received messages and what else is queued for standard output. After the end of the
-/// run it gives up once nothing was taken for `END_MS` milliseconds.
+/// run it gives up once the output was blocked for `END_MS` milliseconds.
 pub fn drain_output<D: Devices>(session: &mut Session, devices: &mut D) -> Result<(), Fault>
     ensures on { (held : BuffersView) → GoesOn held session.old.state (D.traffic devices.old)
         held session.new.state (D.traffic devices.new) }
@@ -171,7 +170,7 @@ pub fn drain_output<D: Devices>(session: &mut Session, devices: &mut D) -> Resul
             last = end.max(now);
             continue;
         }
-        // Something else may end a wait, so the clock measures how long nothing was taken.
+        // Something else may end a wait, so the clock measures how long the output was blocked.
         let left = last.saturating_add(END_MS).saturating_sub(now);
         if left == 0 {
             return Err(Fault::Time);

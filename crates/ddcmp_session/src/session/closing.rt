@@ -20,8 +20,8 @@ impl Session {
     ghost use Rattle.ddcmp_session.specs.Trace.{LogsEnd};
     ghost use Rattle.ddcmp_session.specs.Text.{Wrote, reported_lost};
 
-    /// Ends the run: halts the station. What was read of the input, and what was sent and isn't
-    /// acknowledged, is lost: returns whether standard output had room to report that.
+    /// Ends the run and halts the station. The messages left in the input, and those that were sent
+    /// and aren't acknowledged, are lost. Returns whether standard output had room to report that.
     pub fn close(&mut self, input: &[u8], input_is_at_end: bool) -> bool
         ensures link { self.new.state.link
             ≡ with_state (after_halt self.old.state.link.station.core.station) self.old.state.link }
@@ -61,8 +61,8 @@ impl Session {
         }
     }
 
-    /// Writes the state and the totals, after the counters if these are asked for: with messages in
-    /// binary to standard error.
+    /// Writes the state and the totals, after the counters if these are asked for; to standard
+    /// error with messages in binary.
     pub fn write_end(&mut self)
         ensures stays { self.new.state
             ≡ record self.old.state { output = self.new.state.output } }
@@ -130,7 +130,7 @@ impl Session {
         self.course.has_run
     }
 
-    /// Returns whether a part of the input was no message.
+    /// Returns whether a part of the input was refused.
     pub fn was_refused(&self) -> bool
         ensures { result ≡ self.now.state.was_refused }
     {

@@ -1,4 +1,4 @@
-//! The input of a session: messages that are sent, and parts that are none.
+//! The input of a session: messages that are sent, and parts that aren't messages.
 ghost use Rattle.std.specs.Prelude.{◌≡◌};
 ghost use Rattle.ddcmp_session.specs.Reported.{reason_text};
 
@@ -38,14 +38,15 @@ impl Session {
     ghost use Rattle.ddcmp_session.specs.Session.{form_of, takes_in};
     ghost use Rattle.ddcmp_session.specs.Session.{lost_among, lost_at_end, lost_with_last};
 
-    /// Returns whether bytes of the input are wanted: the station takes a message.
+    /// Returns whether bytes of the input are wanted, since the station accepts a message.
     pub fn wants_input(&self) -> bool
         ensures { result ≡ wants_input self.now.state }
     {
         !self.input_is_read && self.takes()
     }
 
-    /// Returns whether the link takes a message: one of maintenance once the last has gone.
+    /// Returns whether the link accepts a message: a maintenance message once the last one was
+    /// written to the line.
     fn takes(&self) -> bool
         ensures { result ≡ takes_in self.now.state.options.maintenance self.now.state.link }
     {
@@ -68,9 +69,9 @@ impl Session {
         };
     }
 
-    /// Takes bytes of the input, up to the end of the first message, which it sends, or of the
-    /// first part that is none, which it reports. Returns how many; none while `wants_input` is
-    /// false.
+    /// Handles bytes of the input, up to the end of the first message, which it sends, or of the
+    /// first part that is no message, which it reports. Returns how many were used; 0 while
+    /// `wants_input` is false.
     pub fn typed(&mut self, bytes: &[u8]) -> usize
         ensures used { result ≤ length bytes.now }
         ensures state { self.new.state ≡ after_typed (take result bytes.now) self.old.state }
@@ -100,7 +101,7 @@ impl Session {
         pushed.used
     }
 
-    /// Takes the end of the input, if `wants_input`. A last line needs no LF; a message in binary
+    /// Handles the end of the input, if `wants_input`. A last line needs no LF; a message in binary
     /// whose end is missing is reported.
     pub fn input_ended(&mut self)
         ensures state { self.new.state ≡ after_input_end self.old.state }
@@ -121,7 +122,7 @@ impl Session {
         self.refuse_unfinished();
     }
 
-    /// Sends the message that an entry is, or reports that it is none.
+    /// Sends the message of an entry, or reports that it is none.
     fn take_entry(&mut self, entry: Option<Entry>)
         ensures state { self.new.state ≡ after_entries (option_to_list entry) self.old.state }
         ensures errors { ReportsEach (option_to_list entry) self.old self.new.log.errors }
@@ -152,8 +153,8 @@ impl Session {
         self.read = self.read.saturating_add(1);
     }
 
-    /// Takes what was read of the input after the run is over: its messages are lost, and a message
-    /// whose end hasn't come is reported.
+    /// Drops what was read of the input after the run is over: its messages are lost, and a message
+    /// whose end is missing is reported.
     pub(super) fn drop_input(&mut self, bytes: &[u8], is_at_end: bool)
         ensures form { form_of self.new.state.messages ≡ form_of self.old.state.messages }
         ensures stays { self.new.state ≡ record self.old.state {
@@ -178,7 +179,7 @@ impl Session {
         self.input_is_read = true;
     }
 
-    /// Takes bytes of the input, and returns how many messages are lost with them.
+    /// Drops bytes of the input, and returns how many messages are lost with them.
     fn drop_bytes(&mut self, bytes: &[u8]) -> u64
         ensures lost { result ≡ lost_among bytes.now self.old.state }
         ensures dropped { DropsBytes bytes.now self.old.state.messages (dropping self.old)
@@ -193,7 +194,7 @@ impl Session {
     {
         let mut at = 0usize;
         let mut lost = 0u64;
-        // A part is one byte at least.
+        // A part has at least one byte.
         for _part in 0..bytes.len() {
             if at == bytes.len() {
                 break;
@@ -205,8 +206,8 @@ impl Session {
         lost
     }
 
-    /// Takes the end of the input: a last message is lost, or reported if its end hasn't come.
-    /// Returns how many are lost.
+    /// Handles the end of the dropped input: a last message is lost, or reported if its end is
+    /// missing. Returns how many are lost.
     fn drop_last(&mut self, is_at_end: bool) -> u64
         ensures lost { result ≡ lost_with_last is_at_end self.old.state.messages }
         ensures errors { DropsLast is_at_end self.old.state.messages self.old.log.read
@@ -233,7 +234,7 @@ impl Session {
         lost
     }
 
-    /// Reports a last line whose end hasn't come: none is lost.
+    /// Reports a last line whose end is missing: it isn't counted as lost.
     fn refuse_cut(&mut self, entry: Option<Entry>) -> u64
         ensures none { result ≡ 0 }
         ensures errors { CutsEach (option_to_list entry) self.old.state.messages
@@ -250,7 +251,7 @@ impl Session {
         0
     }
 
-    /// Drops what a part of the input is, and returns how many messages are lost with it.
+    /// Drops a part of the input, and returns how many messages are lost with it.
     fn drop_entry(&mut self, entry: Option<Entry>) -> u64
         ensures lost { result ≡ count_of entry }
         ensures few { result ≤ 1 }

@@ -40,9 +40,9 @@ impl Session {
     ghost use Rattle.ddcmp_session.specs.Text.{Wrote, notice_text, notices_text, reported_lost};
     ghost use Rattle.ddcmp_session.specs.declared.text.TheConstants.{LINE_ROOM};
 
-    /// Starts the station on a line that was opened, or has it enter maintenance mode. What it had
-    /// on a line that hasn't ended is lost then, and counted. Returns false if received messages
-    /// weren't delivered before: `deliver` them, then call it again.
+    /// Starts the station on a line that was opened, or has it enter maintenance mode. Messages
+    /// that aren't acknowledged on a line that hasn't ended are lost then, and counted. Returns
+    /// false if received messages weren't delivered before: `deliver` them, then call it again.
     pub fn connected(&mut self) -> bool
         ensures state { self.new.state
             ≡ after_connected self.new.state.link.station.line self.old.state }
@@ -65,9 +65,9 @@ impl Session {
         starts
     }
 
-    /// Takes the end of the line and halts the station: what was sent and not acknowledged is lost.
-    /// Returns whether standard output had room to report that: an output that takes all that
-    /// waits makes room.
+    /// Handles the end of the line and halts the station: messages that were sent and not
+    /// acknowledged are lost. Returns whether standard output had room to report that: there is
+    /// room once all queued output was taken.
     pub fn line_ended(&mut self) -> bool
         ensures link { self.new.state.link
             ≡ with_state (after_halt self.old.state.link.station.core.station) self.old.state.link }
@@ -95,7 +95,7 @@ impl Session {
         has_room
     }
 
-    /// Halts the station, and reports what is lost with the line, if there is one: returns whether
+    /// Halts the station, reports what is lost with the line, if there is one, and returns whether
     /// standard output had room for that.
     pub(super) fn lose_line(&mut self) -> bool
         ensures link { self.new.state.link
@@ -120,7 +120,7 @@ impl Session {
         has_room
     }
 
-    /// Returns whether the line has taken all that was accepted.
+    /// Returns whether all accepted messages were written to the line.
     pub(super) fn has_gone(&self) -> bool
         ensures { result ≡ has_gone self.now.state.link }
     {
@@ -140,15 +140,15 @@ impl Session {
         }
     }
 
-    /// Returns whether bytes of the line are wanted: there is one, and a received message and its
-    /// notice have room.
+    /// Returns whether bytes of the line are wanted: there is a line, and room for a received
+    /// message and its notice.
     pub fn wants_line(&self) -> bool
         ensures { result ≡ wants_line self.now.state }
     {
         self.has_line && self.link.wants_line() && self.output.room() >= text::LINE_ROOM
     }
 
-    /// Logs bytes that came from the line, if there is a trace: each once, before `received`.
+    /// Logs bytes received from the line, if there is a trace: each once, before `received`.
     pub fn log_received(&mut self, bytes: &[u8])
         ensures traced { Traces (Logs Way.FromLine bytes.now) self.old.log.trace
             self.old.log self.new.log }
@@ -161,8 +161,8 @@ impl Session {
         }
     }
 
-    /// Takes bytes of the line, up to the first that yields a notice, and writes that. Returns how
-    /// many; none while `wants_line` is false.
+    /// Handles bytes of the line, up to the first that yields a notice, and writes that notice.
+    /// Returns how many were used; 0 while `wants_line` is false.
     pub fn received(&mut self, bytes: &[u8]) -> usize
         ensures used { result ≤ length bytes.now }
         ensures some { 0 < length bytes.now → 0 < countable self.old.state.link.station
@@ -214,7 +214,7 @@ impl Session {
         fed.used
     }
 
-    /// Writes a notice: with messages in binary to standard error.
+    /// Writes a notice; to standard error with messages in binary.
     fn report_notice(&mut self, notice: Notice)
         requires { LINE_ROOM ≤ self.old.state.output.room }
         ensures wrote { Wrote (notice_text (form_of self.old.state.messages) notice)
@@ -241,8 +241,8 @@ impl Session {
         }
     }
 
-    /// Puts frames after what is pending for the line, as far as there is room: one at a time for
-    /// datagrams, and while messages wait for the peer none that carries one.
+    /// Queues frames after the bytes pending for the line, as far as there is room: one at a time
+    /// for datagrams, and while messages are held back none that carries one.
     pub fn fill(&mut self)
         ensures frames { (n : ℕ) × (self.new.state
             ≡ record self.old.state { link = after_frames n self.old.state.link }) }
@@ -262,8 +262,8 @@ impl Session {
         }
     }
 
-    /// Puts the next frame after what is pending for the line, unless it is a message that waits
-    /// for the peer: returns whether it did.
+    /// Queues the next frame after the bytes pending for the line, unless it carries a message that
+    /// is held back; returns whether it did.
     fn fill_one(&mut self) -> bool
         ensures state { self.new.state
             ≡ record self.old.state { link = after_filling self.old.state } }
@@ -280,7 +280,7 @@ impl Session {
         self.link.fill_one()
     }
 
-    /// Returns what waits for the line.
+    /// Returns the bytes pending for the line.
     pub fn to_line(&self) -> &[u8]
         ensures { result.now ≡ self.now.state.link.outbox.waiting }
     {

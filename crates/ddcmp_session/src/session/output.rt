@@ -23,7 +23,7 @@ impl Session {
     ghost use Rattle.ddcmp_session.specs.declared.errors.TheConstants.{SHORT_LINE};
     ghost use Rattle.ddcmp_session.specs.Text.{Wrote, mail_text, reported_lost};
 
-    /// Writes the first received message, if there is one and the output has room for it: returns
+    /// Writes the first received message, if there is one and the output has room for it; returns
     /// whether it did.
     pub fn deliver(&mut self) -> bool
         ensures link { self.new.state.link
@@ -58,7 +58,7 @@ impl Session {
         }
     }
 
-    /// Returns what waits for standard output.
+    /// Returns the bytes queued for standard output.
     pub fn to_output(&self) -> &[u8]
         ensures { result.now ≡ self.now.state.output.waiting }
     {
@@ -77,7 +77,7 @@ impl Session {
         self.output.took(n);
     }
 
-    /// Returns what waits for standard error.
+    /// Returns the bytes queued for standard error.
     pub fn to_errors(&self) -> &[u8]
         ensures { result.now ≡ self.now.log.errors.queue.waiting }
     {
@@ -104,7 +104,7 @@ impl Session {
             .write_line(b"", event.as_str().as_bytes(), b"\n");
     }
 
-    /// Reports why the line is down, unless all is delivered that was to be.
+    /// Reports why the line is down, unless all is delivered and the session ends with that.
     pub fn report_down(&mut self, why: Down)
         ensures state { self.new.state ≡ self.old.state }
         ensures errors { ReportsDown why self.old.state self.old.log.errors self.new.log.errors }
@@ -129,7 +129,7 @@ impl Session {
         self.errors.write_line(b"retry in ", text, b" s\n");
     }
 
-    /// Reports that standard output took nothing after the time of the run was over.
+    /// Reports that standard output was blocked after the time of the run was over.
     pub(crate) fn report_unread(&mut self)
         ensures state { self.new.state ≡ self.old.state }
         ensures errors { HasLine SHORT_LINE unread_text
@@ -140,7 +140,7 @@ impl Session {
         self.errors.write_line(b"ddcmp: ", why, b"\n");
     }
 
-    /// Reports all that the link has counted on standard error.
+    /// Reports all counters of the link on standard error.
     pub(super) fn report_counters(&mut self)
         ensures state { self.new.state ≡ self.old.state }
         ensures errors { HasReport self.old.state.options.json self.old.state.course.lost
@@ -154,8 +154,8 @@ impl Session {
         }
     }
 
-    /// Reports how many accepted messages were dropped, if any: returns whether standard output had
-    /// room for that.
+    /// Reports how many accepted messages were dropped, if any, and returns whether standard output
+    /// had room for that.
     pub(super) fn report_lost(&mut self, lost: u8) -> bool
         ensures wrote { self.new.state ≡ record self.old.state {
           course = lost_more lost self.old.state.course;

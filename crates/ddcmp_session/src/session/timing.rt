@@ -1,4 +1,4 @@
-//! The moments of a session.
+//! The timers of a session.
 ghost use Rattle.std.specs.Prelude.{◌≡◌, ◌++◌, codes};
 ghost use Rattle.ddcmp_session.specs.Errors.{given_up_text};
 ghost use Rattle.ddcmp_session.specs.Timing.{most_tries};
@@ -55,8 +55,8 @@ impl Session {
         }
     }
 
-    /// Returns the moment in milliseconds when a wait without a line is to end at the latest, after
-    /// this moment: when the line is to be opened, a report is due, or the run ends.
+    /// Returns the moment in milliseconds when a wait without a line, from `now` on, is to end at
+    /// the latest: when the line is to be opened, a report is due, or the run ends.
     pub fn wakes_without_line_at(&self, now: u64) -> u64
         ensures { result ≡ wakes_without_line_at now self.now.state }
     {
@@ -97,7 +97,7 @@ impl Session {
         }
     }
 
-    /// Notes that a peer isn't heard, as bytes of the line have no room.
+    /// Notes that the peer doesn't count as quiet, if the line isn't read.
     fn note_unheard(&mut self)
         ensures { self.new ≡ record self.old { state = after_unheard self.old.state } }
     {
@@ -113,8 +113,8 @@ impl Session {
         self.unless_done(self.next_timeout())
     }
 
-    /// Returns this moment, or that when a peer was heard out if all else is done and that is
-    /// earlier.
+    /// Returns this moment, or if all else is done the moment when the peer was quiet for long
+    /// enough, if that is earlier.
     fn unless_done(&self, moment: u64) -> u64
         ensures { result ≡ unless_done moment self.now.state }
     {
@@ -125,8 +125,8 @@ impl Session {
         }
     }
 
-    /// Returns how many milliseconds that is after the last moment that was passed: the most that
-    /// the next wait may take.
+    /// Returns the milliseconds from the last moment that was passed until `wakes_at`: the longest
+    /// that the next wait may take.
     pub fn wait_ms(&self) -> u64
         ensures { result ≡ wait_ms self.now.state }
     {
@@ -165,7 +165,7 @@ impl Session {
         None
     }
 
-    /// Returns the moment until which a peer that has more to send is heard out.
+    /// Returns the moment until which the session waits for a peer that may have more to send.
     fn lingers_until(&self) -> u64
         ensures { result ≡ lingers_until self.now.state }
     {
@@ -173,7 +173,7 @@ impl Session {
         self.course.quiet_since.saturating_add(linger)
     }
 
-    /// Returns whether a peer isn't there yet: on a line that is no connection it may begin at any
+    /// Returns whether no peer has started yet: on a line that is no connection it may start at any
     /// time.
     fn awaits_peer(&self) -> bool
         ensures { result ≡ awaits_peer self.now.state }
@@ -188,7 +188,7 @@ impl Session {
         most > 0 && most <= self.course.tries
     }
 
-    /// Reports why the line is left, if it is since the peer doesn't reply, or refuses.
+    /// Reports why the line is left, if the peer doesn't reply or refuses messages.
     fn report_given_up(&mut self)
         ensures state { self.new.state ≡ self.old.state }
         ensures errors { ReportsGivenUp self.old.state self.old.log.errors self.new.log.errors }
@@ -222,8 +222,8 @@ impl Session {
         self.input_is_read && self.link.is_delivered()
     }
 
-    /// Returns whether it goes on once all of the input was delivered: so does whoever listens and
-    /// has no input.
+    /// Returns whether the session continues after all of the input was delivered, as it does if it
+    /// listens and had no input.
     pub(super) fn stays(&self) -> bool
         ensures { result ≡ stays self.now.state }
     {
@@ -252,7 +252,7 @@ impl Session {
         self.course.opens_at
     }
 
-    /// Notes that the line couldn't be opened: returns after how many seconds it is tried
+    /// Notes that the line couldn't be opened, and returns after how many seconds it is tried
     /// again.
     pub fn open_failed(&mut self, now: u64) -> u64
         ensures state { self.new.state ≡ record (after_time now self.old.state) {
@@ -266,8 +266,8 @@ impl Session {
         self.course.retry_later()
     }
 
-    /// Returns after how many seconds a line that has ended is opened again; none if that is at
-    /// once, as it is after a station that ran, and for whoever listens.
+    /// Returns after how many seconds a line that has ended is opened again; none if at once, as
+    /// after a station that ran, or if the session listens.
     pub fn pause_after_line(&mut self, now: u64) -> Option<u64>
         ensures state { self.new.state ≡ after_line (after_time now self.old.state) }
         ensures seconds { result ≡ seconds_after_line (after_time now self.old.state) }
@@ -286,11 +286,10 @@ impl Session {
     }
 }
 
-/// After how many tries a line is left on which the station doesn't come to run, if no option says
-/// how many.
+/// The number of tries after which a line is left if the station doesn't come to run, by default.
 const START_ATTEMPTS: u32 = 7;
 
-/// Returns after how many tries a line is left; 0 is never.
+/// Returns the number of tries after which a line is left; 0 is never.
 fn most_tries(attempts: u32, runs: bool) -> u32
     ensures { result ≡ most_tries attempts runs }
 {
@@ -301,8 +300,8 @@ fn most_tries(attempts: u32, runs: bool) -> u32
     }
 }
 
-/// Returns in two parts why a line is left on which nothing gets on: the peer refuses messages for
-/// this reason, or doesn't reply.
+/// Returns in two parts why a line without progress is left: the peer refuses messages for this
+/// reason, or doesn't reply.
 fn given_up_words(refusal: Option<Nak>) -> (&'static [u8], &'static [u8])
     ensures { given_up_text refusal ≡ result.0.now ++ result.1.now ++ codes "\n" }
 {

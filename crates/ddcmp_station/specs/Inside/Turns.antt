@@ -1,4 +1,4 @@
--- One turn of `drive`, as its parts are proved.
+-- One turn of `drive`, in the parts that are proved.
 use Rattle.std.specs.Prelude.{◌≡◌, ℕ, ◌+◌, ◌<◌, ◌≤◌, List, [], ◌∷◌, ◌++◌, length, take, Option}
 use Rattle.std.specs.Prelude.{Result, Ok, Err}
 use Rattle.std.specs.Io.KnownBytes.{Appends, Consumes}
@@ -15,7 +15,7 @@ use Rattle.ddcmp_station.specs.Driving.{bytes_read, read_answer, last_read_answe
 use Rattle.ddcmp_frame.specs.Device.{Logs}
 use Rattle.ddcmp_io.specs.declared.device.Got.{Got}
 
--- all bytes were written, or a beginning of them
+-- all bytes were written, or on a fault a prefix of them
 abbrev pub WritesFrame : Option (List ℕ) → Option (List ℕ) → List ℕ → Result ℕ LineFault → Type 0
 WritesFrame old new bytes (Ok n) = (n ≡ length bytes) × Appends old new bytes
 WritesFrame old new bytes (Err Write) = (n : ℕ) × Appends old new (take n bytes)
@@ -23,7 +23,7 @@ WritesFrame old new bytes (Err Read) = ⊥
 WritesFrame old new bytes (Err Ended) = ⊥
 WritesFrame old new bytes (Err Memory) = ⊥
 
--- the answer of the one read
+-- the result of the one read
 abbrev pub read_answers_of : Result ℕ LineFault → List Got
 read_answers_of (Ok n) = read_answer n ∷ []
 read_answers_of (Err fault) = last_read_answer fault
@@ -63,7 +63,7 @@ pub record TakesTurn (milliseconds : ℕ) (old new : StationView) (before after 
         seen = seen ++ sights;
       }
 
--- a turn was begun and ended at a fault
+-- a turn was started and ended at a fault
 pub record BreaksTurn (milliseconds : ℕ) (old new : StationView) (before : Tally) (worst : Worst)
     (devices : Devices) (saw : List UserCall → Type 0) (fault : LineFault) : Type 0 where
   pub last : DriveTurn
@@ -97,7 +97,7 @@ pub record BreaksTurn (milliseconds : ℕ) (old new : StationView) (before : Tal
         seen = seen ++ sights;
       }
 
--- either of the two; `worst` is the worst answer of the source before
+-- either of the two; `worst` is the status of the source before
 abbrev pub TurnEnds : ℕ → StationView → StationView → Tally → Tally → Worst → Devices
     → (List UserCall → Type 0) → Result (Unit {0}) LineFault → Type 0
 TurnEnds milliseconds old new before after worst devices saw (Ok u) =
@@ -105,7 +105,7 @@ TurnEnds milliseconds old new before after worst devices saw (Ok u) =
 TurnEnds milliseconds old new before after worst devices saw (Err fault) =
     BreaksTurn milliseconds old new before worst devices saw fault
 
--- this many turns were taken, as the tally has it
+-- this many turns were taken, and the tally counts them
 pub record TurnsSoFar (milliseconds count : ℕ) (old new : StationView) (tally : Tally)
     (devices : Devices) (saw : List UserCall → Type 0) : Type 0 where
   pub turns : List DriveTurn

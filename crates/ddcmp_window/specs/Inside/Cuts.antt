@@ -1,5 +1,5 @@
--- Messages that lie one after another, cut from their bytes by their lengths. The impl of
--- `Store` cites the lemmas for what holds of every store, and may take them from specs/ alone.
+-- Messages that are stored one after another, cut from their bytes by their lengths. The impl of
+-- `Store` cites the lemmas for what holds for every store, and may take them only from specs/.
 use Rattle.std.proofs.Common.{◌≡◌, ℕ, zero, suc, ◌<◌, ◌≤◌, sum, sum_by, All, refl, arith}
 use Rattle.std.proofs.Common.{List, [], ◌∷◌, length, take, drop, get_or}
 use Rattle.std.proofs.lemmas.List.{length-take-le, length-drop, drop-drop}
@@ -24,7 +24,7 @@ sum_by-cut (n ∷ lengths) bytes inside =
     let others = sum_by-cut lengths rest (omega (arith, length-drop n bytes)) in
     omega (arith, sum_by-cons length (take n bytes) (cut lengths rest))
 
--- a message lies after those before it
+-- the bytes of a message follow those of the messages before it
 pub get_or-cut : (lengths bytes : List ℕ) (i : ℕ) (d : List ℕ) → i < length lengths
     → get_or (cut lengths bytes) i d ≡ take (get_or lengths i 0) (drop (sum (take i lengths)) bytes)
 get_or-cut [] bytes i d below = absurd (omega arith)

@@ -1,5 +1,5 @@
--- The first elements of a list, each seen by a function: lemmas that the impl of `Store` cites for
--- what holds of every store, and may take from specs/ alone.
+-- The first elements of a list, each mapped by a function: lemmas that the impl of `Store` cites
+-- for what holds for every store, and may take only from specs/.
 use Rattle.std.proofs.Common.{◌≡◌, ℕ, zero, suc, ◌<◌, ◌≤◌, List, [], ◌∷◌, length, take, map, get_or}
 use Rattle.std.proofs.Common.{arith}
 use Rattle.std.proofs.lemmas.List.{length-map, length-take-le}
@@ -8,7 +8,7 @@ pub length-front : {A B : Type 0} (f : A → B) (n : ℕ) (xs : List A) → n �
     → length (map f (take n xs)) ≡ n
 length-front f n xs h = simp (length-map, length-take-le n xs h)
 
--- what holds of each of the first elements holds of each that is seen
+-- what holds for each mapped one of the first elements holds for each of the result
 pub each-front : {A B : Type 0} (f : A → B) (P : B → Type 0) (n : ℕ) (xs : List A) (i : ℕ) (d : B)
     → ((k : ℕ) (x : A) → k < n → P (f (get_or xs k x))) → i < n → i < length xs
     → P (get_or (map f (take n xs)) i d)
