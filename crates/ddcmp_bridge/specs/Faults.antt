@@ -1,4 +1,4 @@
--- The faults that a bridge makes of good frames, by a seed.
+-- The faults that a bridge applies to good frames, drawn from a seed.
 use Rattle.std.specs.Prelude.{ℕ, ◌+◌, ◌-◌, ◌/◌, ◌%◌, ◌<◌, ◌≤◌, ⊤, List, [], ◌∷◌, ◌++◌, length}
 use Rattle.std.specs.Prelude.{if◌then◌else◌, nat_lt, bit_xor, slice_set, slice_index_or}
 use Rattle.rand_pcg.specs.Lcg.{Lcg, started, increment_of}
@@ -9,16 +9,16 @@ use Rattle.ddcmp_bridge.specs.declared.faults.Faults.{Faults}
 use Rattle.ddcmp_bridge.specs.declared.faults.Fate.{Fate}
 use Rattle.ddcmp_bridge.specs.declared.faults.Fate.TheVariants.{Passed, Lost, Altered}
 
--- the generator of a direction of a bridge
+-- the random generator of a direction of a bridge
 abbrev pub start_of : ℕ → ℕ → Lcg
 start_of seed direction = started 64 multiplier_64 seed (increment_of 64 direction)
 
--- two words are drawn for each frame, whatever becomes of it
+-- two words are drawn for each frame, whatever its fate
 abbrev pub next_draws : Lcg → Lcg
 next_draws draws = (pcg32 (pcg32 draws).1).1
 
--- What becomes of a frame of so many bytes: by the first word whether it is lost, and if not
--- whether it is damaged; by the second which of its bytes but the first, and how.
+-- The fate of a frame of `size` bytes. The first word decides whether it is lost, and if not,
+-- whether it is damaged; the second, which of its bytes (never the first) and how.
 abbrev pub fate_by : Faults → ℕ → ℕ → ℕ → Fate
 fate_by faults size first second =
     if nat_lt (first % 100) faults.lose then Lost
@@ -30,23 +30,23 @@ abbrev pub fate_drawn : Faults → Lcg → ℕ → Fate
 fate_drawn faults draws size =
     fate_by faults size (pcg32 draws).0 (pcg32 (pcg32 draws).1).0
 
--- the byte is one of so many
+-- the byte that is altered isn't the first, is within `size` bytes, and does change
 abbrev pub IsWithin : ℕ → Fate → Type 0
 IsWithin size (Altered at by) = (1 ≤ at) × (at < size) × (1 ≤ by) × (by < 256)
 IsWithin size Passed = ⊤
 IsWithin size Lost = ⊤
 
--- with one byte changed
+-- a frame with one byte changed
 abbrev pub altered : ℕ → ℕ → List ℕ → List ℕ
 altered at by frame = slice_set frame at (bit_xor (slice_index_or frame at 0) by)
 
--- what is left of the bytes of a frame
+-- the bytes of a frame after its fate
 abbrev pub after_fate : Fate → List ℕ → List ℕ
 after_fate Passed frame = frame
 after_fate Lost frame = []
 after_fate (Altered at by) frame = altered at by frame
 
--- what becomes of frames, one after another
+-- the fates of frames, one after another
 unfoldable pub fates : Faults → Lcg → List (Header × List ℕ) → List Fate
 fates faults draws [] = []
 fates faults draws (frame ∷ rest) =
@@ -57,13 +57,13 @@ unfoldable pub draws_after : Lcg → List (Header × List ℕ) → Lcg
 draws_after draws [] = draws
 draws_after draws (frame ∷ rest) = draws_after (next_draws draws) rest
 
--- what is left of frames whose fates these are
+-- the bytes of these frames after these fates, one after another
 unfoldable pub left_of : List (Header × List ℕ) → List Fate → List ℕ
 left_of (frame ∷ rest) (fate ∷ others) =
     after_fate fate (wire frame.0 frame.1) ++ left_of rest others
 left_of _ _ = []
 
--- how many are lost, and how many damaged
+-- whether a frame of this fate was lost, as 1 or 0; and whether it was damaged
 abbrev pub loses : Fate → ℕ
 loses Lost = 1
 loses Passed = 0

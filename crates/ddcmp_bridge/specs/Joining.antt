@@ -1,4 +1,4 @@
--- A bridge over its two lines: what came over each and what each took, and how its loop goes on.
+-- A bridge over its two lines: what was received from each and written to each, over its loop.
 use Rattle.std.specs.Prelude.{◌≡◌, ◌⊎◌, ℕ, Bool, true, false, List, [], ◌++◌, take}
 use Rattle.std.specs.Prelude.{Option, None, Some}
 use Rattle.rand_pcg.specs.Lcg.{Lcg}
@@ -7,7 +7,7 @@ use Rattle.ddcmp_bridge.specs.declared.lines.Way.TheVariants.{There, Back}
 use Rattle.ddcmp_bridge.specs.declared.faults.Faults.{Faults}
 use Rattle.ddcmp_bridge.specs.Delaying.{DirectionView, Directs}
 
--- What came over the line that a direction reads, and what the one that it writes took.
+-- What was received from the line that a direction reads, and written to the other.
 pub record Passage : Type 0 where
   pub came : List ℕ
   pub gone : List ℕ
@@ -35,7 +35,7 @@ no_traffic = record {
   back = record { came = []; gone = [] };
 }
 
--- ---- what a call of the lines adds to that
+-- ---- what a call of the lines adds to this traffic
 
 -- how many bytes were moved
 abbrev pub count_of : Option ℕ → ℕ
@@ -53,13 +53,13 @@ abbrev pub after_gone : Way → Option ℕ → List ℕ → Traffic → Traffic
 after_gone way moved bytes t =
     with_on way (record (on way t) { gone = (on way t).gone ++ moved_of moved bytes }) t
 
--- Traffic that was known is known afterwards, and has become this.
+-- If the traffic before was known, the traffic after is known, and is `change` of it.
 abbrev pub Becomes : Option Traffic → Option Traffic → (Traffic → Traffic) → Type 0
 Becomes old new change = (before : Traffic) → old ≡ Some before → new ≡ Some (change before)
 
 -- ---- a bridge over its lines
 
--- a direction, and the bytes that came and that it hasn't taken yet
+-- a direction, and the bytes received for it that it hasn't taken yet
 pub record FlowView : Type 0 where
   pub direction : DirectionView
   pub waiting : List ℕ
@@ -68,8 +68,8 @@ pub record BridgeView : Type 0 where
   pub there : FlowView
   pub back : FlowView
 
--- What came is what the direction, whose draws began so, has taken, and then what waits for it.
--- What the other line took is what the direction has passed on.
+-- What was received is what the direction has taken, and then what is waiting for it. What was
+-- written is what the direction has passed on; its generator began at `start`.
 pub record Flows (start : Lcg) (f : FlowView) (p : Passage) : Type 0 where
   pub used : List ℕ
   pub came : p.came ≡ used ++ f.waiting
@@ -78,15 +78,15 @@ pub record Flows (start : Lcg) (f : FlowView) (p : Passage) : Type 0 where
 abbrev pub Joins : Lcg → Lcg → BridgeView → Traffic → Type 0
 Joins there back b t = Flows there b.there t.there × Flows back b.back t.back
 
--- One direction and its lines: if it agreed with what is known of them, it does again, and nothing
--- came or went in the other direction.
+-- One direction: if it agreed with the known traffic before, it agrees with that after, and the
+-- traffic of the other direction is unchanged.
 pub record FlowsOn (way : Way) (old : FlowView) (before : Option Traffic) (new : FlowView)
     (after : Option Traffic) : Type 0 where
   pub goes : (start : Lcg) (t : Traffic) → before ≡ Some t → Flows start old (on way t)
       → (now : Traffic) × (after ≡ Some now) × Flows start new (on way now)
       × (on (other way) now ≡ on (other way) t)
 
--- and so of both
+-- the same for both directions
 pub record GoesOn (old : BridgeView) (before : Option Traffic) (new : BridgeView)
     (after : Option Traffic) : Type 0 where
   pub goes : (there back : Lcg) (t : Traffic) → before ≡ Some t → Joins there back old t
@@ -96,20 +96,20 @@ abbrev pub flow_on : Way → BridgeView → FlowView
 flow_on There b = b.there
 flow_on Back b = b.back
 
--- for how many milliseconds a bridge holds frames back in a direction
+-- the delay of a direction in milliseconds
 abbrev pub delay_on : Way → BridgeView → ℕ
 delay_on way b = (flow_on way b).direction.delay
 
--- the faults that it makes there
+-- the faults of a direction
 abbrev pub faults_on : Way → BridgeView → Faults
 faults_on way b = (flow_on way b).direction.relay.faults
 
--- all that came was passed on
+-- nothing that was received is left to be passed on
 abbrev pub IsDone : FlowView → Type 0
 IsDone f =
     (f.waiting ≡ []) × (f.direction.held ≡ []) × (f.direction.relay.waiting ≡ [])
 
--- A line is down, and if the other isn't, all that came over it was passed on.
+-- A line is down. If the other isn't, nothing received over the first is left to be passed on.
 pub record IsOver (b : BridgeView) (down : Way → Bool) : Type 0 where
   pub some : (down There ≡ true) ⊎ (down Back ≡ true)
   pub there : down There ≡ true → down Back ≡ false → IsDone b.there

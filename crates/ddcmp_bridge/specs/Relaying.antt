@@ -1,4 +1,4 @@
--- What a bridge passes on of one direction, and what it counts.
+-- What a bridge passes on in one direction, and its counters.
 use Rattle.std.specs.Prelude.{◌≡◌, ℕ, ◌-◌, List, [], ◌∷◌, ◌++◌, length, Option, None, Some}
 use Rattle.ddcmp_frame.specs.Limits.{MAX_COUNT}
 use Rattle.ddcmp_frame.specs.declared.header.Header.{Header}
@@ -11,22 +11,22 @@ use Rattle.ddcmp_bridge.specs.declared.faults.Faults.{Faults}
 use Rattle.ddcmp_bridge.specs.declared.faults.Fate.{Fate}
 use Rattle.ddcmp_bridge.specs.Faults.{fates, left_of, draws_after, lost_of, altered_of, after_fate}
 
--- frames as they go on the line, one after another
+-- the bytes of frames, one frame after another
 unfoldable pub wires : List (Header × List ℕ) → List ℕ
 wires [] = []
 wires (frame ∷ rest) = wire frame.0 frame.1 ++ wires rest
 
--- a good frame of which this is the header, if it is one, and these are the data
+-- the good frame with this header and these data, if there is a header
 abbrev pub frame_given : Option Header → List ℕ → List (Header × List ℕ)
 frame_given None lent = []
 frame_given (Some header) lent = (header, lent) ∷ []
 
--- what a bridge that makes no faults passes on of the bytes of a line: their good frames, of any
--- length, and nothing else
+-- what a bridge without faults passes on: the good frames in the bytes, of any length, and nothing
+-- else
 abbrev pub relayed : List ℕ → List ℕ
 relayed came = wires (good_frames MAX_COUNT came)
 
--- what becomes of the good frames of these bytes, where the draws begin so
+-- the fates of the good frames in these bytes, if the generator begins at `start`
 abbrev pub fates_in : Faults → Lcg → List ℕ → List Fate
 fates_in faults start came = fates faults start (good_frames MAX_COUNT came)
 
@@ -35,12 +35,12 @@ abbrev pub fate_given : Option Fate → List Fate
 fate_given None = []
 fate_given (Some fate) = fate ∷ []
 
--- what is passed on: of each good frame, in order, what its fate leaves
+-- what is passed on: the good frames in order, each after its fate
 abbrev pub passed_on : Faults → Lcg → List ℕ → List ℕ
 passed_on faults start came = left_of (good_frames MAX_COUNT came) (fates_in faults start came)
 
--- what is counted of these bytes: the good frames, the bytes in none of them, what the reader found
--- that isn't a good frame, and the good frames that were lost and those that were altered
+-- the counters for these bytes: good frames, bytes in none of them, receive errors, and good frames
+-- that were lost and that were altered
 abbrev pub counts_of : Faults → Lcg → List ℕ → Counts
 counts_of faults start came = record {
   frames = length (good_frames MAX_COUNT came);
@@ -50,9 +50,9 @@ counts_of faults start came = record {
   altered = altered_of (fates_in faults start came);
 }
 
--- A relay: its reader, what waits of the frame that it passes on, and how many good frames there
--- were, how many bytes these have, and how many items there were; the faults that it makes, the
--- draws of the next, and how many frames it lost and altered.
+-- A relay: its reader; what is left of the frame that it passes on; how many good frames were
+-- received, how many bytes these have, and how many items there were; its faults and its generator;
+-- how many frames were lost and altered.
 pub record RelayView : Type 0 where
   pub frames : ReaderView
   pub waiting : List ℕ
@@ -64,8 +64,8 @@ pub record RelayView : Type 0 where
   pub lost : ℕ
   pub altered : ℕ
 
--- These bytes came to a relay whose draws began so, and of what is passed on of them this was
--- taken; the rest waits.
+-- `came` was received by a relay whose generator began at `start`. Of the bytes that it passes on,
+-- `taken` were taken; the others are waiting.
 pub record Relays (start : Lcg) (r : RelayView) (came taken : List ℕ) : Type 0 where
   pub stands : StandsFor r.frames came
   pub passes : passed_on r.faults start came ≡ taken ++ r.waiting
@@ -76,7 +76,7 @@ pub record Relays (start : Lcg) (r : RelayView) (came taken : List ℕ) : Type 0
   pub lost : r.lost ≡ lost_of (fates_in r.faults start came)
   pub altered : r.altered ≡ altered_of (fates_in r.faults start came)
 
--- these bytes are what a fate left of one frame
+-- these bytes are one frame after some fate
 pub record IsOfOneFrame (bytes : List ℕ) : Type 0 where
   pub header : Header
   pub data_bytes : List ℕ

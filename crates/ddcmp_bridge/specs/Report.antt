@@ -9,6 +9,6 @@ direction_line mark counts =
     ++ codes " damaged=" ++ decimal counts.damaged ++ codes " lost=" ++ decimal counts.lost
     ++ codes " altered=" ++ decimal counts.altered ++ codes "\n"
 
--- the direction from the first line to the second, and that back
+-- the report: from the first line to the second, and back
 abbrev pub bridge_report : Counts → Counts → List ℕ
 bridge_report there back = direction_line (codes ">") there ++ direction_line (codes "<") back

@@ -15,8 +15,8 @@ use crate::lines::{Lines, Way};
 use std::alloc::Global;
 use std::marker::Model;
 
-/// After how many turns in which something moved the lines are asked again which of them is ready,
-/// so that no direction starves the other.
+/// After this many turns in which something moved, the lines are polled for readiness again, so
+/// that no direction starves the other.
 const TURNS: u64 = 16;
 
 /// Why a bridge has ended.
@@ -30,14 +30,14 @@ pub enum Ended {
     Stopped,
 }
 
-/// Passes the good frames that come over each of two lines on to the other, but for the faults that
-/// it is to make. It doesn't allocate once it is made.
+/// Passes the good frames of each of two lines on to the other, with faults if any are set. It
+/// doesn't allocate after it is made.
 pub struct Bridge {
     there: Flow,
     back: Flow,
 }
 
-// Manual, since a derived `Drop` is expanded wherever it is dropped.
+// Manual, since a derived `Drop` would be expanded wherever a value is dropped.
 impl Drop for Bridge {
     fn drop(self) {
         let Bridge {
@@ -56,8 +56,8 @@ impl Model for Bridge {
 }
 
 impl Bridge {
-    /// Takes all memory that it will need; none if an allocation failed. Each frame is held back
-    /// for `delay_ms` milliseconds.
+    /// Allocates all memory that it will need; returns none if an allocation failed. Each frame is
+    /// delayed by `delay_ms` milliseconds.
     pub fn new(alloc: Global, faults: Faults, delay_ms: u32) -> Option<Bridge>
         ensures joins { IfSome result (λ made.
             Joins (start_of faults.seed 0) (start_of faults.seed 1) made no_traffic) }
@@ -69,8 +69,8 @@ impl Bridge {
         Some(Bridge { there, back })
     }
 
-    /// Passes frames on both ways, until a line is down and all that came over it was passed on, or
-    /// the time is over, or the lines stop it.
+    /// Passes frames on both ways, until a line is down and all that was received over it was
+    /// passed on, the time is over, or the lines stop it.
     pub fn run<L: Lines>(&mut self, lines: &mut L, ends_at: u64) -> Ended
         ensures goes { GoesOn self.old (L.traffic lines.old) self.new (L.traffic lines.new) }
         ensures faults { (way : WayValue) → faults_on way self.new ≡ faults_on way self.old }
@@ -96,7 +96,7 @@ impl Bridge {
         Ended::Stopped
     }
 
-    /// Reads and writes each line once, as far as neither waits; returns whether anything moved.
+    /// Reads and writes each line once, without blocking; returns whether anything moved.
     fn pass<L: Lines>(&mut self, lines: &mut L, now: u64) -> bool
         ensures goes { GoesOn self.old (L.traffic lines.old) self.new (L.traffic lines.new) }
         ensures faults { (way : WayValue) → faults_on way self.new ≡ faults_on way self.old }
@@ -106,7 +106,7 @@ impl Bridge {
         went || came
     }
 
-    /// Returns whether a line is down, and nothing that came over it can be passed on any more.
+    /// Returns whether a line is down, and nothing received over it is left to be passed on.
     fn is_over<L: Lines>(&self, lines: &L) -> bool
         ensures { IsTrue result → IsOver self.now (L.down lines.now) }
     {
@@ -118,15 +118,15 @@ impl Bridge {
         }
     }
 
-    /// Returns when it is over, or a frame is due that isn't yet at this moment.
+    /// Returns the next moment at which the time is over or a frame becomes due.
     fn wakes_at(&self, now: u64, ends_at: u64) -> u64 {
         ends_at
             .min(later_than(now, self.there.wakes_at()))
             .min(later_than(now, self.back.wakes_at()))
     }
 
-    /// Waits until a line is ready for what is needed of it at this moment, unless it passes on;
-    /// returns false if the lines stop it, or it can't wait.
+    /// Waits until a line is ready for what is needed of it now, unless `passes_on`; returns false
+    /// if the lines stop it, or it can't wait.
     fn goes_on<L: Lines>(&self, lines: &mut L, now: u64, passes_on: bool, most_ms: u64) -> bool
         ensures { L.traffic lines.new ≡ L.traffic lines.old }
     {
@@ -136,7 +136,7 @@ impl Bridge {
         passes_on || lines.wait(self.there.needs(now), self.back.needs(now), most_ms)
     }
 
-    /// Returns what was counted of what came in this direction.
+    /// Returns the counters of this direction.
     pub fn counts(&self, way: Way) -> Counts
         ensures { (start : Lcg) (came taken : List ℕ)
             → Directs start (flow_on way self.now).direction came taken
@@ -149,7 +149,7 @@ impl Bridge {
     }
 }
 
-/// Returns the moment if it is yet to come, and else the last that there is.
+/// Returns the moment if it is in the future, and else `u64::MAX`.
 fn later_than(now: u64, moment: Option<u64>) -> u64 {
     match moment {
         Some(moment) if moment > now => moment,

@@ -1,16 +1,16 @@
-//! What a bridge counts.
+//! The counters of a bridge.
 
-/// What was counted of the bytes of one direction.
+/// The counters of one direction.
 #[derive(Clone, Copy, PartialEq, Eq)]
 pub struct Counts {
-    /// The good frames, which are passed on but for the faults that the bridge makes.
+    /// Good frames; they are passed on, apart from faults that the bridge makes.
     pub frames: u64,
-    /// The bytes that are in none of these: junk, fill and what is damaged or unfinished.
+    /// Bytes in no good frame: junk, fill, and damaged or incomplete frames.
     pub skipped: u64,
-    /// Frames whose check is wrong, losses of synchronism, and headers that aren't valid.
+    /// Frames with a wrong CRC, losses of synchronism, and invalid headers.
     pub damaged: u64,
-    /// The good frames that the bridge lost.
+    /// Good frames that the bridge lost.
     pub lost: u64,
-    /// Those in which it changed a byte.
+    /// Good frames in which the bridge changed a byte.
     pub altered: u64,
 }

@@ -1,4 +1,4 @@
-//! Frames that are held back.
+//! Delayed frames.
 ghost use Rattle.std.specs.Prelude.{◌≡◌, ◌↔◌, ◌<◌, ◌≤◌, [], ◌∷◌, ◌++◌, length, IfSome, IsTrue};
 ghost use Rattle.std.specs.Prelude.{Some};
 ghost use Rattle.ddcmp_bridge.specs.Delaying.{after_taking, due_at, first_length, next_due};
@@ -8,25 +8,25 @@ use std::alloc::Global;
 use std::collections::VecDeque;
 use std::marker::Model;
 
-/// A frame that is held back.
+/// A delayed frame.
 #[derive(Drop)]
 struct Held {
-    /// The moment from which it is passed on.
+    /// The moment from which it may be taken.
     due: u64,
     frame: Vec<u8>,
 }
 
-/// A queue of frames, each with the moment from which it is passed on. It doesn't allocate once it
+/// A queue of frames, each with the moment from which it may be taken. It doesn't allocate after it
 /// is made.
 pub(crate) struct DelayLine {
     held: VecDeque<Held>,
-    /// How many bytes of the first are gone.
+    /// How many bytes of the first frame were taken.
     from: usize,
     /// Buffers for further frames.
     spare: Vec<Vec<u8>>,
 }
 
-// Manual, since a derived `Drop` is expanded wherever it is dropped.
+// Manual, since a derived `Drop` would be expanded wherever a value is dropped.
 impl Drop for DelayLine {
     fn drop(self) {
         let DelayLine {
@@ -59,7 +59,7 @@ impl Model for DelayLine {
 }
 
 impl DelayLine {
-    /// Makes a queue for `limit` frames; none if an allocation failed.
+    /// Makes a queue for `limit` frames; returns none if an allocation failed.
     pub(crate) fn new(alloc: Global, limit: usize) -> Option<DelayLine>
         ensures held { IfSome result (λ made. made.held ≡ []) }
         ensures limit { IfSome result (λ made. made.limit ≡ limit) }
@@ -87,7 +87,7 @@ impl DelayLine {
         !self.spare.is_empty()
     }
 
-    /// Holds a frame back until it is due.
+    /// Appends a frame, with the moment at which it is due.
     pub(crate) fn push(&mut self, due: u64, bytes: &[u8])
         requires room { length self.old.held < self.old.limit }
         requires fits { length bytes.now ≤ FRAME }
@@ -105,7 +105,7 @@ impl DelayLine {
         self.held.push_back_reserved(Held { due, frame });
     }
 
-    /// Returns what may be taken at this moment: what waits of the first frame, if that is due.
+    /// Returns the bytes that may be taken now: those left of the first frame, if it is due.
     pub(crate) fn waiting(&self, now: u64) -> &[u8]
         ensures value { result.now ≡ due_at now self.now.held }
         ensures most { length result.now ≤ first_length self.now.held }
@@ -119,7 +119,7 @@ impl DelayLine {
         }
     }
 
-    /// Returns the moment at which something is due next.
+    /// Returns the moment at which the first frame is due.
     pub(crate) fn wakes_at(&self) -> Option<u64>
         ensures { result ≡ next_due self.now.held }
     {
@@ -129,7 +129,7 @@ impl DelayLine {
         }
     }
 
-    /// The first `n` bytes of what waits of the first frame were taken.
+    /// Removes the first `n` remaining bytes of the first frame.
     pub(crate) fn took(&mut self, n: usize)
         requires { n ≤ first_length self.old.held }
         ensures held { self.new.held ≡ after_taking n self.old.held }

@@ -1,4 +1,4 @@
-//! One direction of a bridge, whose frames may be held back.
+//! One direction of a bridge, with a delay.
 ghost use Rattle.std.specs.Prelude.{◌≡◌, ◌↔◌, ◌+◌, ◌<◌, ◌≤◌, ◌^◌, ◌++◌, [], List, ℕ};
 ghost use Rattle.std.specs.Prelude.{IfSome, IsTrue, length, take};
 ghost use Rattle.rand_pcg.specs.Lcg.{Lcg};
@@ -14,22 +14,22 @@ use crate::relay::{Relay, Taken};
 use std::alloc::Global;
 use std::marker::Model;
 
-/// How many frames are held back at once, at most.
+/// The maximum number of delayed frames.
 const MOST_HELD: usize = 256;
 
-/// Passes the good frames of one line to the other, each held back for a time. It doesn't
-/// allocate once it is made.
+/// Passes the good frames of one line to the other, each delayed. It doesn't allocate after it is
+/// made.
 ///
-/// Pass received bytes to `push`, and what it didn't take again, as long as it has room; have the
-/// other line take what waits, and report that by `took`. Call again at `wakes_at`. Moments are in
-/// milliseconds, and don't go back.
+/// Pass received bytes to `push` while it has room, and pass again those that it didn't take. Write
+/// what is `waiting` to the other line, and report by `took` how much was written. Call again at
+/// `wakes_at`. Moments are in milliseconds, and never decrease.
 pub struct Direction {
     relay: Relay,
     delay_ms: u32,
     line: DelayLine,
 }
 
-// Manual, since a derived `Drop` is expanded wherever it is dropped.
+// Manual, since a derived `Drop` would be expanded wherever a value is dropped.
 impl Drop for Direction {
     fn drop(self) {
         let Direction {
@@ -57,8 +57,8 @@ impl Model for Direction {
 }
 
 impl Direction {
-    /// Makes a direction that no bytes have come to; none if an allocation failed. The draws of its
-    /// faults are those of this number: 0 or 1.
+    /// Makes a direction without bytes; returns none if an allocation failed. `number` (0 or 1)
+    /// selects the random generator of its faults.
     pub fn new(alloc: Global, faults: Faults, delay_ms: u32, number: u64) -> Option<Direction>
         ensures directs { IfSome result (λ made.
             Directs (start_of faults.seed number) made [] []) }
@@ -84,22 +84,22 @@ impl Direction {
         })
     }
 
-    /// Returns how many bytes may still come.
+    /// Returns how many more bytes may be received.
     pub fn countable(&self) -> u64
         ensures { result + self.now.relay.frames.offset + 1 ≡ 2 ^ 64 }
     {
         self.relay.countable()
     }
 
-    /// Returns whether one more frame can be held.
+    /// Returns whether one more frame fits.
     pub fn has_room(&self) -> bool
         ensures { IsTrue result ↔ (length self.now.held < self.now.limit) }
     {
         self.line.has_room()
     }
 
-    /// Takes bytes that came at a moment, up to the first that completes a frame or shows that one
-    /// is damaged. What its fate leaves of a good frame is held then, until it is due.
+    /// Takes bytes received now, up to the first that completes a frame or shows that one is
+    /// damaged. What its fate leaves of a good frame is then held until it is due.
     pub fn push(&mut self, now: u64, bytes: &[u8]) -> Taken
         requires room { length self.old.held < self.old.limit }
         requires bytes { 0 < length bytes.now }
@@ -130,11 +130,11 @@ impl Direction {
         taken
     }
 
-    /// Returns what may be taken at this moment: what waits of the first frame, if that is due.
+    /// Returns the bytes that may be taken now: those left of the first frame, if it is due.
     pub fn waiting(&self, now: u64) -> &[u8]
         ensures value { result.now ≡ due_at now self.now.held }
         ensures most { length result.now ≤ first_length self.now.held }
-        // If it is to make no faults, it passes on what came.
+        // Without faults, it passes on the good frames that were received.
         ensures faultless { (start : Lcg) (came taken : List ℕ) → Directs start self.now came taken
             → self.now.relay.faults.lose ≡ 0 → self.now.relay.faults.damage ≡ 0
             → relayed came ≡ taken ++ bytes_of self.now.held }
@@ -142,16 +142,16 @@ impl Direction {
         self.line.waiting(now)
     }
 
-    /// Returns the moment at which something is due next; none if nothing is held.
+    /// Returns the moment at which the first frame is due; none if nothing is held.
     pub fn wakes_at(&self) -> Option<u64>
         ensures due { result ≡ next_due self.now.held }
-        // All that is to be passed on is held.
+        // Nothing is left in the relay.
         ensures idle { self.now.relay.waiting ≡ [] }
     {
         self.line.wakes_at()
     }
 
-    /// The other line took the first `n` bytes of what waits.
+    /// Removes the first `n` waiting bytes, which the other line took.
     pub fn took(&mut self, n: usize)
         requires { n ≤ first_length self.old.held }
         ensures directs { (start : Lcg) (came taken : List ℕ) → Directs start self.old came taken
@@ -164,11 +164,11 @@ impl Direction {
         self.line.took(n);
     }
 
-    /// Returns what was counted.
+    /// Returns the counters.
     pub fn counts(&self) -> Counts
         ensures counts { (start : Lcg) (came taken : List ℕ) → Directs start self.now came taken
             → result ≡ counts_of self.now.relay.faults start came }
-        // Every byte that came is one of a good frame or skipped.
+        // Every byte that was received is in a good frame or was skipped.
         ensures all { (start : Lcg) (came taken : List ℕ) → Directs start self.now came taken
             → length (relayed came) + result.skipped ≡ length came }
     {

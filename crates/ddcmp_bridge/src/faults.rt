@@ -1,4 +1,4 @@
-//! The faults that a bridge makes, so that what is at its ends is tested.
+//! The faults that a bridge makes, to test the stations at its ends.
 ghost use Rattle.std.specs.Prelude.{◌≡◌, ◌<◌, ◌≤◌, length, slice_set, take};
 ghost use Rattle.ddcmp_bridge.specs.Faults.{IsWithin, altered, after_fate, fate_drawn, next_draws};
 ghost use Rattle.ddcmp_bridge.specs.Faults.{start_of};
@@ -6,34 +6,34 @@ ghost use Rattle.ddcmp_bridge.specs.Faults.{start_of};
 use rand_core::utils::NextWord;
 use rand_pcg::Pcg32;
 
-/// The faults that a bridge makes: in percent of its good frames, drawn by a seed.
+/// The faults that a bridge makes: percentages of its good frames, and the seed for drawing them.
 #[derive(Clone, Copy, Debug)]
 pub struct Faults {
-    /// How many of 100 frames are lost.
+    /// The percentage of frames that are lost.
     pub lose: u32,
-    /// In how many of 100 others a byte is changed.
+    /// The percentage of the others in which a byte is changed.
     pub damage: u32,
     pub seed: u32,
 }
 
-/// What becomes of a good frame.
+/// The fate of a good frame.
 #[derive(Clone, Copy)]
 pub enum Fate {
     Passed,
     Lost,
-    /// The byte at this place is changed by these bits.
+    /// The byte at this index is changed, by exclusive or.
     Altered { at: usize, by: u8 },
 }
 
-/// Begins the draws of one direction of a bridge.
+/// Returns the random generator of one direction of a bridge.
 pub(crate) fn start_draws(seed: u32, direction: u64) -> Pcg32
     ensures { result ≡ start_of seed direction }
 {
     Pcg32::new(u64::from(seed), direction)
 }
 
-/// Draws what becomes of a frame of `length` bytes. It takes two words for each, so that the fate
-/// of a frame doesn't depend on those before it.
+/// Draws the fate of a frame of `length` bytes. Two words are drawn for each frame, so that its
+/// fate doesn't depend on the frames before it.
 pub(crate) fn draw_fate(faults: &Faults, draws: &mut Pcg32, length: usize) -> Fate
     requires { 1 < length }
     ensures fate { result ≡ fate_drawn faults.now draws.old length }
@@ -54,7 +54,8 @@ pub(crate) fn draw_fate(faults: &Faults, draws: &mut Pcg32, length: usize) -> Fa
     Fate::Passed
 }
 
-/// Makes of the frame at the front of `space` what is left of it; returns how many bytes.
+/// Applies a fate to the frame in the first `end` bytes of `space`; returns how many bytes are
+/// left.
 pub(crate) fn apply_fault(space: &mut [u8], end: usize, fate: Fate) -> usize
     requires end { end ≤ length space.old }
     requires within { IsWithin end fate }

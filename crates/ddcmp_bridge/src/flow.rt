@@ -14,19 +14,19 @@ use crate::relay::Taken;
 use std::alloc::Global;
 use std::marker::Model;
 
-/// How much is read at once: a datagram has no more.
+/// How many bytes are read at once: at least a whole datagram.
 const MOST: usize = 65536;
 
-/// A direction, and what was read for it.
+/// A direction, and the bytes that were read for it.
 pub(crate) struct Flow {
     direction: Direction,
-    /// Bytes that came, of which `direction` has not taken those from `from` to `end` yet.
+    /// Received bytes; those from `from` to `end` weren't taken by `direction` yet.
     came: Vec<u8>,
     from: usize,
     end: usize,
 }
 
-// Manual, since a derived `Drop` is expanded wherever it is dropped.
+// Manual, since a derived `Drop` would be expanded wherever a value is dropped.
 impl Drop for Flow {
     fn drop(self) {
         let Flow {
@@ -56,8 +56,8 @@ impl Model for Flow {
 }
 
 impl Flow {
-    /// Takes all memory that it will need; none if an allocation failed. Its faults are drawn as
-    /// those of the direction of this number.
+    /// Allocates all memory that it will need; returns none if an allocation failed. `number` (0 or
+    /// 1) selects the random generator of its faults.
     pub(crate) fn new(alloc: Global, faults: Faults, delay_ms: u32, number: u64) -> Option<Flow>
         ensures flows { IfSome result (λ made.
             Flows (start_of faults.seed number) made (record { came = []; gone = [] })) }
@@ -74,8 +74,8 @@ impl Flow {
         })
     }
 
-    /// Reads once and writes once, as far as neither waits; returns whether anything moved. What
-    /// comes has this moment.
+    /// Reads once and writes once, without blocking; returns whether anything moved. `now` is the
+    /// moment of what is received.
     pub(crate) fn pass<L: Lines>(&mut self, way: Way, lines: &mut L, now: u64) -> bool
         ensures flows { FlowsOn way self.old (L.traffic lines.old) self.new (L.traffic lines.new) }
         ensures faults { self.new.direction.relay.faults ≡ self.old.direction.relay.faults }
@@ -87,7 +87,8 @@ impl Flow {
         came || went
     }
 
-    /// Returns whether more may come: all that came is taken, there is room, and it can be counted.
+    /// Returns whether more may be read: all received bytes were taken, there is room, and more can
+    /// be counted.
     fn wants_more(&self) -> bool
         ensures used { IsTrue result → self.now.waiting ≡ [] }
         ensures countable { IsTrue result
@@ -106,14 +107,14 @@ impl Flow {
         }
     }
 
-    /// Returns whether all that came was passed on.
+    /// Returns whether nothing that was received is left to be passed on.
     pub(crate) fn is_done(&self) -> bool
         ensures { IsTrue result → IsDone self.now }
     {
         self.from >= self.end && self.direction.wakes_at().is_none()
     }
 
-    /// Returns the moment at which something waits for the other line next.
+    /// Returns the moment at which the first frame is due.
     pub(crate) fn wakes_at(&self) -> Option<u64> {
         self.direction.wakes_at()
     }
@@ -131,7 +132,7 @@ impl Flow {
         came.is_some()
     }
 
-    /// Has the direction take what came, as far as there is room.
+    /// Passes received bytes to the direction, as far as there is room.
     fn take<L: Lines>(&mut self, way: Way, lines: &mut L, now: u64)
         ensures flows { FlowsOn way self.old (L.traffic lines.old) self.new (L.traffic lines.new) }
         ensures faults { self.new.direction.relay.faults ≡ self.old.direction.relay.faults }
@@ -141,7 +142,7 @@ impl Flow {
         }
     }
 
-    /// Returns whether the direction can take something that came.
+    /// Returns whether the direction can take received bytes.
     fn takes_more(&self) -> bool
         ensures some { IsTrue result → 0 < length self.now.waiting }
         ensures room { IsTrue result
@@ -150,7 +151,7 @@ impl Flow {
         self.from < self.end && self.direction.has_room()
     }
 
-    /// Has the direction take what came, up to the end of a frame.
+    /// Passes received bytes to the direction, up to the end of a frame.
     fn take_some<L: Lines>(&mut self, way: Way, lines: &mut L, now: u64)
         requires some { 0 < length self.old.waiting }
         requires room { length self.old.direction.held < self.old.direction.limit }
@@ -177,7 +178,7 @@ impl Flow {
         went.is_some()
     }
 
-    /// Returns what was counted of what the direction took.
+    /// Returns the counters of the bytes that the direction took.
     pub(crate) fn counts(&self) -> Counts
         ensures { (start : Lcg) (came taken : List ℕ) → Directs start self.now.direction came taken
             → result ≡ counts_of self.now.direction.relay.faults start came }

@@ -1,12 +1,12 @@
-//! What holds of a bridge that agrees with its lines: functions that do nothing, whose contracts
+//! What holds of a bridge that agrees with its lines: functions without an effect, whose contracts
 //! are the laws.
 ghost use Rattle.std.specs.Prelude.{◌≡◌, ◌++◌, List, ℕ};
 ghost use Rattle.rand_pcg.specs.Lcg.{Lcg};
 ghost use Rattle.ddcmp_bridge.specs.Joining.{FlowView, Flows, IsDone, Passage};
 ghost use Rattle.ddcmp_bridge.specs.Relaying.{passed_on, relayed};
 
-/// What a line took is a beginning of what is passed on of all that came over the other; it is all
-/// of that once nothing waits; and then, if no faults are asked for, the good frames.
+/// What was written to a line is a prefix of what is passed on of all that was received over the
+/// other, and all of it once nothing is waiting. Then, without faults, it is the good frames.
 pub fn good_frames_are_passed_on()
     ensures begins { (start : Lcg) (f : FlowView) (p : Passage) → Flows start f p
         → (more : List ℕ)

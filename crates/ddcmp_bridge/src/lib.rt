@@ -1,7 +1,7 @@
-//! A bridge between two lines, without the lines. `Relay` takes the bytes of one line and has those
-//! of its good frames for the other, one frame at a time, as far as the `Faults` that it is to make
-//! leave them; `Direction` holds each of these frames back for a time; `write_report` writes what
-//! both directions have counted; `Bridge` runs both over the `Lines`, until one is down.
+//! A bridge between two lines, without I/O. `Relay` takes the bytes of one line and passes on its
+//! good frames, one at a time, with the `Faults` that are set; `Direction` delays each of these
+//! frames; `write_report` writes the counters of both directions; `Bridge` runs both over the
+//! `Lines`, until one is down.
 #![tactic(auto)]
 
 mod bridge;

@@ -16,7 +16,7 @@ use rand_pcg::Pcg32;
 use std::alloc::Global;
 use std::marker::Model;
 
-/// The most bytes of a frame.
+/// The maximum size of a frame in bytes.
 pub(crate) const FRAME: usize = MAX_COUNT as usize + 10;
 
 /// Returns the header of a good frame.
@@ -54,28 +54,28 @@ fn is_altered(fate: &Fate) -> u64
     }
 }
 
-/// What a relay took of received bytes.
+/// What a relay did with received bytes.
 #[derive(Clone, Copy)]
 pub struct Taken {
-    /// How many.
+    /// How many it took.
     pub used: usize,
-    /// What becomes of the good frame that they complete; none if they complete none.
+    /// The fate of the good frame that they complete; none if they complete none.
     pub fate: Option<Fate>,
 }
 
 /// Passes the good frames of one line to the other. It takes frames of any length, and doesn't
-/// allocate once it is made.
+/// allocate after it is made.
 ///
-/// Pass received bytes to `push`, and what it didn't take again, as long as nothing waits; have the
-/// other line take what waits, and report that by `took`.
+/// Pass received bytes to `push` while nothing is waiting, and pass again those that it didn't
+/// take. Write what is `waiting` to the other line, and report by `took` how much was written.
 pub struct Relay {
     frames: Reader,
-    /// The last good frame, and where what waits of it begins and ends.
+    /// The last good frame, and the range of it that is waiting.
     frame: Vec<u8>,
     from: usize,
     end: usize,
     good: u64,
-    /// How many bytes the good frames have. Those of any number of frames fit.
+    /// How many bytes the good frames have. It can't overflow.
     bytes: u128,
     items: u64,
     faults: Faults,
@@ -84,7 +84,7 @@ pub struct Relay {
     altered: u64,
 }
 
-// Manual, since a derived `Drop` is expanded wherever a relay is dropped.
+// Manual, since a derived `Drop` would be expanded wherever a value is dropped.
 impl Drop for Relay {
     fn drop(self) {
         let Relay {
@@ -130,8 +130,8 @@ impl Model for Relay {
 }
 
 impl Relay {
-    /// Makes a relay that no bytes have come to; none if an allocation failed. The draws of its
-    /// faults are those of this direction: 0 or 1.
+    /// Makes a relay without bytes; returns none if an allocation failed. `direction` (0 or 1)
+    /// selects the random generator of its faults.
     pub fn new(alloc: Global, faults: Faults, direction: u64) -> Option<Relay>
         ensures relays { IfSome result (λ made.
             Relays (start_of faults.seed direction) made [] []) }
@@ -159,15 +159,15 @@ impl Relay {
         })
     }
 
-    /// Returns how many bytes may still come.
+    /// Returns how many more bytes may be received.
     pub fn countable(&self) -> u64
         ensures { result + self.now.frames.offset + 1 ≡ 2 ^ 64 }
     {
         u64::MAX - self.frames.offset()
     }
 
-    /// Takes bytes that came, up to the first that completes a frame or shows that one is damaged.
-    /// What its fate leaves of a good frame waits then.
+    /// Takes received bytes, up to the first that completes a frame or shows that one is damaged.
+    /// What its fate leaves of a good frame is then waiting.
     pub fn push(&mut self, bytes: &[u8]) -> Taken
         requires idle { self.old.waiting ≡ [] }
         requires bytes { 0 < length bytes.now }
@@ -205,11 +205,11 @@ impl Relay {
         }
     }
 
-    /// Returns what waits of the frame that is passed on.
+    /// Returns what is left of the frame that is passed on.
     pub fn waiting(&self) -> &[u8]
         ensures value { result.now ≡ self.now.waiting }
         ensures most { length result.now ≤ FRAME }
-        // If it is to make no faults, it passes on what came.
+        // Without faults, it passes on the good frames that were received.
         ensures faultless { (start : Lcg) (came taken : List ℕ) → Relays start self.now came taken
             → self.now.faults.lose ≡ 0 → self.now.faults.damage ≡ 0
             → relayed came ≡ taken ++ self.now.waiting }
@@ -217,7 +217,7 @@ impl Relay {
         &self.frame[self.from..self.end]
     }
 
-    /// The other line took the first `n` bytes of what waits.
+    /// Removes the first `n` waiting bytes, which the other line took.
     pub fn took(&mut self, n: usize)
         requires { n ≤ length self.old.waiting }
         ensures relays { (start : Lcg) (came taken : List ℕ) → Relays start self.old came taken
@@ -229,11 +229,11 @@ impl Relay {
         self.from += n;
     }
 
-    /// Returns what was counted.
+    /// Returns the counters.
     pub fn counts(&self) -> Counts
         ensures counts { (start : Lcg) (came taken : List ℕ) → Relays start self.now came taken
             → result ≡ counts_of self.now.faults start came }
-        // Every byte that came is one of a good frame or skipped.
+        // Every byte that was received is in a good frame or was skipped.
         ensures all { (start : Lcg) (came taken : List ℕ) → Relays start self.now came taken
             → length (relayed came) + result.skipped ≡ length came }
     {

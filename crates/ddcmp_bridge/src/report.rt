@@ -7,7 +7,7 @@ use crate::counts::Counts;
 use ddcmp_io::text::write_number;
 use ddcmp_io::{Page, Sink, WriteFailed};
 
-/// The line of one direction.
+/// Writes the line of one direction.
 fn write_direction<W: Sink>(page: &mut Page, writer: &mut W, mark: &[u8], counts: &Counts)
     ensures { HandsOver (output_of W.broken W.contents writer.old page.old)
         (output_of W.broken W.contents writer.new page.new) (direction_line mark.now counts.now) }
@@ -26,7 +26,7 @@ fn write_direction<W: Sink>(page: &mut Page, writer: &mut W, mark: &[u8], counts
     page.write(writer, b"\n");
 }
 
-/// Writes what was counted of the direction from the first line to the second, and back.
+/// Writes the counters of the direction from the first line to the second, and back.
 pub fn write_report<W: Sink>(
     writer: &mut W,
     there: &Counts,

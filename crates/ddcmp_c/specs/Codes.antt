@@ -1,4 +1,4 @@
--- The numbers that C has of results.
+-- The numbers of results in C.
 use Rattle.std.specs.Prelude.{ℕ, ◌||◌, if◌then◌else◌, List, [], ◌∷◌, Option, Some, None, Result, Ok}
 use Rattle.std.specs.Prelude.{Err, not, nat_eq}
 use Rattle.ddcmp_num.specs.declared.seq.Seq.{Seq}
@@ -40,7 +40,7 @@ code_of_refusal send.Empty = 11
 code_of_refusal send.TooLong = 12
 code_of_refusal send.WindowFull = 13
 
--- 0 if it is sent
+-- 0 if it would be accepted
 abbrev pub code_of_send_refusal : Option SendRefusal → ℕ
 code_of_send_refusal None = 0
 code_of_send_refusal (Some r) = code_of_refusal r
@@ -79,7 +79,7 @@ code_of_notices (notice.MaintenanceDropped ∷ rest) = record { kind = 11; count
 abbrev pub acknowledged_of : CNotice → ℕ
 acknowledged_of c = if nat_eq c.kind 3 || nat_eq c.kind 5 then c.count else 0
 
--- the sizes that C gave
+-- the sizes that C passed
 abbrev pub taken_config : CConfig → Config
 taken_config c = record {
   window = c.window;
@@ -89,7 +89,7 @@ taken_config c = record {
   restart = not (nat_eq c.restart 0);
 }
 
--- the counters that C gets
+-- the counters, for C
 abbrev pub given_nak_counts : NakCounts → CNakCounts
 given_nak_counts c = record {
   header_check = c.header_check;
@@ -121,11 +121,11 @@ given_counters c = record {
   formats = c.formats;
 }
 
--- the numbers that C gets
+-- the numbers of a station, for C
 abbrev pub given_numbers : StationState → CNumbers
 given_numbers s = record { r = s.r; n = s.n; a = s.a; t = s.t }
 
--- the sizes that C gets
+-- the sizes, for C
 abbrev pub given_config : Config → CConfig
 given_config c = record {
   window = c.window;

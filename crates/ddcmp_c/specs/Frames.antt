@@ -17,7 +17,7 @@ pub use Rattle.ddcmp_frame.specs.Reader.{ReaderView}
 use Rattle.ddcmp_c.specs.declared.frame_values.CHeader.{CHeader}
 use Rattle.ddcmp_c.specs.declared.frame_values.CItem.{CItem}
 
--- ---- what C gets
+-- ---- from values to C's structs
 
 abbrev pub given_bit : Bool → ℕ
 given_bit b = if b then 1 else 0
@@ -87,7 +87,7 @@ given_item (Some (DataCheck offset h)) = given_with 3 offset h
 given_item (Some (TooLong offset h)) = given_with 4 offset h
 given_item (Some (Format offset f)) = given_fault offset f
 
--- ---- what C's structs stand for
+-- ---- from C's structs to values
 
 abbrev pub taken_flags : CHeader → Flags
 taken_flags c = record { q = not (c.q == 0); s = not (c.s == 0) }

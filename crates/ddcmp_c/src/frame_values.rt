@@ -1,4 +1,4 @@
-//! Headers and items as C passes and gets them.
+//! Headers and items, for C.
 ghost use Rattle.std.specs.Prelude.{◌≡◌, Some, None, option_map};
 ghost use Rattle.ddcmp_frame.specs.declared.header.Header.TheVariants.{Data, Maint};
 ghost use Rattle.ddcmp_c.specs.Frames.{given_kind, given_counted, given_header, given_with};
@@ -8,7 +8,7 @@ ghost use Rattle.ddcmp_c.specs.Frames.{taken_short, taken_header, taken_item};
 use ddcmp_frame::{ControlType, Counted, Flags, Header, HeaderFault, Item, MAX_COUNT, Short};
 
 /// A header, for C: its kind, 0 if there is none, and its fields. A control header has no count,
-/// the others have no sub.
+/// others have no sub.
 #[repr(C)]
 #[derive(Clone, Copy)]
 pub struct CHeader {
@@ -30,9 +30,9 @@ pub struct CItem {
     pub offset: u64,
     pub header: CHeader,
     pub kind: u8,
-    /// Why a header whose check is right is none.
+    /// The fault of a header whose CRC (block check) is right.
     pub fault: u8,
-    /// The TYPE that no control message has.
+    /// The TYPE, if no control message has it.
     pub bad_type: u8,
 }
 
@@ -60,7 +60,7 @@ fn kind_code(kind: ControlType) -> u8
     }
 }
 
-/// A header with COUNT, for C.
+/// Converts a header with COUNT for C.
 fn counted_for_c(kind: u8, fields: Counted) -> CHeader
     ensures { result ≡ given_counted kind fields }
 {
@@ -76,7 +76,7 @@ fn counted_for_c(kind: u8, fields: Counted) -> CHeader
     }
 }
 
-/// A header for C.
+/// Converts a header for C.
 fn header_for_c(header: Header) -> CHeader
     ensures given { result ≡ given_header header }
     ensures taken { taken_header result ≡ Some header }
@@ -97,7 +97,7 @@ fn header_for_c(header: Header) -> CHeader
     }
 }
 
-/// An item with a header, for C.
+/// Returns an item with a header, for C.
 fn item_with(kind: u8, offset: u64, header: Header) -> CItem
     ensures given { result ≡ given_with kind offset header }
     ensures taken { taken_header result.header ≡ Some header }
@@ -111,7 +111,7 @@ fn item_with(kind: u8, offset: u64, header: Header) -> CItem
     }
 }
 
-/// An item without a header, for C.
+/// Returns an item without a header, for C.
 fn item_without(kind: u8, offset: u64, fault: u8, bad_type: u8) -> CItem
     ensures { result ≡ given_without kind offset fault bad_type }
 {
@@ -124,7 +124,7 @@ fn item_without(kind: u8, offset: u64, fault: u8, bad_type: u8) -> CItem
     }
 }
 
-/// An item for C.
+/// Converts an item for C.
 pub(crate) fn item_for_c(item: Option<Item>) -> CItem
     ensures given { result ≡ given_item item }
     ensures taken { taken_item result ≡ item }
@@ -153,7 +153,7 @@ fn flags_of_c(header: &CHeader) -> Flags
     }
 }
 
-/// Returns the fields that C passed of a header with COUNT, if this is in range.
+/// Returns the fields of a header with COUNT that C passed, if the count is in range.
 fn counted_of_c(header: &CHeader) -> Option<Counted>
     ensures data { option_map Data result ≡ taken_counted Data header.now }
     ensures maintenance { option_map Maint result ≡ taken_counted Maint header.now }

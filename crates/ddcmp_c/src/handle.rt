@@ -1,4 +1,4 @@
-//! A station behind a pointer that C keeps.
+//! A station behind a pointer that C owns.
 ghost use Rattle.std.specs.Prelude.{◌≡◌, Option, Some, None, option_map};
 ghost use Rattle.ddcmp_proto.specs.Station.{StationView};
 ghost use Rattle.ddcmp_c.specs.Owned.{handle_owns};
@@ -10,7 +10,7 @@ use std::marker::Model;
 use std::mem::replace;
 use std::ptr::null_mut;
 
-/// What C has of a station: null if there is none. C moves it and never copies it.
+/// The handle of a station in C: null if there is none. C may move it, and must never copy it.
 #[repr(C)]
 pub struct Handle {
     at: *mut u8,
@@ -23,7 +23,7 @@ impl Model for Handle {
 }
 
 impl Handle {
-    /// A handle with no station.
+    /// Returns a handle without a station.
     pub(crate) fn closed(alloc: Global) -> Handle
         ensures { result.station ≡ None }
     {
@@ -33,7 +33,7 @@ impl Handle {
         }
     }
 
-    /// A handle with a station.
+    /// Returns a handle with a station.
     pub(crate) fn seal(station: Loose<Station, Global>) -> Handle
         ensures { result.station ≡ Some station.value }
     {
@@ -44,7 +44,7 @@ impl Handle {
         }
     }
 
-    /// The station of a handle.
+    /// Returns the station of a handle.
     pub(crate) fn unseal(self) -> Option<Loose<Station, Global>>
         ensures { option_map (λ l. l.value) result ≡ self.station }
     {
@@ -60,7 +60,7 @@ impl Handle {
     }
 }
 
-/// Takes the station out of a handle, which has none from then on.
+/// Takes the station out of a handle, which then has none.
 pub(crate) fn take_out(alloc: Global, handle: &mut Handle) -> Option<Box<Station, Global>>
     ensures taken { option_map (λ b. b.value) result ≡ handle.old.station }
     ensures closed { handle.new.station ≡ None }

@@ -1,4 +1,4 @@
-//! A station of DDCMP for C, and a reader alone.
+//! A DDCMP station for C, and a reader of frames without a station.
 #![tactic(auto)]
 
 mod frame_values;

@@ -1,4 +1,5 @@
-//! The life of a station: makes, starts, halts, clears and frees it; its sizes and its state.
+//! The life of a station: making, starting, halting, clearing and freeing it; its sizes and its
+//! state.
 ghost use Rattle.std.specs.Prelude.{◌≡◌, ◌≢◌, [], true, false, Some, None};
 ghost use Rattle.ddcmp_frame.specs.Reader.{StandsFor};
 ghost use Rattle.ddcmp_core.specs.Table.{after_start, after_enter_maintenance, after_halt};
@@ -48,7 +49,7 @@ pub extern "C" fn ddcmp_new(alloc: Global, config: &CConfig, station: &mut Handl
     }
 }
 
-/// Frees the station of a handle, which has none from then on.
+/// Frees the station of a handle, which then has none.
 #[unsafe(no_mangle)]
 pub extern "C" fn ddcmp_free(alloc: Global, station: &mut Handle)
     ensures { station.new.station ≡ None }
@@ -70,7 +71,7 @@ pub extern "C" fn ddcmp_config(alloc: Global, station: &mut Handle, config: &mut
     OK
 }
 
-/// Starts the station: it asks the peer to start.
+/// Starts the station: it begins the startup handshake.
 #[unsafe(no_mangle)]
 pub extern "C" fn ddcmp_start(alloc: Global, station: &mut Handle, dropped: &mut u8) -> u32
     ensures starts { Starts after_start station.old.station dropped.old result station.new.station
@@ -104,7 +105,7 @@ pub extern "C" fn ddcmp_enter_maintenance(
     start_code(answer, dropped)
 }
 
-/// Halts the station, which sends and accepts nothing from then on.
+/// Halts the station, which then sends and accepts nothing.
 #[unsafe(no_mangle)]
 pub extern "C" fn ddcmp_halt(alloc: Global, station: &mut Handle) -> u32
     ensures closed { station.old.station ≡ None
@@ -142,7 +143,7 @@ pub extern "C" fn ddcmp_clear_line(alloc: Global, station: &mut Handle) -> bool
     cleared
 }
 
-/// Returns the state: 5 if there is no station.
+/// Returns the state, or 5 if there is no station.
 #[unsafe(no_mangle)]
 pub extern "C" fn ddcmp_state(alloc: Global, station: &mut Handle) -> u32
     ensures { Asks 5 (λ s. code_of_state s.core.station.state)

@@ -50,7 +50,7 @@ pub extern "C" fn ddcmp_feed(
     ensures some { result ≡ OK → 0 < length piece.now → 0 < used.new }
     ensures call { result ≡ OK
         → Makes (Feeds (take used.new piece.now)) station.old.station station.new.station }
-    // What is reported acknowledged has left. The rest needs no text.
+    // Messages that are reported acknowledged were removed. This needs no known text.
     ensures kept { (s : StationView) → station.old.station ≡ Some s → result ≡ OK
         → (t : StationView) × (station.new.station ≡ Some t)
         × (acknowledged_of notice.new + length t.core.station.out ≤ length s.core.station.out)
@@ -73,8 +73,7 @@ pub extern "C" fn ddcmp_feed(
     OK
 }
 
-/// Writes the next frame at the front of `out`, and returns how many bytes it has: 0 if there is
-/// none.
+/// Writes the next frame to the front of `out`, and returns its length, or 0 if there is none.
 #[unsafe(no_mangle)]
 pub extern "C" fn ddcmp_poll(
     alloc: Global,
@@ -112,7 +111,7 @@ pub extern "C" fn ddcmp_poll(
     OK
 }
 
-/// Returns the number of bytes of the next frame: 0 if there is none.
+/// Returns the length of the next frame, or 0 if there is none.
 #[unsafe(no_mangle)]
 pub extern "C" fn ddcmp_next_length(alloc: Global, station: &mut Handle) -> usize
     ensures { Asks 0
@@ -128,7 +127,7 @@ pub extern "C" fn ddcmp_next_length(alloc: Global, station: &mut Handle) -> usiz
     value
 }
 
-/// Returns the room that `ddcmp_poll` needs.
+/// Returns the size of the buffer that `ddcmp_poll` needs.
 #[unsafe(no_mangle)]
 pub extern "C" fn ddcmp_frame_room(alloc: Global, station: &mut Handle) -> usize
     ensures { Asks 0 (λ s. s.syn + s.core.limits.longest + 10)
@@ -155,7 +154,7 @@ pub extern "C" fn ddcmp_offset(alloc: Global, station: &mut Handle) -> u64
     value
 }
 
-/// Returns the number of bytes from the start byte of the unfinished frame on.
+/// Returns the number of bytes of the incomplete frame, from its start byte on.
 #[unsafe(no_mangle)]
 pub extern "C" fn ddcmp_open(alloc: Global, station: &mut Handle) -> usize
     ensures { Asks 0 (λ s. open_of s.line) station.old.station result station.new.station }
@@ -168,7 +167,7 @@ pub extern "C" fn ddcmp_open(alloc: Global, station: &mut Handle) -> usize
     value
 }
 
-/// Returns the number of bytes of messages and of the unfinished frame.
+/// Returns the number of bytes of messages and of the incomplete frame.
 #[unsafe(no_mangle)]
 pub extern "C" fn ddcmp_held(alloc: Global, station: &mut Handle) -> usize
     ensures { Asks 0 held_of station.old.station result station.new.station }

@@ -71,7 +71,7 @@ pub extern "C" fn ddcmp_send_maintenance(alloc: Global, station: &mut Handle, me
     }
 }
 
-/// Returns why a message would be refused: `OK` if it would not.
+/// Returns why a message would be refused, or `OK` if it wouldn't be.
 #[unsafe(no_mangle)]
 pub extern "C" fn ddcmp_send_refusal(alloc: Global, station: &mut Handle, message: &[u8]) -> u32
     ensures { Asks CLOSED
@@ -119,8 +119,8 @@ pub extern "C" fn ddcmp_outgoing(alloc: Global, station: &mut Handle) -> u8
     value
 }
 
-/// Moves the first message of the inbox to the front of `out`, and returns its length: 0 if there
-/// is none.
+/// Moves the first message of the inbox to the front of `out`, and returns its length, or 0 if
+/// there is none.
 #[unsafe(no_mangle)]
 pub extern "C" fn ddcmp_take(
     alloc: Global,
@@ -171,7 +171,7 @@ pub extern "C" fn ddcmp_waiting(alloc: Global, station: &mut Handle) -> u8
     value
 }
 
-/// Returns the length of message `i` of the inbox, counted from 0: 0 if there is none.
+/// Returns the length of message `i` of the inbox, counted from 0, or 0 if there is none.
 #[unsafe(no_mangle)]
 pub extern "C" fn ddcmp_waiting_length(alloc: Global, station: &mut Handle, i: u8) -> usize
     ensures closed { station.old.station ≡ None → result ≡ 0 }

@@ -11,7 +11,7 @@ use crate::handle::{Handle, put_back, take_out};
 use crate::values::{CCounters, CLOSED, CNumbers, OK, counters_of, numbers_of};
 use std::alloc::Global;
 
-/// Lets the reply timer expire; returns whether it was on.
+/// Has the reply timer expire; returns whether it was on.
 #[unsafe(no_mangle)]
 pub extern "C" fn ddcmp_expire(alloc: Global, station: &mut Handle) -> bool
     ensures closed { station.old.station ≡ None

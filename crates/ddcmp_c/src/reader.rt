@@ -1,4 +1,4 @@
-//! A reader alone, for tools, and frames as they go on the line.
+//! A reader without a station, for tools, and writing of frames.
 ghost use Rattle.std.specs.Prelude.{◌≡◌, ◌≢◌, ◌⊎◌, ◌↔◌, ◌+◌, ◌<◌, ◌≤◌, ◌^◌, ℕ, List, [], ◌++◌};
 ghost use Rattle.std.specs.Prelude.{IsTrue, length, take, drop, Some, None};
 ghost use Rattle.ddcmp_frame.specs.declared.header.Header.{Header as HeaderValue};
@@ -67,8 +67,8 @@ fn copy_data(reader: &Reader, out: &mut [u8]) -> usize
     end
 }
 
-/// Takes the bytes of a chunk, up to and with the first that completes an item, and copies the data
-/// of a good item to the front of `out`.
+/// Takes the bytes of a chunk, up to and including the first that completes an item, and copies the
+/// data of a good frame to the front of `out`.
 #[unsafe(no_mangle)]
 pub extern "C" fn ddcmp_reader_push(
     alloc: Global,
@@ -89,7 +89,7 @@ pub extern "C" fn ddcmp_reader_push(
     ensures same { result ≢ OK → reader.new.reader ≡ reader.old.reader }
     ensures unused { result ≢ OK → (used.new ≡ 0) × (item.new ≡ given_item None)
         × (out.new ≡ out.old) × (written.new ≡ 0) }
-    // The reader stands for the bytes so far, and has yielded their items.
+    // The reader has read these bytes, and has returned their items.
     ensures stands { (r t : ReaderView) (text : List ℕ) → reader.old.reader ≡ Some r
         → reader.new.reader ≡ Some t → result ≡ OK → StandsFor r text
         → StandsFor t (text ++ take used.new piece.now) }
@@ -97,7 +97,7 @@ pub extern "C" fn ddcmp_reader_push(
         → reader.new.reader ≡ Some t → result ≡ OK → StandsFor r text
         → items r.max (text ++ take used.new piece.now) ≡ items r.max text
         ++ items_given (taken_item item.new) t.lent }
-    // What doesn't belong to an item is 0.
+    // Fields that the item doesn't have are 0.
     ensures given { item.new ≡ given_item (taken_item item.new) }
     // No byte before the last one used completed an item.
     ensures first { (r : ReaderView) (text : List ℕ) (n : ℕ) → reader.old.reader ≡ Some r
@@ -106,14 +106,14 @@ pub extern "C" fn ddcmp_reader_push(
     ensures used { used.new ≤ length piece.now }
     ensures whole { result ≡ OK → item.new.kind ≡ 0 → used.new ≡ length piece.now }
     ensures some { result ≡ OK → 0 < length piece.now → 0 < used.new }
-    // Beside a good item its data are copied, which with the header are the last bytes.
+    // The data of a good item are copied; with the header they are the last bytes.
     ensures copied { (t : ReaderView) → reader.new.reader ≡ Some t → result ≡ OK
         → LentBeside (taken_item item.new) t.lent × (written.new ≡ length t.lent)
         × (out.new ≡ t.lent ++ drop written.new out.old) }
     ensures wire { (r t : ReaderView) (text : List ℕ) → reader.old.reader ≡ Some r
         → reader.new.reader ≡ Some t → result ≡ OK → StandsFor r text
         → EndsWith (taken_item item.new) t.lent (text ++ take used.new piece.now) }
-    // The rest needs no text.
+    // This needs no known text.
     ensures kept { (r : ReaderView) → reader.old.reader ≡ Some r → result ≡ OK
         → (t : ReaderView) × (reader.new.reader ≡ Some t) × (t.max ≡ r.max)
         × (t.offset ≡ r.offset + used.new) × (written.new ≤ r.max) }
@@ -140,7 +140,7 @@ pub extern "C" fn ddcmp_reader_push(
     OK
 }
 
-/// Returns the number of bytes from the start byte of the unfinished frame on, 0 without a reader.
+/// Returns the number of bytes of the incomplete frame, from its start byte on; 0 without a reader.
 #[unsafe(no_mangle)]
 pub extern "C" fn ddcmp_reader_open(alloc: Global, reader: &mut ReaderHandle) -> usize
     ensures closed { reader.old.reader ≡ None → result ≡ 0 }
@@ -157,7 +157,7 @@ pub extern "C" fn ddcmp_reader_open(alloc: Global, reader: &mut ReaderHandle) ->
     value
 }
 
-/// Restarts.
+/// Resets the reader.
 #[unsafe(no_mangle)]
 pub extern "C" fn ddcmp_reader_reset(alloc: Global, reader: &mut ReaderHandle) -> u32
     ensures closed { reader.old.reader ≡ None
@@ -188,7 +188,7 @@ fn is_frame(header: &Header, message: &[u8]) -> bool
     }
 }
 
-/// Writes a frame at the front of `out`; returns how many bytes it has.
+/// Writes a frame to the front of `out`; returns its length.
 #[unsafe(no_mangle)]
 pub extern "C" fn ddcmp_write_frame(
     header: &CHeader,

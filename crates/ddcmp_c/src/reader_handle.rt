@@ -1,4 +1,4 @@
-//! A reader behind a pointer that C keeps.
+//! A reader behind a pointer that C owns.
 ghost use Rattle.std.specs.Prelude.{◌≡◌, Option, Some, None, option_map};
 ghost use Rattle.ddcmp_frame.specs.Reader.{ReaderView};
 ghost use Rattle.ddcmp_c.specs.Owned.{reader_handle_owns};
@@ -10,7 +10,7 @@ use std::marker::Model;
 use std::mem::replace;
 use std::ptr::null_mut;
 
-/// What C has of a reader: null if there is none. C moves it and never copies it.
+/// The handle of a reader in C: null if there is none. C may move it, and must never copy it.
 #[repr(C)]
 pub struct ReaderHandle {
     at: *mut u8,
@@ -23,7 +23,7 @@ impl Model for ReaderHandle {
 }
 
 impl ReaderHandle {
-    /// A handle with no reader.
+    /// Returns a handle without a reader.
     pub(crate) fn closed(alloc: Global) -> ReaderHandle
         ensures { result.reader ≡ None }
     {
@@ -33,7 +33,7 @@ impl ReaderHandle {
         }
     }
 
-    /// A handle with a reader.
+    /// Returns a handle with a reader.
     pub(crate) fn seal(reader: Loose<Reader, Global>) -> ReaderHandle
         ensures { result.reader ≡ Some reader.value }
     {
@@ -44,7 +44,7 @@ impl ReaderHandle {
         }
     }
 
-    /// The reader of a handle.
+    /// Returns the reader of a handle.
     pub(crate) fn unseal(self) -> Option<Loose<Reader, Global>>
         ensures { option_map (λ l. l.value) result ≡ self.reader }
     {
@@ -60,7 +60,7 @@ impl ReaderHandle {
     }
 }
 
-/// Takes the reader out of a handle, which has none from then on.
+/// Takes the reader out of a handle, which then has none.
 pub(crate) fn take_out(alloc: Global, handle: &mut ReaderHandle) -> Option<Box<Reader, Global>>
     ensures taken { option_map (λ b. b.value) result ≡ handle.old.reader }
     ensures closed { handle.new.reader ≡ None }

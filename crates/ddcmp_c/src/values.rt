@@ -1,4 +1,4 @@
-//! What C passes and gets: structs of its own, and a number for each result.
+//! The structs of C, and a number for each result.
 ghost use Rattle.std.specs.Prelude.{◌≡◌, ◌≢◌, ℕ, option_to_list, None, Ok, IsErr};
 ghost use Rattle.ddcmp_num.specs.declared.seq.Seq.{Seq as SeqValue};
 ghost use Rattle.ddcmp_core.specs.Table.{acknowledged_by};
@@ -79,7 +79,7 @@ pub struct CCounters {
 
 pub(crate) const OK: u32 = 0;
 
-/// The most data isn't 1 to 16383 bytes.
+/// The maximum length of data isn't 1 to 16383 bytes.
 pub(crate) const MAX: u32 = 3;
 
 /// An allocation failed.
@@ -88,25 +88,25 @@ pub(crate) const MEMORY: u32 = 5;
 /// There is nothing in the handle.
 pub(crate) const CLOSED: u32 = 6;
 
-/// There is one already.
+/// The handle isn't empty.
 pub(crate) const OPEN: u32 = 7;
 
-/// The room is too short.
+/// The buffer is too short.
 pub(crate) const ROOM: u32 = 14;
 
-/// The line has more bytes than are counted.
+/// The line has had the maximum number of bytes that can be counted.
 pub(crate) const LONG_LINE: u32 = 15;
 
 /// There is no such message.
 pub(crate) const ABSENT: u32 = 16;
 
-/// A field of a header is out of range. 17 is the header's own, for null pointers.
+/// A field of a header is out of range. (17 is returned by the C header itself, for null pointers.)
 pub(crate) const BAD_HEADER: u32 = 18;
 
-/// The data aren't as many as the header counts.
+/// The number of bytes of data isn't the count of the header.
 pub(crate) const BAD_COUNT: u32 = 19;
 
-/// Returns the number of a refusal of sizes.
+/// Returns the code of a refusal of sizes.
 pub(crate) fn config_code(refusal: ConfigRefusal) -> u32
     ensures { result ≡ code_of_config refusal }
 {
@@ -150,7 +150,7 @@ pub(crate) fn send_code(answer: Result<Seq, SendRefusal>, number: &mut u8) -> u3
     }
 }
 
-/// Returns the number of a refusal of a message.
+/// Returns the code of a refusal of a message.
 pub(crate) fn refusal_code(refusal: SendRefusal) -> u32
     ensures { result ≡ code_of_refusal refusal }
 {
@@ -162,7 +162,7 @@ pub(crate) fn refusal_code(refusal: SendRefusal) -> u32
     }
 }
 
-/// Returns the number of a state.
+/// Returns the code of a state.
 pub(crate) fn state_code(state: State) -> u32
     ensures { result ≡ code_of_state state }
 {
@@ -175,7 +175,7 @@ pub(crate) fn state_code(state: State) -> u32
     }
 }
 
-/// A notice for C.
+/// Converts a notice for C.
 pub(crate) fn notice_code(notice: Option<Notice>) -> CNotice
     ensures code { result ≡ code_of_notices (option_to_list notice) }
     ensures acknowledged { acknowledged_of result ≡ acknowledged_by notice }
@@ -197,7 +197,7 @@ pub(crate) fn notice_code(notice: Option<Notice>) -> CNotice
     }
 }
 
-/// The counters for C.
+/// Converts the counters of NAKs for C.
 fn nak_counts_of(counts: &NakCounts) -> CNakCounts
     ensures { result ≡ given_nak_counts counts.now }
 {
@@ -213,7 +213,7 @@ fn nak_counts_of(counts: &NakCounts) -> CNakCounts
     }
 }
 
-/// The counters for C.
+/// Converts the counters for C.
 pub(crate) fn counters_of(counters: &Counters) -> CCounters
     ensures { result ≡ given_counters counters.now }
 {
@@ -249,7 +249,7 @@ pub(crate) fn asked_sizes(config: &CConfig) -> Config
     }
 }
 
-/// Returns the numbers for C.
+/// Converts the numbers of a station for C.
 pub(crate) fn numbers_of(numbers: Numbers) -> CNumbers
     ensures { result ≡ record {
       r = numbers.r.0;
@@ -266,7 +266,7 @@ pub(crate) fn numbers_of(numbers: Numbers) -> CNumbers
     }
 }
 
-/// Returns the sizes for C.
+/// Converts the sizes for C.
 pub(crate) fn sizes_of(config: Config) -> CConfig
     ensures { result ≡ given_config config }
 {

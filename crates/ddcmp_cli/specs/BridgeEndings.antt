@@ -1,4 +1,4 @@
--- How a bridge of the command line ends.
+-- How `ddcmp bridge` ends.
 use Rattle.std.specs.Prelude.{◌≡◌, ◌⊎◌, ⊤, Bool, if◌then◌else◌, Result, Ok, Err, Option, Some, None}
 use Rattle.std.specs.Io.KnownBytes.{Appends, Keeps}
 use Rattle.ddcmp_bridge.specs.Report.{bridge_report}
@@ -16,37 +16,38 @@ use Rattle.ddcmp_cli.specs.declared.ending.Ending.{Ending}
 use Rattle.ddcmp_cli.specs.declared.ending.Ending.TheVariants.{Done, Usage, Fault as Faulted}
 use Rattle.ddcmp_cli.specs.TapEndings.{IsUnopened}
 
--- how the frames that come are printed: as JSON, in words if that is asked for, or not at all
+-- the notation in which received frames are printed: JSON, plain text if `--trace` is given, or
+-- none
 abbrev pub lines_of : Wording → Bool → Option Notation
 lines_of words.Json trace = Some Json
 lines_of words.Plain trace = if trace then Some Plain else None
 
--- or as a ladder, if one is asked for
+-- the same, or a ladder, if one is requested
 abbrev pub trace_of : BridgeArgs → Option Notation
 trace_of bridged =
     if bridged.ladder then Some Ladder else lines_of bridged.notation bridged.trace
 
--- What a bridge that ran has counted is written, and then it ends as its lines did; or writing that
--- failed.
+-- The report of a bridge that ran was written, and the program ends as the bridge did; or writing
+-- the report failed.
 abbrev pub Reports : Known → Known → BridgeEnd → Ending → Type 0
 Reports old new end ending =
     ((ending ≡ (if end.has_failed then Faulted Ended else Done))
     × Appends old new (bridge_report end.there end.back))
     ⊎ ((ending ≡ Faulted Write) × AppendsPart old new (bridge_report end.there end.back))
 
--- how the program ends if a bridge ended so
+-- how the program ends after a bridge with this result
 abbrev pub BridgeEnds : Known → Known → Result BridgeEnd BridgeFault → Ending → Type 0
 BridgeEnds old new (Ok end) ending = Reports old new end ending
 BridgeEnds old new (Err (bridging.Open why)) ending = IsUnopened ending × Keeps old new
 BridgeEnds old new (Err bridging.Memory) ending = (ending ≡ Faulted Memory) × Keeps old new
 
--- a word that names no line is reported, or there is no memory for that
+-- a usage error for a LINE argument that isn't one, or an allocation failure
 abbrev pub IsNoLine : Ending → Type 0
 IsNoLine (Usage text) = ⊤
 IsNoLine (Faulted Memory) = ⊤
 IsNoLine _ = ⊥
 
--- A word names no line, and nothing is written; or a bridge ended, and so does the program.
+-- There is a usage error and nothing is written; or the program ends as a bridge did.
 abbrev pub Bridges : Known → Known → Ending → Type 0
 Bridges old new ending =
     (IsNoLine ending × Keeps old new)

@@ -78,7 +78,7 @@ use Rattle.ddcmp_explain.specs.declared.input_bytes.InputForm.TheVariants as wri
 use Rattle.hex.specs.Hex.{decode_of}
 use Rattle.hex.specs.declared.error.FromHexError.{FromHexError}
 
--- what the program calls a fault of an input whose form was detected
+-- the program's fault for one of an input whose form was detected
 abbrev pub detected_fault : DetectedFault → Fault
 detected_fault detecting.Odd = Odd
 detected_fault (detecting.NotHex index) = NotHex index
@@ -87,15 +87,15 @@ detected_fault detecting.Read = Read
 detected_fault detecting.Write = Write
 detected_fault detecting.Memory = NoMemory
 
--- one of digits or bytes is called as if these were detected
+-- for one of an input of digits or raw bytes
 abbrev pub explain_fault : ExplainFault → Fault
 explain_fault fault = detected_fault (digits_fault fault)
 
--- and one of a dump
+-- for one of a dump
 abbrev pub dump_fault : DumpFault → Fault
 dump_fault fault = detected_fault (dump_fault_of fault)
 
--- and one of a script
+-- for one of a script
 abbrev pub script_fault : ScriptFault → Fault
 script_fault (scripting.Line line) = Line line
 script_fault (scripting.Hex line) = NotHexIn line
@@ -104,7 +104,7 @@ script_fault scripting.Write = Write
 script_fault scripting.Memory = NoMemory
 script_fault scripting.Carrier = Carrier
 
--- and one of a station
+-- for one of a station
 abbrev pub serve_fault : ServeFault → Fault
 serve_fault serving.Config = NoMemory
 serve_fault serving.Report = Write
@@ -113,7 +113,7 @@ serve_fault (serving.Line line.Write) = Write
 serve_fault (serving.Line line.Ended) = Ended
 serve_fault (serving.Line line.Memory) = NoMemory
 
--- 1 where the input was refused, 3 where a device failed or memory was refused
+-- 1 if the input was refused, 3 if a device or an allocation failed
 abbrev pub fault_status : Fault → ℕ
 fault_status Odd = 1
 fault_status (NotHex index) = 1
@@ -142,7 +142,7 @@ abbrev pub ending_of : {F : Type 0} → (F → Fault) → Result (Unit {0}) F �
 ending_of name (Ok u) = Done
 ending_of name (Err fault) = Faulted (name fault)
 
--- the words were refused, or there was no memory for them
+-- a usage error, or an allocation failure
 abbrev pub is_refusal : Ending → Bool
 is_refusal Done = false
 is_refusal SomeRefused = false
@@ -164,8 +164,8 @@ is_refusal (Faulted Ended) = false
 is_refusal (Faulted (Lost count)) = false
 is_refusal (Faulted NoMemory) = true
 
--- What was read and written: the input, what is left of it, and what the sink held before and holds
--- after.
+-- What was read and written: the input and what is left of it, and what the sink held before and
+-- holds after.
 pub record Streams : Type 0 where
   pub input : List ℕ
   pub left : Known
@@ -176,29 +176,29 @@ abbrev pub streams : List ℕ → Known → Known → Known → Streams
 streams input left before after =
     record { input = input; left = left; before = before; after = after }
 
--- nothing was read, and nothing was written
+-- Nothing was read, and nothing was written.
 abbrev pub Untouched : Streams → Type 0
 Untouched s = (s.left ≡ Some s.input) × Keeps s.before s.after
 
--- some input of a form was explained, and the ending reports the result
+-- an input of this form was explained, and the ending reports the result
 abbrev pub ExplainsTo : Form → ExplainArgs → Streams → Ending → Type 0
 ExplainsTo by e s ending =
     (result : Result (Unit {0}) ExplainFault) × (ending ≡ ending_of explain_fault result)
     × Explains by e.style e.max s.input s.left s.before s.after result
 
--- some dump was explained, and the ending reports the result
+-- a dump was explained, and the ending reports the result
 abbrev pub ExplainsDumpTo : ExplainArgs → Streams → Ending → Type 0
 ExplainsDumpTo e s ending =
     (result : Result (Unit {0}) DumpFault) × (ending ≡ ending_of dump_fault result)
     × ExplainsDump e.style e.max s.input s.left s.before s.after result
 
--- some input was explained as what its first bytes are, and the ending reports the result
+-- an input whose form was detected was explained, and the ending reports the result
 abbrev pub ExplainsDetectedTo : ExplainArgs → Streams → Ending → Type 0
 ExplainsDetectedTo e s ending =
     (result : Result (Unit {0}) DetectedFault) × (ending ≡ ending_of detected_fault result)
     × ExplainsDetected e.style e.max s.input s.left s.before s.after result
 
--- an input that is so written was explained
+-- an input that is written like this was explained
 abbrev pub ExplainsBy : InputForm → ExplainArgs → Streams → Ending → Type 0
 ExplainsBy (As by) e s ending = ExplainsTo by e s ending
 ExplainsBy written.Dump e s ending = ExplainsDumpTo e s ending
@@ -218,8 +218,8 @@ IsUnopened name (Unopened told why) = string_bytes told ≡ name
 IsUnopened name (Unread told fault) = ⊥
 IsUnopened name (Faulted fault) = ⊥
 
--- What became of a file: it can't be opened, or there was no memory to tell so, and nothing was
--- written; or what it holds was read so, where that is known.
+-- The file can't be opened, or an allocation failed as that was reported, and nothing was written;
+-- or its content, if known, was read like this.
 abbrev pub ReadsFile : List ℕ → Known → (Streams → Ending → Type 0) → Known → Known → Ending
     → Type 0
 ReadsFile name held Reading before after ending =
@@ -228,8 +228,8 @@ ReadsFile name held Reading before after ending =
     ⊎ ((content : List ℕ) → held ≡ Some content
     → (rest : Known) × Reading (streams content rest before after) ending)
 
--- standard input was explained, or a file, and then standard input wasn't read; of each name `held`
--- says what the file holds
+-- Standard input was explained; or a file was, and standard input wasn't read. `held` has the
+-- contents of files by their names.
 abbrev pub ExplainsFrom : (List ℕ → Known) → Option (Bor (List ℕ)) → ExplainArgs → Streams → Ending
     → Type 0
 ExplainsFrom held None e s ending = ExplainsInput e s ending
@@ -241,39 +241,38 @@ abbrev pub is_json : Notation → Bool
 is_json Plain = false
 is_json Json = true
 
--- whether the word for what the input comes from is none that is known, or stands beside bytes as
--- they are
+-- whether `--from` is unknown, or used with `--raw`
 abbrev pub is_misused : Form → Option (Bor (List ℕ)) → Bool
 is_misused asked None = false
 is_misused form.Raw (Some word) = true
 is_misused form.Hex (Some word) = is_none (origin_of word.now)
 is_misused form.Text (Some word) = is_none (origin_of word.now)
 
--- these words are usage, and nothing is read or written; else the input is explained
+-- If misused, a usage error, and `Refused` holds; else `Explained` holds.
 abbrev pub UnlessMisused : Bool → (Ending → Type 0) → (Ending → Type 0) → Ending → Type 0
 UnlessMisused true Refused Explained ending = (is_refusal ending ≡ true) × Refused ending
 UnlessMisused false Refused Explained ending = Explained ending
 
--- a ladder is of two files, and two files are for a ladder, which isn't in JSON
+-- A ladder needs two files and can't be in JSON; two files are only for a ladder.
 abbrev pub is_ladder_misused : ExplainArgs → Bool
 is_ladder_misused e =
     if e.ladder then is_none e.file || (is_none e.second || is_json e.style.notation)
     else is_some e.second
 
--- the ending reports that the file of this name met a fault
+-- the ending reports a fault of the file of this name
 abbrev pub IsUnread : List ℕ → Ending → Type 0
 IsUnread name (Unread told fault) = string_bytes told ≡ name
 IsUnread name _ = ⊥
 
--- Two files were drawn, or one of them met a fault and is named: of what is written this says
--- nothing. Nothing is if one can't be opened.
+-- Two files were drawn, or one of them had a fault and is named; what was written isn't defined
+-- here. If one can't be opened, nothing was written.
 abbrev pub DrawsFiles : List ℕ → List ℕ → Known → Known → Ending → Type 0
 DrawsFiles first second before after ending =
     ((IsUnopened first ending ⊎ IsUnopened second ending) × Keeps before after)
     ⊎ ((ending ≡ Done) ⊎ (ending ≡ Faulted Write) ⊎ (ending ≡ Faulted NoMemory)
     ⊎ IsUnread first ending ⊎ IsUnread second ending)
 
--- two files were drawn, and standard input wasn't read, or one input was explained
+-- Two files were drawn, and standard input wasn't read; or one input was explained.
 abbrev pub ExplainsOrDraws : (List ℕ → Known) → Option (Bor (List ℕ)) → Option (Bor (List ℕ))
     → ExplainArgs → Streams → Ending → Type 0
 ExplainsOrDraws held file None e s ending = ExplainsFrom held file e s ending
@@ -287,15 +286,14 @@ ExplainsAsked held e s ending =
     UnlessMisused (is_misused e.form e.from || is_ladder_misused e) (λ ended. Untouched s)
     (λ ended. ExplainsOrDraws held e.file e.second e s ended) ending
 
--- what the words name was explained with the options that they give, or there was no memory for
--- the words
+-- `explain` ran with the options that the arguments have, or an allocation failed
 abbrev pub ExplainsOrNoMemory : (List ℕ → Known) → List Text → Streams → Ending → Type 0
 ExplainsOrNoMemory held words s ending =
     ((ending ≡ Faulted NoMemory) × (s.left ≡ Some s.input) × Appends s.before s.after [])
     ⊎ ((e : ExplainArgs) × HasExplain (option_in words) (text_in words) e
     × ExplainsAsked held e s ending)
 
--- the name of the file that a command reads in place of standard input
+-- the name of the file that a command reads instead of standard input
 abbrev pub file_named : Command → Option (List ℕ)
 file_named (Explain explained) = option_map (λ name. name.now) explained.file
 file_named (Simulate scripted) = option_map (λ name. name.now) scripted.file
@@ -305,12 +303,12 @@ file_named (Tap tapped) = None
 file_named (Link linked) = None
 file_named (Bridge bridged) = None
 
--- a command of this name may be given a file
+-- a command of this name may have the name of a file
 abbrev pub ReadsFiles : Text → Type 0
 ReadsFiles name =
     (name ≡ codes "explain") ⊎ (name ≡ codes "simulate") ⊎ (name ≡ codes "pair")
 
--- what goes to standard error, but for faults
+-- what is printed on standard error, apart from faults
 abbrev pub shown_of : Ending → Option (List ℕ)
 shown_of Done = Some []
 shown_of SomeRefused = Some []
@@ -330,7 +328,7 @@ CanRun (Tap tapped) = (1 ≤ tapped.max) × (tapped.max ≤ MAX_COUNT)
 CanRun (Link linked) = ⊤
 CanRun (Bridge bridged) = ⊤
 
--- a pair after both ends were started, and all was exchanged
+-- a pair after both ends were started, and settled
 abbrev pub begun : PairState → PairState
 begun p = settled (run (event.Start A ∷ event.Start B ∷ []) p)
 
@@ -341,7 +339,7 @@ pair_with from =
     else new_pair from.config from.config
 
 -- A script was played between two such ends, over a carrier that is direct or not, and the ending
--- reports the result; or there was no memory for the ends.
+-- reports the result; or an allocation for the ends failed.
 abbrev pub PlaysBetween : Bool → Beginning → Bool → Streams → Ending → Type 0
 PlaysBetween is_direct from counted s ending =
     ((ending ≡ Faulted NoMemory) × (s.left ≡ Some s.input) × Appends s.before s.after [])
@@ -350,19 +348,19 @@ PlaysBetween is_direct from counted s ending =
     × Plays counted s.input (around (pair_with from) after is_direct None None)
     (Appends s.before s.after) (AppendsPart s.before s.after) result)
 
--- A script was played over a line that gives what goes in and doesn't fail.
+-- A script was played over a carrier that returns what it is passed, and doesn't fail.
 abbrev pub Simulates : Beginning → Bool → Streams → Ending → Type 0
 Simulates from counted s ending =
     PlaysBetween true from counted s ending × (ending ≢ Faulted Carrier)
 
--- A script was played over a connection, or that couldn't be made. What a connection gives isn't
--- known.
+-- A script was played over a connection, or that couldn't be made. What the connection returns
+-- isn't known.
 abbrev pub Pairs : Beginning → Bool → Streams → Ending → Type 0
 Pairs from counted s ending =
     ((ending ≡ Faulted Carrier) × (s.left ≡ Some s.input) × Appends s.before s.after [])
     ⊎ PlaysBetween false from counted s ending
 
--- Such a run was drawn: of what is written this says nothing.
+-- Such a run was drawn; what was written isn't defined here.
 abbrev pub DrawsBetween : Bool → Beginning → Streams → Ending → Type 0
 DrawsBetween is_direct from s ending =
     ((ending ≡ Faulted NoMemory) × (s.left ≡ Some s.input) × Appends s.before s.after [])
@@ -378,23 +376,24 @@ DrawsPaired from s ending =
     ((ending ≡ Faulted Carrier) × (s.left ≡ Some s.input) × Appends s.before s.after [])
     ⊎ DrawsBetween false from s ending
 
--- What is said of a run, by which pictures are asked for: both at once are refused; one is drawn;
--- and if none is asked for, the text is written.
+-- What holds of a run, by the pictures that are requested: two are a usage error; one is drawn; if
+-- there is none, the text is written.
 abbrev pub ShowsBy : Bool → Bool → Type 0 → Type 0 → Type 0 → Type 0
 ShowsBy true true Refused Drawn Written = Refused
 ShowsBy true false Refused Drawn Written = Drawn
 ShowsBy false true Refused Drawn Written = Drawn
 ShowsBy false false Refused Drawn Written = Written
 
--- the same of a view; a refusal reads and writes nothing
+-- the same for a view; a usage error reads and writes nothing
 abbrev pub ShowsRun : View → (Streams → Ending → Type 0) → (Streams → Ending → Type 0) → Streams
     → Ending → Type 0
 ShowsRun view Draws Writes s ending =
     ShowsBy view.svg view.ladder ((is_refusal ending ≡ true) × Untouched s) (Draws s ending)
     (Writes s ending)
 
--- A script from standard input was shown, or one of a file, and then standard input wasn't read. Of
--- each name `held` says what the file holds. Both pictures at once are refused before it is opened.
+-- The script was on standard input; or in a file, and standard input wasn't read. `held` has the
+-- contents of files by their names. Requesting both pictures is a usage error before the file is
+-- opened.
 abbrev pub ShowsFrom : (List ℕ → Known) → Option (Bor (List ℕ)) → View
     → (Streams → Ending → Type 0) → (Streams → Ending → Type 0) → Streams → Ending → Type 0
 ShowsFrom held None view Draws Writes s ending = ShowsRun view Draws Writes s ending
@@ -415,16 +414,16 @@ PairsAsked held it s ending =
     ShowsFrom held it.file it.view (DrawsPaired it.from) (Pairs it.from it.view.counters) s
     ending
 
--- The ending reports that a read failed exactly if the source isn't fine or has returned 2^64 - 1
--- bytes, and that a write failed exactly if one has.
+-- The ending is a failed read exactly if the source's state isn't Fine or it has returned 2^64 - 1
+-- bytes, and a failed write exactly if a write failed.
 pub record TellsDevices (source : SourceChange) (broken : Bool) (ending : Ending) : Type 0 where
   pub read : source.state ≢ Fine → ending ≡ Faulted Read
   pub read_only : ending ≡ Faulted Read
       → (source.state ≢ Fine) ⊎ GaveMost source.before source.after
   pub write : (ending ≡ Faulted Write) ↔ IsTrue broken
 
--- A station was served over a connection, of which this comes where that is known, with this
--- message to send, and the ending reports the result. On an allocation failure nothing was written.
+-- A station ran over a connection, from which it received `gives` if that is known, with this
+-- message to send, and the ending reports the result. If an allocation failed, nothing was written.
 pub record ServesOver (gives : Known) (served : StationArgs) (message : List ℕ) (old new : Known)
     (ending : Ending) : Type 0 where
   pub answer : Result (Unit {0}) ServeFault
@@ -436,15 +435,15 @@ pub record ServesOver (gives : Known) (served : StationArgs) (message : List ℕ
       old new answer
   pub kept : ending ≡ Faulted NoMemory → Keeps old new
 
--- The connection can't be made, or a station is served over it. Where it is known whether the
--- connection can be had, only one of both comes.
+-- The connection can't be made, or a station ran over it. If it is known whether the connection can
+-- be made, only one of both is possible.
 abbrev pub Connects : Peers → Role → StationArgs → List ℕ → Known → Known → Ending → Type 0
 Connects peers role served message old new ending =
     ((peers.opens role served.addr.now ≢ Some true) × (ending ≡ Faulted Carrier) × Keeps old new)
     ⊎ ((peers.opens role served.addr.now ≢ Some false)
     × ServesOver (peers.gives role served.addr.now) served message old new ending)
 
--- what became of a message of digits that aren't too many
+-- the result for a hexadecimal message that isn't too long
 abbrev pub SendsDecoded : Peers → Role → StationArgs → Result (List ℕ) FromHexError → Known → Known
     → Ending → Type 0
 SendsDecoded peers role served (Ok message) old new ending =
@@ -452,9 +451,9 @@ SendsDecoded peers role served (Ok message) old new ending =
 SendsDecoded peers role served (Err refused) old new ending =
     (ending ≡ Faulted Message) × Keeps old new
 
--- What became of a station that was asked for. A word that names no role and the digits of more
--- than 1500 bytes are usage errors, or allocation fails as they are reported; then come digits that
--- spell no bytes, and then the connection. Only a station that is served writes.
+-- The result of `station`. An unknown role, and a message of more than 1500 bytes, are usage errors
+-- (or an allocation fails as they are reported); then comes a message that isn't hexadecimal, and
+-- then the connection. Only a station that runs writes.
 abbrev pub Stations : Peers → StationArgs → Known → Known → Ending → Type 0
 Stations peers served old new ending =
     (((served.role ≡ None) ⊎ (3000 < length served.send.now))
@@ -462,54 +461,54 @@ Stations peers served old new ending =
     ⊎ ((role : Role) × (served.role ≡ Some role) × (length served.send.now ≤ 3000)
     × SendsDecoded peers role served (decode_of served.send.now) old new ending)
 
--- the station was that of the words, or there was no memory for them
+-- `station` ran with the options that the arguments have, or an allocation failed
 abbrev pub StationsOrNoMemory : Peers → List Text → Known → Known → Ending → Type 0
 StationsOrNoMemory peers words old new ending =
     ((ending ≡ Faulted NoMemory) × Keeps old new)
     ⊎ ((served : StationArgs) × HasStation (option_in words) (text_in words) served
     × Stations peers served old new ending)
 
--- some pieces of what both sides said were reported, below the head of a ladder, and the ending
+-- some pieces of what both sides sent were logged, below the heading of a ladder, and the ending
 -- reports the result
 abbrev pub Taps : TapArgs → Known → Known → Ending → Type 0
 Taps tapped old new ending =
     (result : Result (Unit {0}) TapFault) × TapEnds result ending
     × Says (head_of (notation_of tapped)) (notation_of tapped) tapped.time tapped.max old new result
 
--- callers were carried one after another until a fault that isn't of one side, and the ending
--- reports it
+-- callers were served one after another, until a fault that isn't of one side, which the ending
+-- reports
 abbrev pub TapsInTurn : TapArgs → Known → Known → Ending → Type 0
 TapsInTurn tapped old new ending =
     (fault : TapFault) × TapEnds (Err fault) ending × Lasts fault
     × SaysInTurn (notation_of tapped) tapped.time tapped.max old new fault
 
--- one caller, or one after another if `--again` was given
+-- one caller, or one after another if `--again` is given
 abbrev pub TapsBy : Bool → TapArgs → Known → Known → Ending → Type 0
 TapsBy false tapped old new ending = Taps tapped old new ending
 TapsBy true tapped old new ending = TapsInTurn tapped old new ending
 
--- what became of a tap that was asked for: JSON and a ladder at once are usage
+-- the result of `tap`: JSON with a ladder is a usage error
 abbrev pub TapsAsked : TapArgs → Known → Known → Ending → Type 0
 TapsAsked tapped old new ending =
     UnlessMisused (tapped.ladder && is_json tapped.notation) (λ e. Keeps old new)
     (TapsBy tapped.again tapped old new) ending
 
--- the tap was that of the words, or there was no memory for them
+-- `tap` ran with the options that the arguments have, or an allocation failed
 abbrev pub TapsOrNoMemory : List Text → Known → Known → Ending → Type 0
 TapsOrNoMemory words old new ending =
     ((ending ≡ Faulted NoMemory) × Keeps old new)
     ⊎ ((tapped : TapArgs) × HasTap (option_in words) (text_in words) tapped
     × TapsAsked tapped old new ending)
 
--- the link was that of the words, or there was no memory for them
+-- `link` ran with the options that the arguments have, or an allocation failed
 abbrev pub LinksOrNoMemory : LinesKnown → List Text → Ending → Type 0
 LinksOrNoMemory lines words ending =
     (ending ≡ Faulted NoMemory)
     ⊎ ((linked : LinkArgs) × HasLink (option_in words) (text_in words) linked
     × Links lines linked ending)
 
--- A command was run, and the ending reports its result. Of each name `held` says what the file
--- holds, `peers` what is known of connections, and `lines` of lines.
+-- A command was run, and the ending reports its result. `held` has the contents of files by their
+-- names, `peers` what is known of connections, and `lines` of lines.
 abbrev pub Performs : (List ℕ → Known) → Peers → LinesKnown → Command → Streams → Ending → Type 0
 Performs held peers lines (Explain explained) s ending = ExplainsAsked held explained s ending
 Performs held peers lines (Simulate scripted) s ending = SimulatesAsked held scripted s ending
@@ -522,13 +521,14 @@ Performs held peers lines (Link linked) s ending = Links lines linked ending
 Performs held peers lines (Bridge bridged) s ending =
     (s.left ≡ Some s.input) × Bridges s.before s.after ending
 
--- a text was written whole, or a write failed
+-- the whole text was written, or a write failed
 abbrev pub Shows : List ℕ → Known → Known → Ending → Type 0
 Shows text old new ending =
     ((ending ≡ Done) × Appends old new text) ⊎ ((ending ≡ Faulted Write) × AppendsPart old new text)
 
--- What became of words that were read: `before` and `left` are what the source had and has left,
--- old and new what the sink held and holds. Only a command reads, and usage writes nothing here.
+-- The result for parsed arguments. `before` and `left` are what the source had and has left, `old`
+-- and `new` what the sink held and holds. Only commands read, and a usage error writes nothing
+-- here.
 abbrev pub Answers : (List ℕ → Known) → Peers → LinesKnown → Result Command NoCommand → Known
     → Known → Known → Known → Ending → Type 0
 Answers held peers lines (Ok command) before left old new ending =
@@ -543,15 +543,15 @@ Answers held peers lines (Err (Usage text)) before left old new ending =
 Answers held peers lines (Err Memory) before left old new ending =
     (left ≡ before) × Keeps old new × (ending ≡ Faulted NoMemory)
 
--- the ending that words come to, whatever they are
+-- how the program ends, whatever its arguments
 abbrev pub Ends : (List ℕ → Known) → Peers → LinesKnown → List Text → Known → Known → Known
     → Known → Ending → Type 0
 Ends held peers lines words before left old new ending =
     (read : Result Command NoCommand) × Reads words read
     × Answers held peers lines read before left old new ending
 
--- What a run of the program did, as these words ask. `Unread` and `Unwritten` say that its input
--- and its output are as they were.
+-- What a run of the program did, for these arguments. `Unread` and `Unwritten` state that its input
+-- and its output are unchanged.
 pub record RunsAs (held : List ℕ → Known) (peers : Peers) (lines : LinesKnown) (words : List Text)
     (source : SourceChange) (sink : SinkChange) (Unread Unwritten : Type 0) (ending : Ending)
     : Type 0 where

@@ -1,4 +1,4 @@
--- How a link of the command line ends.
+-- How `ddcmp link` ends.
 use Rattle.std.specs.Prelude.{◌≡◌, ◌≢◌, ◌⊎◌, ◌==◌, ◌&&◌, ◌||◌, not, ℕ, Bool, true, false, List}
 use Rattle.std.specs.Prelude.{Option, Some, None, Result, Ok, Err}
 use Rattle.ddcmp_session.specs.declared.options.Options.{Options}
@@ -16,16 +16,16 @@ use Rattle.ddcmp_cli.specs.declared.ending.Ending.TheVariants.{Fault as Faulted}
 use Rattle.ddcmp_cli.specs.BridgeEndings.{IsNoLine}
 use Rattle.ddcmp_cli.specs.TapEndings.{IsUnopened}
 
--- What is known of the lines of a system: how a link over the line of this word, with these
--- options, comes to its end.
+-- What is known of the lines of a system: the result of a link over the line of this name, with
+-- these options.
 pub record LinesKnown : Type 0 where
   pub links : List ℕ → Options → Option (Result LinkOutcome ServiceFault)
 
--- a system of whose lines nothing is known
+-- nothing is known of any line
 abbrev pub no_lines_known : LinesKnown
 no_lines_known = record { links = λ word options. None }
 
--- how a link ends that was served so
+-- how the program ends after a link with this result
 abbrev pub LinkEnds : Result LinkOutcome ServiceFault → Ending → Type 0
 LinkEnds (Ok served.Delivered) ending = ending ≡ Done
 LinkEnds (Ok served.SomeRefused) ending = ending ≡ SomeRefused
@@ -36,16 +36,17 @@ LinkEnds (Err service.Read) ending = ending ≡ Faulted Read
 LinkEnds (Err service.Write) ending = ending ≡ Faulted Write
 LinkEnds (Err service.Memory) ending = ending ≡ Faulted Memory
 
--- There is no window in maintenance, no reply timer and no restart: their options mean nothing.
+-- In maintenance mode there is no window, no reply timer and no restart: their options can't be
+-- used.
 abbrev pub means_nothing : Options → Bool
 means_nothing o =
     o.maintenance
     && (not (o.config.window == 7) || o.config.restart || not (o.timer_ms == 3000)
     || not (o.attempts == 4294967295))
 
--- What became of a link that was asked for. A word that names no line is refused, and so are
--- options that mean nothing; else a link was run over the line of that word, with these options,
--- and the program ends as that did.
+-- The result of `link`. A LINE that isn't one is a usage error, and so are options that can't be
+-- used; else a link was run over the line of that name, with these options, and the program ends as
+-- the link did.
 abbrev pub Links : LinesKnown → LinkArgs → Ending → Type 0
 Links lines linked ending =
     (((line : LineName) → word_of line ≢ linked.line.now) × IsNoLine ending)

@@ -1,4 +1,4 @@
--- How an input is written that `--from` names.
+-- How an input is written, by the value of `--from`.
 use Rattle.std.specs.Prelude.{ℕ, ◌||◌, if◌then◌else◌, List, Option, Some, None, codes, unwrap_or}
 use Rattle.std.specs.Borrow.{Bor}
 use Rattle.std.specs.Option.{option_and_then}
@@ -9,7 +9,7 @@ use Rattle.ddcmp_explain.specs.declared.input_bytes.InputForm.{InputForm}
 use Rattle.ddcmp_explain.specs.declared.input_bytes.InputForm.TheVariants.{As, Dump, Detected}
 use Rattle.ddcmp_words.specs.declared.explain_args.ExplainArgs.{ExplainArgs}
 
--- one reader takes the dumps of three programs
+-- The dumps of three programs have one parser.
 abbrev pub origin_of : Text → Option InputForm
 origin_of word =
     if bytes_eq word (codes "hexdump") || bytes_eq word (codes "xxd") || bytes_eq word (codes "od")
@@ -21,6 +21,6 @@ origin_of word =
 abbrev pub named_by : Option (Bor (List ℕ)) → Option InputForm
 named_by from = option_and_then (λ word. origin_of word.now) from
 
--- as a word names it, else in the form that is asked for
+-- by `--from` if it is given, else in the form that is requested
 abbrev pub written : ExplainArgs → InputForm
 written e = unwrap_or (named_by e.from) (As e.form)

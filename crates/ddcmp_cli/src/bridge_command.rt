@@ -1,4 +1,4 @@
-//! `bridge`: the good frames of each of two lines go to the other.
+//! `bridge`: passes the good frames of each of two lines on to the other.
 ghost use Rattle.std.specs.Prelude.{◌≡◌, ◌↔◌, IsTrue, false};
 ghost use Rattle.ddcmp_cli.specs.BridgeEndings.{BridgeEnds, Bridges, Reports, trace_of};
 
@@ -15,11 +15,11 @@ use ddcmp_tap::Notation;
 use ddcmp_words::BridgeArgs;
 use std::alloc::Global;
 
-/// The usage error for a word that is no line.
+/// The usage error for a LINE that isn't one.
 const NO_LINE: &str =
     "a LINE is connect:HOST:PORT, listen:HOST:PORT, udp:LOCAL,REMOTE or device:PATH";
 
-/// Returns how the program ends if a bridge ended so: what it counted is written first.
+/// Writes the report of a bridge, and returns how the program ends.
 fn ending_of<W: Sink>(
     alloc: Global,
     ended: Result<BridgeEnd, BridgeFault<'_>>,
@@ -36,7 +36,7 @@ fn ending_of<W: Sink>(
     }
 }
 
-/// Writes what a bridge has counted.
+/// Writes the report of a bridge.
 fn report<W: Sink>(end: &BridgeEnd, writer: &mut W) -> Ending
     requires whole { W.broken writer.old ≡ false }
     ensures reports { Reports (W.contents writer.old) (W.contents writer.new) end.now result }
@@ -51,7 +51,7 @@ fn report<W: Sink>(end: &BridgeEnd, writer: &mut W) -> Ending
     }
 }
 
-/// Returns how the frames that come are printed: drawn if they are to be drawn and printed.
+/// Returns the notation in which received frames are printed, or drawn, if they are.
 fn traced_as(args: &BridgeArgs<'_>) -> Option<Notation>
     ensures { result ≡ trace_of args.now }
 {
@@ -63,7 +63,7 @@ fn traced_as(args: &BridgeArgs<'_>) -> Option<Notation>
     }
 }
 
-/// Passes frames on between two lines until one of them ends, and writes what was counted.
+/// Passes frames on between two lines until one of them ends, and writes the report.
 pub(crate) fn bridge<S: Lines, W: Sink>(
     system: &S,
     alloc: Global,

@@ -1,4 +1,4 @@
-//! What a station is served over.
+//! The connections of stations.
 ghost use Rattle.std.specs.Prelude.{◌≡◌, false, IfOk};
 ghost use Rattle.ddcmp_io.specs.Device.{worst_of, has_failed};
 
@@ -8,14 +8,14 @@ use ddcmp_words::Role;
 use std::io;
 use std::net::TcpStream;
 
-/// A connection: what comes over it, and what goes.
+/// A connection: a reader and a writer.
 #[derive(Drop)]
 pub struct Connection<R, W> {
     pub reader: R,
     pub writer: W,
 }
 
-/// A system that stations are connected on.
+/// A system that makes the connections of stations.
 pub trait Connections {
     ghost use Rattle.std.specs.Prelude.{◌≡◌, ◌≢◌, ℕ, List, Some, IfSome, is_some, not, false};
     ghost use Rattle.ddcmp_io.specs.declared.device.Worst.TheVariants.{Fine};
@@ -28,7 +28,7 @@ pub trait Connections {
     // What is known of its connections.
     ghost peers: { Self → Peers };
 
-    /// Connects to a peer that listens at an address, or takes the first connection to it.
+    /// Connects to a peer that listens at an address, or listens there and accepts a connection.
     fn connection(&self, role: Role, addr: &str) -> Option<Connection<Self::Reader, Self::Writer>>
         ensures opens { (peers self.now).opens role addr.now ≢ Some (not (is_some result)) }
         ensures fine { IfSome result (λ c. Self.Reader.state c.reader ≡ Fine) }
@@ -38,7 +38,7 @@ pub trait Connections {
             → Self.Reader.left c.reader ≡ Some bytes) };
 }
 
-/// Both ways of a stream.
+/// Returns both directions of a stream.
 fn both_ways(stream: TcpStream) -> io::Result<Connection<FromRead<TcpStream>, ToWrite<TcpStream>>>
     ensures fine { IfOk result (λ c. worst_of c.reader ≡ Worst.Fine) }
     ensures whole { IfOk result (λ c. has_failed c.writer ≡ false) }

@@ -11,27 +11,27 @@ use std::io::ErrorKind;
 /// How the program ended.
 #[derive(Drop)]
 pub enum Ending {
-    /// Completed, help and the version included.
+    /// Completed; also for help and the version.
     Done,
-    /// Completed, but parts of the input were refused, which was reported.
+    /// Completed, but parts of the input were refused and reported.
     SomeRefused,
-    /// The line of a link can't be opened, for this reason.
+    /// The line of a link can't be opened; this is the text of the cause.
     NoLine(String),
     /// A usage error, with its text.
     Usage(String),
     /// An argument isn't text.
     NotText,
-    /// The file of this name can't be opened, for this reason.
+    /// The file of this name can't be opened, with the system's error.
     Unopened(String, ErrorKind),
-    /// Of two files that are read, that of this name met a fault.
+    /// Reading the file of this name failed, of two that are read.
     Unread(String, Fault),
-    /// A command met a fault.
+    /// A command failed.
     Fault(Fault),
 }
 
 impl Ending {
-    /// The exit status: 0 done, 1 input refused, 2 usage, 3 a file, read, write,
-    /// carrier, ended, lost or memory.
+    /// Returns the exit status: 0 done, 1 input refused, 2 usage, 3 a file, read, write, carrier,
+    /// ended, lost or memory.
     pub fn status(&self) -> u8
         ensures { result ≡ status_of self.now }
     {
@@ -58,7 +58,7 @@ impl Ending {
     }
 }
 
-/// Writes a line of the program for this.
+/// Writes the program's line for a fault.
 fn write_fault<W: fmt::Write, T: Display>(f: &mut fmt::Formatter<W>, fault: &T) -> fmt::Result {
     f.write_str("ddcmp: ")?;
     fault.fmt(f)?;
@@ -78,7 +78,7 @@ fn write_unopened<W: fmt::Write>(
     f.write_str("\n")
 }
 
-/// Writes the line for a file that met a fault.
+/// Writes the line for a file with a fault.
 fn write_unread<W: fmt::Write>(
     f: &mut fmt::Formatter<W>,
     name: &String,

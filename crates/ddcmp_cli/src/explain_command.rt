@@ -1,4 +1,4 @@
-//! `explain`: standard input, or a file; or two files as a ladder.
+//! `explain`: explains standard input, or a file; or draws two files as a ladder.
 ghost use Rattle.std.specs.Prelude.{◌≡◌, ◌≢◌, ◌⊎◌, ◌↔◌, ◌≤◌, false, true, IsTrue, List, ℕ, None};
 ghost use Rattle.std.specs.Prelude.{Some, is_some};
 ghost use Rattle.ddcmp_core.specs.Limits.{MAX_COUNT};
@@ -34,7 +34,7 @@ const NO_PAIR: &str = "'--ladder' draws two files, FILE and SECOND";
 /// The usage error for two files without `--ladder`.
 const NO_LADDER: &str = "SECOND is for '--ladder'";
 
-/// Returns what is typed at a terminal.
+/// Returns what is to be typed, for a terminal.
 fn typed(args: &ExplainArgs<'_>) -> &'static str {
     match written(args) {
         InputForm::Dump => "a dump",
@@ -44,7 +44,7 @@ fn typed(args: &ExplainArgs<'_>) -> &'static str {
     }
 }
 
-/// Explains a source, as it is written.
+/// Explains a source, in the form in which it is written.
 fn explain_source<R: Source, W: Sink>(
     alloc: Global,
     args: &ExplainArgs<'_>,
@@ -77,7 +77,7 @@ fn explain_source<R: Source, W: Sink>(
     }
 }
 
-/// Explains a file, which is opened first.
+/// Opens and explains a file.
 fn explain_file<I: Inputs, W: Sink>(
     inputs: &I,
     alloc: Global,
@@ -97,8 +97,8 @@ fn explain_file<I: Inputs, W: Sink>(
     }
 }
 
-/// Explains a file, or standard input if none is named; for a terminal standard error has what is
-/// read.
+/// Explains a file, or standard input if none is named. If that is a terminal, prints on standard
+/// error what is read.
 fn explain_one<I: Inputs, R: Source, W: Sink>(
     inputs: &I,
     alloc: Global,
@@ -142,7 +142,7 @@ fn is_misused(form: Form, from: Option<&str>) -> bool
     }
 }
 
-/// The usage error for such a value.
+/// Returns the usage error for such a value.
 fn misuse(form: Form) -> &'static str {
     match form {
         Form::Raw => TWO_FORMS,
@@ -150,7 +150,7 @@ fn misuse(form: Form) -> &'static str {
     }
 }
 
-/// The usage error of a ladder that isn't of two files, or is to be JSON, and of a second file
+/// Returns the usage error for a ladder without two files or with JSON, and for a second file
 /// without a ladder.
 fn ladder_misuse(args: &ExplainArgs<'_>) -> Option<&'static str>
     ensures { is_some result ≡ is_ladder_misused args.now }
@@ -166,8 +166,7 @@ fn ladder_misuse(args: &ExplainArgs<'_>) -> Option<&'static str>
     }
 }
 
-/// Explains what the words ask for: a file, or standard input if they name none, or two files as a
-/// ladder.
+/// Runs `explain`: of a file, or standard input if none is named, or of two files as a ladder.
 pub(crate) fn explain_asked<I: Inputs, R: Source, W: Sink>(
     inputs: &I,
     alloc: Global,

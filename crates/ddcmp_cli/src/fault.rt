@@ -13,13 +13,13 @@ use std::fmt;
 pub enum Fault {
     /// The number of digits to explain is odd.
     Odd,
-    /// The index of the first byte that isn't allowed where it stands, counted from 0.
+    /// The index, from 0, of the first byte that isn't allowed where it is.
     NotHex(u64),
     /// A line isn't one of a dump.
     Dump(NotDumped),
-    /// This line of a script is no command.
+    /// This line of a script isn't a command.
     Line(u64),
-    /// A word of this line has digits that aren't hexadecimal, or too few or too many of them.
+    /// A word of this line isn't hexadecimal, or has too few or too many digits.
     Hex(u64),
     /// The message that a station is to send isn't hexadecimal.
     Message,
@@ -30,7 +30,7 @@ pub enum Fault {
     Carrier,
     /// The peer of a station ended the connection.
     Ended,
-    /// This number of messages of a link was read and not acknowledged.
+    /// This number of messages of a link was read and never acknowledged.
     Lost(u64),
 }
 
@@ -77,7 +77,7 @@ impl From<ServeFault> for Fault {
     }
 }
 
-/// The same text as that of the command's own fault.
+/// The text is that of the command's own fault.
 impl fmt::Display for Fault {
     fn fmt<W: fmt::Write>(&self, f: &mut fmt::Formatter<W>) -> fmt::Result {
         match self {

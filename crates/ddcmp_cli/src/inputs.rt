@@ -1,4 +1,4 @@
-//! What the program reads besides its standard input.
+//! The files that the program reads.
 ghost use Rattle.std.specs.Prelude.{◌≡◌, ◌⊎◌};
 ghost use Rattle.ddcmp_cli.specs.Endings.{IsUnopened};
 
@@ -9,23 +9,23 @@ use std::alloc::Global;
 use std::fs::{self, File};
 use std::io::{ErrorKind, IsTerminal};
 
-/// The files that the program reads besides its standard input.
+/// The files that the program reads, besides its standard input.
 pub trait Inputs {
     ghost use Rattle.std.specs.Prelude.{◌≡◌, ℕ, List, Option, Some, IfOk};
     ghost use Rattle.ddcmp_io.specs.declared.device.Worst.TheVariants.{Fine};
 
     type Opened: Source + Drop;
 
-    // What the file of a name holds, if that is known.
+    // The contents of the file of a name, if known.
     ghost held: { Self → List ℕ → Option (List ℕ) };
 
-    /// Opens the file of this name, to be read from its front, or returns the system's reason.
+    /// Opens the file of this name, to be read from its beginning, or returns the system's error.
     fn open(&self, name: &str) -> Result<Self::Opened, ErrorKind>
         ensures fine { IfOk result (λ opened. Self.Opened.state opened ≡ Fine) }
         ensures held { IfOk result (λ opened. (bytes : List ℕ)
             → held self.now name.now ≡ Some bytes → Self.Opened.left opened ≡ Some bytes) };
 
-    /// Says on standard error what is read, if standard input is a terminal.
+    /// Prints on standard error what is read, if standard input is a terminal.
     fn await_typing(&self, what: &str);
 }
 
@@ -51,7 +51,7 @@ impl Inputs for HostRuntime {
     }
 }
 
-/// The ending if the file of this name can't be opened, for this reason.
+/// Returns the ending if the file of this name can't be opened, with the system's error.
 pub(crate) fn unopened(alloc: Global, name: &str, why: ErrorKind) -> Ending
     ensures { IsUnopened name.now result ⊎ (result ≡ Ending.Fault Fault.Memory) }
 {

@@ -13,7 +13,7 @@ use ddcmp_tap::{Capture, DrawFault, NoMemory, Side, draw_captures};
 use ddcmp_words::ExplainArgs;
 use std::alloc::Global;
 
-/// The capture of a side.
+/// Makes the capture of a side.
 fn capture<R: Source + Drop>(
     alloc: Global,
     reader: R,
@@ -32,7 +32,7 @@ fn capture<R: Source + Drop>(
     )
 }
 
-/// The ending if the file of this name met a fault.
+/// Returns the ending if the file of this name had a fault.
 fn unread(alloc: Global, name: &str, fault: DetectedFault) -> Ending
     ensures { IsUnread name.now result ⊎ (result ≡ Ending.Fault Fault.Memory) }
 {
@@ -42,7 +42,7 @@ fn unread(alloc: Global, name: &str, fault: DetectedFault) -> Ending
     }
 }
 
-/// Draws two files, of which the first has what goes to the right.
+/// Draws two files; the first has the bytes that are drawn to the right.
 pub(crate) fn draw_files<I: Inputs, W: Sink>(
     inputs: &I,
     alloc: Global,

@@ -19,11 +19,11 @@ use std::alloc::Global;
 const NO_LINE: &str =
     "'--line' is connect:HOST:PORT, listen:HOST:PORT, udp:LOCAL,REMOTE or device:PATH";
 
-/// The usage error for options that mean nothing in maintenance mode.
+/// The usage error for options that can't be used in maintenance mode.
 const NOT_IN_MAINTENANCE: &str = "'--maintenance' can't be used with \
     '--window', '--restart', '--timer-ms' or '--attempts'";
 
-/// Returns whether options were given that mean nothing in maintenance mode.
+/// Returns whether options are given that can't be used in maintenance mode.
 fn means_nothing(options: &Options) -> bool
     ensures { result ≡ means_nothing options.now }
 {
@@ -34,7 +34,7 @@ fn means_nothing(options: &Options) -> bool
             || options.attempts != DEFAULT_ATTEMPTS)
 }
 
-/// The ending if the line can't be opened.
+/// Returns the ending if the line can't be opened.
 pub(crate) fn no_line(alloc: Global, fault: &NotOpened<'_>) -> Ending
     ensures told { result ≢ Ending.Fault Fault.Write }
     ensures unopened { IsUnopened result }
@@ -45,7 +45,7 @@ pub(crate) fn no_line(alloc: Global, fault: &NotOpened<'_>) -> Ending
     }
 }
 
-/// A system that lines of links are opened on.
+/// A system that opens the lines of links.
 pub trait Lines {
     ghost use Rattle.std.specs.Prelude.{◌≡◌, ◌↔◌, Err, IsTrue, Result, Some};
     ghost use Rattle.ddcmp_service.specs.LineNames.{word_of};
@@ -131,7 +131,7 @@ pub(crate) fn link<S: Lines, R: Source, W: Sink>(
     ending_of(alloc, ended)
 }
 
-/// Returns how the program ends if a link ended so.
+/// Returns how the program ends after a link with this result.
 fn ending_of(alloc: Global, ended: Result<LinkOutcome, ServiceFault<'_>>) -> Ending
     ensures ends { LinkEnds ended.entry result }
     ensures write { (result ≡ Ending.Fault Fault.Write) ↔ (ended.entry ≡ Err ServiceFault.Write) }

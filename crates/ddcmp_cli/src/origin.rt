@@ -1,4 +1,4 @@
-//! How an input is written, by the word of `--from`.
+//! How an input is written, by the value of `--from`.
 ghost use Rattle.std.specs.Prelude.{◌≡◌};
 ghost use Rattle.ddcmp_cli.specs.Origins.{named_by, origin_of as origin_of_word};
 ghost use Rattle.ddcmp_cli.specs.Origins.{written as written_of};
@@ -6,7 +6,7 @@ ghost use Rattle.ddcmp_cli.specs.Origins.{written as written_of};
 use ddcmp_explain::{Form, InputForm};
 use ddcmp_words::ExplainArgs;
 
-/// Returns what a word of `--from` names.
+/// Returns what a value of `--from` stands for.
 pub(crate) fn origin_of(word: &str) -> Option<InputForm>
     ensures { result ≡ origin_of_word word.now }
 {
@@ -21,7 +21,7 @@ pub(crate) fn origin_of(word: &str) -> Option<InputForm>
     }
 }
 
-/// Returns how the input is written: as `--from` names it, else in its form.
+/// Returns how the input is written: by `--from` if it is given, else in its form.
 pub(crate) fn written(args: &ExplainArgs<'_>) -> InputForm
     ensures { result ≡ written_of args.now }
 {

@@ -88,7 +88,7 @@ fn perform<
     }
 }
 
-/// Writes a text whole.
+/// Writes a whole text.
 fn show<W: Sink>(writer: &mut W, text: &str) -> Ending
     requires { W.broken writer.old ≡ false }
     ensures shows { Shows text.now (W.contents writer.old) (W.contents writer.new) result }
@@ -101,7 +101,7 @@ fn show<W: Sink>(writer: &mut W, text: &str) -> Ending
 }
 
 /// Runs the command that the arguments name, from `reader` to `writer`. The first argument is the
-/// program's name; `system` opens files, connections and lines, and has the time.
+/// program's name; `system` opens files, connections and lines, and has a clock.
 pub fn run<
     S: Net<Stream = TcpStream> + Eprint + time::Clock + Inputs + Connections + Lines,
     R: Source,

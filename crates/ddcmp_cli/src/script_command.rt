@@ -27,7 +27,7 @@ use std::net::{Net, TcpStream};
 /// The usage error for `--svg` with `--ladder`.
 const TWO_PICTURES: &str = "'--svg' and '--ladder' can't be used together";
 
-/// Makes the pair that a script begins with; none if an allocation failed.
+/// Makes the pair that a script begins with; returns none if an allocation failed.
 fn pair_of(alloc: Global, from: Beginning) -> Option<Pair>
     ensures made { IfSome result (λ pair. pair ≡ pair_with from) }
 {
@@ -84,7 +84,7 @@ fn draw_over<R: Source, W: Sink, C: Carrier>(
     }
 }
 
-/// Runs a script over a carrier, and shows it as is asked for.
+/// Runs a script over a carrier, and writes its text or a picture.
 fn show_over<R: Source, W: Sink, C: Carrier>(
     alloc: Global,
     from: Beginning,
@@ -117,7 +117,7 @@ fn show_over<R: Source, W: Sink, C: Carrier>(
     draw_over(alloc, from, picture, counted, carrier, reader, writer)
 }
 
-/// Runs a script over a line that gives what goes in, and shows it.
+/// Runs a script over a carrier that returns what it is passed, and shows it.
 fn show_simulation<R: Source, W: Sink>(
     alloc: Global,
     from: Beginning,
@@ -137,7 +137,7 @@ fn show_simulation<R: Source, W: Sink>(
     show_over(alloc, from, view, &mut Direct, reader, writer)
 }
 
-/// Runs a script over a connection, which is made first, and shows it.
+/// Makes a connection, runs a script over it, and shows it.
 fn show_pair<N: Net<Stream = TcpStream>, R: Source, W: Sink>(
     net: &N,
     alloc: Global,
@@ -164,14 +164,14 @@ fn show_pair<N: Net<Stream = TcpStream>, R: Source, W: Sink>(
     show_over(alloc, from, view, &mut sockets, reader, writer)
 }
 
-/// Returns whether both pictures are asked for.
+/// Returns whether both pictures are requested.
 fn are_two(view: View) -> bool
     ensures { result ≡ (view.svg && view.ladder) }
 {
     view.svg && view.ladder
 }
 
-/// Runs the script of a file, which is opened first, as `simulate` does.
+/// Opens a file and runs its script, as `simulate` does.
 fn simulate_file<I: Inputs, W: Sink>(
     inputs: &I,
     alloc: Global,
@@ -199,7 +199,7 @@ fn simulate_file<I: Inputs, W: Sink>(
     }
 }
 
-/// `simulate`, as the words ask for it: a script of a file, or of standard input if they name none.
+/// Runs `simulate`: the script of a file, or of standard input if none is named.
 pub(crate) fn simulate_asked<I: Inputs, R: Source, W: Sink>(
     inputs: &I,
     alloc: Global,
@@ -228,7 +228,7 @@ pub(crate) fn simulate_asked<I: Inputs, R: Source, W: Sink>(
     }
 }
 
-/// Runs the script of a file, which is opened first, as `pair` does.
+/// Opens a file and runs its script, as `pair` does.
 fn pair_file<S: Net<Stream = TcpStream> + Inputs, W: Sink>(
     system: &S,
     alloc: Global,
@@ -256,7 +256,7 @@ fn pair_file<S: Net<Stream = TcpStream> + Inputs, W: Sink>(
     }
 }
 
-/// `pair`, as the words ask for it: a script of a file, or of standard input if they name none.
+/// Runs `pair`: the script of a file, or of standard input if none is named.
 pub(crate) fn pair_asked<S: Net<Stream = TcpStream> + Inputs, R: Source, W: Sink>(
     system: &S,
     alloc: Global,

@@ -1,4 +1,4 @@
-//! The program's standard streams, if one of them is closed or isn't read.
+//! The program's standard streams, if some are closed or their output isn't read.
 use crate::ending::Ending;
 use ddcmp_service::errors_take;
 use std::alloc::Global;
@@ -7,16 +7,16 @@ use std::io::Eprint;
 use std::net::Net;
 use std::os::fd::AsRawFd;
 
-/// Files that stand in for the standard streams that are closed, for as long as they are kept: so
-/// no file or connection that is opened later gets the number of one of these. Reading the stand-in
-/// for standard input fails, and so does writing those for the outputs.
+/// Stand-ins for those standard streams that are closed, as long as the value exists: so that no
+/// file or connection that is opened later gets the descriptor of one of them. Reading the stand-in
+/// for standard input fails, and so does writing to those for the outputs.
 #[derive(Drop)]
 pub struct StandIns {
     files: [Option<File>; 3],
 }
 
 impl StandIns {
-    /// Takes the numbers 0 to 2 as far as they are free.
+    /// Takes those of the descriptors 0 to 2 that are free.
     pub fn new<F: Files<File = File>>(files: &F) -> StandIns {
         let mut taken = StandIns {
             files: [None, None, None],
@@ -31,9 +31,9 @@ impl StandIns {
     }
 }
 
-/// A stand-in for the first stream that is closed, if one is.
+/// Returns a stand-in for the first stream that is closed, if one is.
 fn stand_in<F: Files<File = File>>(files: &F) -> Option<File> {
-    // Descriptors are given out lowest first.
+    // The system assigns the lowest free descriptor.
     let readable = OpenOptions::new().read(true).open(files, "/dev/null").ok()?;
     match readable.as_raw_fd() {
         1 | 2 => Some(readable),
@@ -45,8 +45,8 @@ fn stand_in<F: Files<File = File>>(files: &F) -> Option<File> {
     }
 }
 
-/// Prints how the program ended. If `is_brief`, it prints nothing on a standard error that
-/// takes nothing for a second.
+/// Prints how the program ended. If `is_brief`, prints nothing if standard error can't be written
+/// for a second.
 pub fn report<S: Net + Eprint>(system: &S, alloc: Global, ending: &Ending, is_brief: bool) {
     let is_silent = matches!(ending, Ending::Done | Ending::SomeRefused);
     if is_silent || is_brief && !errors_take(system, alloc) {

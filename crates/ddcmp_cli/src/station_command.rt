@@ -21,7 +21,7 @@ const NO_ROLE: &str = "'--role' is connect or listen";
 /// The usage error for a message that is too long.
 const TOO_LONG: &str = "the message of '--send <HEX>' has more than 1500 bytes";
 
-/// The bytes that digits spell, at the front of a buffer; none if they spell none.
+/// Decodes a message into the front of a buffer; returns none if it isn't hexadecimal.
 fn message_in<'a>(digits: &str, buffer: &'a mut [u8]) -> Option<&'a [u8]>
     requires { length digits.now ≤ 2 * length buffer.old }
     ensures bytes { option_map (λ message. message.now) result ≡ result_ok (decode_of digits.now) }
@@ -34,7 +34,7 @@ fn message_in<'a>(digits: &str, buffer: &'a mut [u8]) -> Option<&'a [u8]>
     }
 }
 
-/// Opens a connection, and drives a station over it that reports what happens.
+/// Opens a connection, and drives a station over it that reports events.
 pub(crate) fn station<S: Connections + time::Clock, W: Sink>(
     system: &S,
     alloc: Global,

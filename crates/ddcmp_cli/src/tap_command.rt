@@ -19,7 +19,7 @@ use std::io::Eprint;
 use std::net::{Net, TcpStream};
 use std::time;
 
-/// The connection that a tap can't make, as a link's line is called.
+/// Returns the connection that a tap can't make, as for the line of a link.
 fn not_opened<'a>(args: &TapArgs<'a>, why: NotMade) -> NotOpened<'a>
     ensures { result.attempt ≡ attempt_of why.stage }
 {
@@ -38,7 +38,7 @@ fn not_opened<'a>(args: &TapArgs<'a>, why: NotMade) -> NotOpened<'a>
     }
 }
 
-/// Returns how the program ends if a tap ended so.
+/// Returns how the program ends after this fault of a tap.
 fn ending_of_fault(alloc: Global, args: &TapArgs<'_>, fault: TapFault) -> Ending
     ensures ends { TapEnds (Err fault) result }
     ensures write { fault ≡ TapFault.Report → result ≡ Ending.Fault Fault.Write }
@@ -63,7 +63,7 @@ pub(crate) fn is_json(notation: Notation) -> bool
     }
 }
 
-/// Returns how the tap logs the traffic.
+/// Returns the notation of the log.
 fn notation_of(args: &TapArgs<'_>) -> TapNotation
     ensures { result ≡ notation args.now }
 {
@@ -102,7 +102,7 @@ fn tap_between<S: Net<Stream = TcpStream> + Eprint + time::Clock, W: Sink>(
     }
 }
 
-/// Carries one caller after another, until a fault that isn't of one side.
+/// Serves one caller after another, until a fault that isn't of one side.
 fn tap_in_turn<S: Net<Stream = TcpStream> + Eprint + time::Clock, W: Sink>(
     system: &S,
     alloc: Global,
@@ -127,7 +127,7 @@ fn tap_in_turn<S: Net<Stream = TcpStream> + Eprint + time::Clock, W: Sink>(
     ending_of_fault(alloc, args, fault)
 }
 
-/// A tap, as the words ask for it.
+/// Runs `tap`.
 pub(crate) fn tap<S: Net<Stream = TcpStream> + Eprint + time::Clock, W: Sink>(
     system: &S,
     alloc: Global,

@@ -1,4 +1,4 @@
-//! Arguments that can't be used.
+//! Usage errors.
 ghost use Rattle.std.specs.Prelude.{◌≡◌, ◌≢◌, true};
 ghost use Rattle.ddcmp_cli.specs.Endings.{is_refusal};
 ghost use Rattle.ddcmp_cli.specs.BridgeEndings.{IsNoLine};
@@ -7,7 +7,7 @@ use crate::ending::Ending;
 use crate::fault::Fault;
 use std::alloc::{AllocError, Global};
 
-/// A usage error that says what is wrong, and where to look.
+/// Returns a usage error: what is wrong, and where to find help.
 pub(crate) fn usage(alloc: Global, what: &str) -> Ending
     ensures refusal { is_refusal result ≡ true }
     ensures kept { IsNoLine result × (result ≢ Ending.Fault Fault.Write) }

@@ -1,5 +1,5 @@
-//! Tests of the program from outside: its words, its texts and its ends, and, over the network of
-//! this machine, scripts between two ends and stations.
+//! Tests of the program from outside: its arguments, its texts and its endings, and, over the
+//! network of this machine, scripts between two ends and stations.
 #![tactic(auto)]
 
 #[cfg(test)]

@@ -1,5 +1,5 @@
-// Endings, and the program as a whole but for the system's streams. What words ask for and what is
-// written then is the matter of `worked`.
+// Endings, and the program as a whole without the system's streams. What arguments ask for and what
+// is then written is tested in `worked`.
 use crate::same::{System, is};
 use ddcmp_cli::command::read_words;
 use ddcmp_cli::{Command, Ending, Fault, NoCommand, run, run_args};
@@ -9,7 +9,7 @@ use std::io::{self, ErrorKind};
 use std::process::Abort;
 use std::test::Fail;
 
-/// An ending has this status and this line.
+/// Checks that an ending has this status and this line.
 fn is_told(
     rt: &(impl Abort + AllocGlobal),
     ending: Ending,
@@ -62,8 +62,8 @@ fn faults_of_the_system_have_a_line(rt: HostRuntime) -> Result<(), Fail> {
     is_fault_told(&rt, Fault::Memory, 3, "ddcmp: memory\n")
 }
 
-/// Returns what a run over memory ends as, and what it wrote; the write `fails_at` fails, 0 is
-/// none.
+/// Returns the ending of a run in memory, and what it wrote; the write `fails_at` fails (0 for
+/// none).
 fn ran(rt: &impl System, words: &[&str], input: &[u8], fails_at: usize) -> (Ending, Taken<4096>) {
     let mut reader = Pieces::of(input);
     let mut writer = Taken::new().failing_at(fails_at);
@@ -92,7 +92,7 @@ fn is_not_hex_at(ending: &Ending, at: u64) -> bool {
 
 #[test]
 fn a_failed_write_and_no_words_are_told(rt: HostRuntime) {
-    // Help that can't be written is a write that failed.
+    // Help that can't be written is a failed write.
     let (ending, _) = ran(&rt, &["ddcmp", "--help"], b"", 1);
     assert!(rt; is_write_fault(&ending));
     let (ending, text) = ran(&rt, &["ddcmp"], b"", 0);
@@ -100,7 +100,7 @@ fn a_failed_write_and_no_words_are_told(rt: HostRuntime) {
     assert!(rt; text.bytes().is_empty());
 }
 
-/// The program is done with these words, and has written this.
+/// Checks that the program completes with these arguments, and writes this.
 fn writes(rt: &impl System, words: &[&str], input: &[u8], text: &[u8]) {
     let (ending, written) = ran(rt, words, input, 0);
     assert!(rt; is_done(&ending));
@@ -120,7 +120,7 @@ fn long_text() -> &'static [u8] {
     b"0 too long DATA count=1501 q=0 s=0 resp=0 num=1 addr=1\nitems=1 bytes=8 open=8\n"
 }
 
-/// Bytes as they are, and the most data that a frame may have.
+/// Raw bytes, and the maximum number of bytes of data in a frame.
 #[test]
 fn raw_bytes_are_explained(rt: HostRuntime) {
     let ack = [0x05, 0x01, 0x00, 0x00, 0x00, 0x01, 0xFC, 0x55];
@@ -133,14 +133,14 @@ fn raw_bytes_are_explained(rt: HostRuntime) {
     writes(&rt, &words, long(), long_text());
 }
 
-/// Blanks, and after them a byte that is no digit.
+/// Returns blanks, and after them a byte that isn't a digit.
 fn far() -> [u8; 70_000] {
     let mut far = [b' '; 70_000];
     far[69_999] = b'x';
     far
 }
 
-/// The first byte that is no digit is reported far after blanks too.
+/// The first byte that isn't a digit is reported after many blanks too.
 #[test]
 fn a_far_byte_is_told(rt: HostRuntime) {
     let (ending, text) = ran(&rt, &["ddcmp", "explain"], &far(), 0);
@@ -149,7 +149,7 @@ fn a_far_byte_is_told(rt: HostRuntime) {
     assert!(rt; text.bytes().is_empty());
 }
 
-/// Returns what a run with the words of the system ends as, and what it wrote.
+/// Returns the ending of a run with arguments from the system, and what it wrote.
 fn ran_args(rt: &impl System, args: io::Result<Vec<String>>) -> (u8, Taken<4096>) {
     let mut reader = Pieces::of(b"050100000001fc55");
     let mut writer = Taken::new();
@@ -157,7 +157,7 @@ fn ran_args(rt: &impl System, args: io::Result<Vec<String>>) -> (u8, Taken<4096>
     (ending.status(), writer)
 }
 
-/// A run with the words of the system has this status, and has written this.
+/// Checks that a run with arguments from the system has this status, and writes this.
 fn has_status(rt: &impl System, args: io::Result<Vec<String>>, status: u8, text: &[u8]) {
     let (told, written) = ran_args(rt, args);
     is(rt, told, status);
@@ -183,12 +183,12 @@ fn words_that_are_no_text_are_told(rt: HostRuntime) {
     has_status(&rt, Err(refused), 3, b"");
 }
 
-/// Returns what words ask for.
+/// Returns what arguments ask for.
 fn read<'a>(alloc: Global, words: &'a [&'a str]) -> Result<Command<'a>, NoCommand> {
     read_words(alloc, words)
 }
 
-/// Returns why words ask for nothing: whether it is their usage, and the text.
+/// Returns why arguments ask for no command: whether that is a usage error, and the text.
 fn text_of(alloc: Global, words: &[&str]) -> Option<(bool, String)> {
     match read(alloc, words) {
         Ok(_command) => None,
@@ -199,7 +199,7 @@ fn text_of(alloc: Global, words: &[&str]) -> Option<(bool, String)> {
     }
 }
 
-/// The text of words that ask for nothing is reported whole.
+/// Checks that the text for arguments that ask for no command is written completely.
 fn is_whole(rt: &impl System, words: &[&str]) -> Result<(), Fail> {
     let (ending, written) = ran(rt, words, b"", 0);
     let (usage, text) = text_of(rt.alloc(), words).ok_or("no text")?;
@@ -214,7 +214,7 @@ fn is_whole(rt: &impl System, words: &[&str]) -> Result<(), Fail> {
     Ok(())
 }
 
-/// Help, the version and usage are reported whole, as the parser of the words gives them.
+/// Help, the version and usage errors are written completely, as the parser returns them.
 #[test]
 fn texts_are_told_whole(rt: HostRuntime) -> Result<(), Fail> {
     is_whole(&rt, &["ddcmp", "--help"])?;

@@ -1,4 +1,4 @@
-//! The system that runs a test, and a comparison that promises nothing.
+//! The system that runs a test, and a comparison without a contract.
 use ddcmp_cli::{Connections, Inputs, Lines};
 use std::fmt::Debug;
 use std::io::Eprint;
@@ -6,7 +6,7 @@ use std::net::{Net, TcpStream};
 use std::process::Abort;
 use std::time::Clock;
 
-/// All that a test may ask of the system.
+/// All that a test may need of the system.
 pub trait System: Abort
     + AllocGlobal
     + Net<Stream = TcpStream>
@@ -28,7 +28,7 @@ where
         + Lines,
 {}
 
-/// What was reported is what was expected.
+/// Checks that a value is as expected.
 pub fn is<T: PartialEq + Debug + Drop>(rt: &impl Abort, told: T, wanted: T) {
     assert_eq!(rt; told, wanted);
 }

@@ -1,5 +1,5 @@
-// Scripts that the program runs if a write fails, or the connection of `pair` can't be made or
-// fails. What they write else is the matter of `worked`.
+// Scripts run by the program if a write fails, or the connection of `pair` can't be made or fails.
+// What they write otherwise is tested in `worked`.
 use crate::same::is;
 use ddcmp_cli::{
     BridgeEnd, BridgeFault, BridgeOptions, Connection, Connections, Ending, Fault, Inputs,
@@ -14,7 +14,7 @@ use std::net::{Net, Shutdown, SocketAddr, TcpListener, TcpStream};
 use std::process::Abort;
 use std::time::{Clock, Duration};
 
-/// Returns what a script ends as on a system, and what it wrote.
+/// Returns the ending of a script on a system, and what it wrote.
 fn played(
     rt: &impl AllocGlobal,
     system: &(impl Net<Stream = TcpStream> + Eprint + Clock + Inputs + Connections + Lines),
@@ -48,16 +48,16 @@ fn a_write_fails(rt: HostRuntime) {
     assert!(rt; is_write_fault(&ending));
 }
 
-/// What a system doesn't do.
+/// What fails on a system.
 #[derive(Clone, Copy, PartialEq, Eq)]
 enum Lacks {
     Listening,
     Connecting,
-    /// What is written at the end that connects.
+    /// Writes at the end that connects.
     Writing,
 }
 
-/// A system that lacks something.
+/// A system on which something fails.
 #[derive(Drop)]
 struct Poor<'a, S> {
     system: &'a S,
@@ -100,10 +100,10 @@ impl<S: Inputs> Inputs for Poor<'_, S> {
     }
 }
 
-/// What comes to a station of such a system.
+/// The bytes received by a station on such a system.
 const STACK: &[u8] = &[0x05, 0x07, 0xC0, 0x00, 0x00, 0x01, 0x48, 0x55];
 
-/// Its stations are connected to a peer that answers a start and no more.
+/// Its stations are connected to a peer that replies to a STRT and does nothing else.
 impl<S> Connections for Poor<'_, S> {
     ghost use Rattle.std.specs.Prelude.{Some, true, ◌∷◌, []};
 
@@ -183,7 +183,7 @@ fn text() -> &'static [u8] {
 B passed 8\nA wrote 0507c00000014855\n"
 }
 
-/// A script on a system that lacks this ends so, and has written this.
+/// Checks the ending of a script on a system on which this fails, and what it writes.
 fn lacks_a_carrier(
     rt: &(impl Abort
         + AllocGlobal
@@ -210,7 +210,7 @@ fn a_missing_connection_is_a_carrier(rt: HostRuntime) {
     lacks_a_carrier(&rt, Lacks::Writing, text());
 }
 
-/// No other command asks for a connection with itself.
+/// No other command needs a connection with itself.
 #[test]
 fn simulate_needs_no_connection(rt: HostRuntime) {
     let lacks = Lacks::Listening;
@@ -219,7 +219,7 @@ fn simulate_needs_no_connection(rt: HostRuntime) {
     assert!(rt; is_done(&ending));
 }
 
-/// A station whose connection is known is served over it.
+/// A station whose connection is known runs over it.
 #[test]
 fn a_station_is_served_over_memory(rt: HostRuntime) {
     let lacks = Lacks::Connecting;

@@ -1,5 +1,5 @@
-// Stations run by the program over connections that the test holds, and their faults. What their
-// words ask for is the matter of `worked`.
+// Stations run by the program over connections to the test, and their faults. What their arguments
+// ask for is tested in `worked`.
 use crate::same::{System, is};
 use ddcmp_cli::{Ending, Fault, run};
 use ddcmp_frame::failing::{Pieces, Taken};
@@ -11,7 +11,7 @@ fn strt() -> &'static [u8] {
     &[0x05, 0x06, 0xC0, 0x00, 0x00, 0x01, 0x75, 0x95]
 }
 
-/// Words with these four options, and more.
+/// Returns arguments with these four options, and more.
 fn words<'a>(
     role: &'a str,
     addr: &'a str,
@@ -35,7 +35,7 @@ fn words<'a>(
     ]
 }
 
-/// Returns what a station ends as, and what it wrote.
+/// Returns the ending of a station, and what it wrote.
 fn stationed(rt: &impl System, words: &[&str], fails_at: usize) -> (Ending, Taken<4096>) {
     let mut reader = Pieces::of(b"");
     let mut writer = Taken::new().failing_at(fails_at);
@@ -59,8 +59,8 @@ fn is_carrier_fault(ending: &Ending) -> bool {
     matches!(ending, Ending::Fault(Fault::Carrier))
 }
 
-/// A station that is to send this to `nowhere`, which is no address, has this status and writes
-/// nothing.
+/// Checks the status of a station that is to send this to `nowhere`, which isn't an address, and
+/// that it writes nothing.
 fn ends_with(rt: &impl System, digits: &[u8], status: u8) {
     let send = str::from_utf8(digits).unwrap_or("no text");
     let all = words("connect", "nowhere", "0", "0", ["--send", send]);
@@ -69,8 +69,8 @@ fn ends_with(rt: &impl System, digits: &[u8], status: u8) {
     assert!(rt; written.bytes().is_empty());
 }
 
-/// Too many digits are usage, also if they aren't hexadecimal; then come those that aren't, then
-/// the connection.
+/// Too many digits are a usage error, even if they aren't hexadecimal; then come digits that
+/// aren't, then the connection.
 #[test]
 fn digits_come_before_the_connection(rt: HostRuntime) {
     let digits = [b'6'; 3001];
@@ -86,7 +86,7 @@ fn others_come_before_the_connection(rt: HostRuntime) {
     ends_with(&rt, &others, 2);
 }
 
-/// This role is usage.
+/// Checks that this role is a usage error.
 fn is_no_role(rt: &impl System, role: &str) -> Result<(), Fail> {
     let all = words(role, "nowhere", "0", "0", ["--send", "zz"]);
     let (ending, written) = stationed(rt, &all, 0);
@@ -96,7 +96,7 @@ fn is_no_role(rt: &impl System, role: &str) -> Result<(), Fail> {
     Ok(())
 }
 
-/// Another role is usage, before all else.
+/// Another role is a usage error, which is reported first.
 #[test]
 fn other_roles_are_usage(rt: HostRuntime) -> Result<(), Fail> {
     is_no_role(&rt, "other")?;
@@ -106,7 +106,7 @@ fn other_roles_are_usage(rt: HostRuntime) -> Result<(), Fail> {
     is_no_role(&rt, "connects")
 }
 
-/// This is no message.
+/// Checks that this isn't a message.
 fn is_no_message(rt: &impl System, send: &str) {
     let all = words("connect", "nowhere", "0", "0", ["--send", send]);
     let (ending, written) = stationed(rt, &all, 0);
@@ -114,7 +114,7 @@ fn is_no_message(rt: &impl System, send: &str) {
     assert!(rt; written.bytes().is_empty());
 }
 
-/// This is no address, in this role.
+/// Checks that this isn't an address, in this role.
 fn is_nowhere_in<'a>(rt: &impl System, addr: &'a str, role: &'a str) -> Result<(), Fail> {
     let all = words(role, addr, "0", "0", ["--send", "61"]);
     let (ending, written) = stationed(rt, &all, 0);
@@ -128,7 +128,7 @@ fn is_nowhere_in<'a>(rt: &impl System, addr: &'a str, role: &'a str) -> Result<(
     Ok(())
 }
 
-/// This is no address, in both roles.
+/// Checks that this isn't an address, in both roles.
 fn is_nowhere(rt: &impl System, addr: &str) -> Result<(), Fail> {
     is_nowhere_in(rt, addr, "connect")?;
     is_nowhere_in(rt, addr, "listen")
@@ -148,7 +148,7 @@ fn faults_before_a_station_are_told(rt: HostRuntime) -> Result<(), Fail> {
     is_nowhere(&rt, "256.0.0.1:7000")
 }
 
-/// A station over a connection to this test: nothing comes, and its turns end.
+/// A station over a connection to this test: it receives nothing, and its turns end.
 #[test]
 fn a_station_connects(rt: HostRuntime) -> Result<(), Fail> {
     let alloc = rt.alloc();
@@ -166,7 +166,7 @@ fn a_station_connects(rt: HostRuntime) -> Result<(), Fail> {
     Ok(())
 }
 
-/// A peer that is silent is asked again when the timer expires, by the clock of the system.
+/// A peer that sends nothing gets another STRT when the timer expires, by the system's clock.
 #[test]
 fn a_station_asks_again(rt: HostRuntime) -> Result<(), Fail> {
     let alloc = rt.alloc();
@@ -184,7 +184,7 @@ fn a_station_asks_again(rt: HostRuntime) -> Result<(), Fail> {
     Ok(())
 }
 
-/// A report that fails is a write that failed.
+/// A report that fails is a failed write.
 #[test]
 fn a_report_fails(rt: HostRuntime) -> Result<(), Fail> {
     let listener = TcpListener::bind(&rt, "127.0.0.1:0")?;
@@ -192,7 +192,7 @@ fn a_report_fails(rt: HostRuntime) -> Result<(), Fail> {
     let all = words("connect", addr.as_str(), "0", "0", ["", ""]);
     let (ending, _) = stationed(&rt, &all[..10], 1);
     assert!(rt; is_write_fault(&ending));
-    // If the port is taken, none can listen there.
+    // If the port is in use, the program can't listen there.
     let all = words("listen", addr.as_str(), "0", "0", ["", ""]);
     let (ending, _) = stationed(&rt, &all[..10], 0);
     assert!(rt; is_carrier_fault(&ending));

@@ -1,4 +1,4 @@
-//! Each fault has its text, also those that the program reports by another's.
+//! Each fault has its text, including those that the program reports with another's text.
 use crate::same::is;
 use ddcmp_cli::{DumpFault, ExplainFault, Fault, NotDumped, ServeFault, TapFault};
 use ddcmp_io::cause::words_of;
@@ -11,7 +11,7 @@ use std::io::ErrorKind;
 use std::process::Abort;
 use std::test::Fail;
 
-/// A fault has this text.
+/// Checks the text of a fault.
 fn reads<T: Display>(rt: &(impl Abort + AllocGlobal), fault: &T, text: &str) -> Result<(), Fail> {
     is(rt, fault.to_string(rt.alloc())?.as_str(), text);
     Ok(())
@@ -109,7 +109,7 @@ fn files(rt: HostRuntime) -> Result<(), Fail> {
     Ok(())
 }
 
-/// Checks what is reported of an attempt at a line of the name `it` that failed so.
+/// Checks the report of a failed attempt at a line with the name `it`.
 fn tells(
     rt: &(impl Abort + AllocGlobal),
     attempt: Attempt,

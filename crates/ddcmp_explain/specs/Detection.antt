@@ -1,4 +1,4 @@
--- What an input is by its first bytes, and what explain does with it then.
+-- Which form an input has, judged by its first bytes, and what explain then does with it.
 use Rattle.std.specs.Prelude.{◌≡◌, ◌⊎◌, ℕ, ◌+◌, ◌<◌, ◌==◌, ◌&&◌, ◌||◌, nat_lt, nat_le, Bool}
 use Rattle.std.specs.Prelude.{if◌then◌else◌, List, [], ◌∷◌, ◌++◌, length, take, Option, Some}
 use Rattle.std.specs.Prelude.{Result, Ok, Err}
@@ -25,20 +25,20 @@ use Rattle.ddcmp_explain.specs.Explains.{Answer, Explains, refusal}
 abbrev pub is_text : ℕ → Bool
 is_text c = (nat_le 32 c && nat_le c 126) || ((c == 9) || ((c == 13) || (c == 10)))
 
--- ---- the first line that isn't empty, if it begins as one of a dump does
+-- ---- the first line that isn't empty, if it begins like a line of a dump
 
--- with the address
+-- It begins with an address.
 abbrev pub start_then : ℕ → Sight
 start_then c =
     if is_ascii_hexdigit c then sight.Address 1
     else if (c == 10) || (c == 13) then sight.Start
     else sight.Text
 
--- blanks
+-- Blanks follow.
 abbrev pub colon_then : ℕ → Sight
 colon_then c = if c == 32 then sight.Blanks else sight.Text
 
--- an address has six to fifteen digits, since sixteen are a frame; then maybe a colon
+-- An address has 6 to 15 hexadecimal digits (16 would be a frame); a colon may follow.
 abbrev pub address_then : ℕ → ℕ → Sight
 address_then count c =
     if is_ascii_hexdigit c
@@ -47,7 +47,7 @@ address_then count c =
     else if c == 58 then sight.Colon
     else colon_then c
 
--- and a digit of data
+-- Then follows a digit of data.
 abbrev pub blanks_then : ℕ → Sight
 blanks_then c = if is_ascii_hexdigit c then sight.Dump else colon_then c
 
@@ -60,7 +60,7 @@ line_then sight.Dump c = sight.Dump
 line_then sight.Text c = sight.Text
 line_then sight.Raw c = sight.Raw
 
--- a byte that is none of a text makes the input raw
+-- A byte that isn't text makes the input raw.
 unfoldable pub sight_after : Sight → ℕ → Sight
 sight_after at c = if is_text c then line_then at c else sight.Raw
 
@@ -80,7 +80,7 @@ detected_at sight.Raw = Raw
 abbrev pub detected_first : List ℕ → Detected
 detected_first first = detected_at (sight_from sight.Start first)
 
--- what an input is, by its first 64 bytes
+-- the form of an input, detected from its first 64 bytes
 abbrev pub detected : List ℕ → Detected
 detected input = detected_first (take 64 input)
 
@@ -104,7 +104,7 @@ abbrev pub result_by : {F : Type 0} → (F → DetectedFault) → Result (Unit {
 result_by name (Ok u) = Ok u
 result_by name (Err fault) = Err (name fault)
 
--- exactly what it does with an input of that form
+-- The result and output are those of explain for an input of that form.
 abbrev pub ExplainsAs : Detected → Style → ℕ → List ℕ → Known → Known → Known
     → Result (Unit {0}) DetectedFault → Type 0
 ExplainsAs Raw style max input left old new result =
@@ -117,7 +117,7 @@ ExplainsAs Dump style max input left old new result =
     (by : Result (Unit {0}) DumpFault) × (result ≡ result_by dump_fault by)
     × ExplainsDump style max input left old new by
 
--- A read failed before 64 bytes or the end were read, and nothing was written.
+-- A read failed before 64 bytes or the end of the input were read, and nothing was written.
 pub record IsUndetected (input : List ℕ) (left old new : Known)
     (result : Result (Unit {0}) DetectedFault) : Type 0 where
   pub seen : List ℕ
@@ -134,7 +134,7 @@ ExplainsDetected style max input left old new result =
     IsUndetected input left old new result
     ⊎ ExplainsAs (detected input) style max input left old new result
 
--- why an input that is this is refused
+-- why an input of this form is refused, if it is
 abbrev pub refusal_as : Detected → List ℕ → Option ExplainFault
 refusal_as Raw input = refusal form.Raw input
 refusal_as Text input = refusal form.Text input

@@ -1,4 +1,4 @@
--- What is written of the bytes that no item takes.
+-- What is written about bytes that belong to no item.
 use Rattle.std.specs.Prelude.{◌≡◌, ℕ, ◌+◌, ◌-◌, nat_lt, Bool, true, false, List, [], ◌∷◌, ◌++◌}
 use Rattle.std.specs.Prelude.{codes, decimal, length, take, if◌then◌else◌, Option, Some, None}
 use Rattle.std.specs.List.{flat_map}
@@ -21,8 +21,8 @@ use Rattle.ddcmp_explain.specs.Output.{line_in, lines, last_line}
 
 -- ---- which bytes are in which line
 
--- how many bytes an item takes: a frame that is damaged or too long all that its header counts, and
--- a loss of synchronism none, since its start byte is skipped
+-- How many bytes an item takes. A frame that is damaged or too long takes as many as its header
+-- counts. A loss of synchronism takes none, since its start byte is skipped.
 abbrev pub taken_by : Item → ℕ
 taken_by (Good offset h) = frame_length h
 taken_by (HeaderCheck offset) = 0
@@ -34,8 +34,8 @@ taken_by (Format offset fault) = 8
 abbrev pub behind : Item → ℕ
 behind item = item_offset item + taken_by item
 
--- What a line is of: an item; the bytes from an offset on that were skipped, and how many; the
--- place of the frame that is still open.
+-- What a line is about: an item; skipped bytes (the offset of the first, and how many); or the
+-- frame that is still incomplete.
 pub data Part : Type 0 where
   Told : ReadItem → Part
   Passed : ℕ → ℕ → Part
@@ -48,7 +48,7 @@ abbrev pub skipped_parts : Option Skipped → List Part
 skipped_parts None = []
 skipped_parts (Some it) = Passed it.from it.count ∷ []
 
--- items, and what was skipped before each, from an offset on
+-- items from an offset on, and the bytes skipped before each
 unfoldable pub parts_from : ℕ → List ReadItem → List Part
 parts_from at [] = []
 parts_from at (given ∷ later) =
@@ -62,7 +62,7 @@ reached at (given ∷ later) = reached (behind given.0) later
 abbrev pub opened : Place → List Part
 opened p = if nat_lt 0 (length p.rest) then Open p ∷ [] else []
 
--- what is reported of the rest once the bytes have come to their end
+-- the lines after the last item, when the input has ended
 abbrev pub last_parts : ℕ → List ℕ → List Part
 last_parts max bytes =
     passed (reached 0 (items max bytes)) (ending max bytes).offset ++ opened (ending max bytes)
@@ -76,14 +76,14 @@ offset_of (Told given) = item_offset given.0
 offset_of (Passed from count) = from
 offset_of (Open p) = p.offset
 
--- how many bytes are in a line, if the frame that is open begins at `end`: a frame that is too
--- long and still open has them in the line that says so
+-- How many bytes a line covers, if the incomplete frame begins at `end`. If a frame that is too
+-- long is still incomplete, its bytes count for the line of the incomplete frame.
 abbrev pub count_in : ℕ → Part → ℕ
 count_in end (Told given) = if nat_lt end (behind given.0) then 0 else taken_by given.0
 count_in end (Passed from count) = count
 count_in end (Open p) = length p.rest
 
--- each line begins where the one before it ends, and so from an offset up to another
+-- Each line begins where the one before it ends; the first begins at `from`, the last ends at `to`.
 abbrev pub Adjoin : ℕ → ℕ → List Part → ℕ → Type 0
 Adjoin end from [] to = from ≡ to
 Adjoin end from (part ∷ later) to =
@@ -102,11 +102,11 @@ passed_text Plain from count =
 passed_text Json from count =
     json_start from ++ member (codes "discarded") (decimal count) ++ codes "}\n"
 
--- the header of a frame that is open, if it is whole
+-- the header of an incomplete frame, if all 8 bytes of it were read
 abbrev pub open_header : List ℕ → Option Header
 open_header bytes = if nat_lt (length bytes) 8 then None else result_ok (parsed (take 8 bytes))
 
--- what is open, up to its numbers
+-- the line of an incomplete frame, up to its numbers
 abbrev pub open_front : Notation → ℕ → Option Header → List ℕ
 open_front Plain offset None = decimal offset ++ codes " unfinished header"
 open_front Plain offset (Some h) = decimal offset ++ codes " unfinished " ++ header_text h
@@ -115,7 +115,7 @@ open_front Json offset None =
 open_front Json offset (Some h) =
     json_start offset ++ member (codes "unfinished") (json_header h)
 
--- how many bytes it has, of how many
+-- how many of its bytes were read, and how many it has
 abbrev pub open_end : Notation → ℕ → ℕ → List ℕ
 open_end Plain have whole =
     codes " " ++ decimal have ++ codes " of " ++ decimal whole ++ codes "\n"
@@ -140,9 +140,9 @@ part_line notation (Open p) =
 unfoldable pub part_lines : Notation → List Part → List ℕ
 part_lines notation told = flat_map (part_line notation) told
 
--- ---- with or without them
+-- ---- with or without lines about skipped bytes
 
--- items alone
+-- the lines of items only
 abbrev pub items_in : Notation → Style
 items_in notation = record { notation = notation; discarded = false }
 
@@ -150,7 +150,7 @@ abbrev pub lines_by : Bool → Notation → ℕ → List ℕ → List ℕ
 lines_by false notation max bytes = lines notation max bytes
 lines_by true notation max bytes = part_lines notation (parts_from 0 (items max bytes))
 
--- the lines of the items of some bytes, and of what was skipped before each if that is reported
+-- the lines of the items, and if `discarded` is set, of the bytes skipped before each
 abbrev pub lines_in : Style → ℕ → List ℕ → List ℕ
 lines_in style max bytes = lines_by style.discarded style.notation max bytes
 
@@ -158,20 +158,20 @@ abbrev pub has_frame : List (Header × List ℕ) → Bool
 has_frame [] = false
 has_frame (frame ∷ later) = true
 
--- a line for people if no frame was good; objects say it by what they are of
+-- a line of plain text if no frame was good; JSON has none, since the objects show it
 abbrev pub none_text : Notation → Bool → List ℕ
 none_text Plain false = codes "no good frame was found\n"
 none_text Plain true = []
 none_text Json is_found = []
 
--- what is reported at the end of the bytes that no item took, and that no frame was good
+-- if `discarded` is set: the lines after the last item, and whether no frame was good
 abbrev pub rest_by : Bool → Notation → ℕ → List ℕ → List ℕ
 rest_by false notation max bytes = []
 rest_by true notation max bytes =
     part_lines notation (last_parts max bytes)
     ++ none_text notation (has_frame (good_frames max bytes))
 
--- what is written at the end: what no item took if that is reported, and the last line
+-- what is written at the end: the lines after the last item if `discarded` is set, and the totals
 abbrev pub end_in : Style → ℕ → List ℕ → List ℕ
 end_in style max bytes =
     rest_by style.discarded style.notation max bytes ++ last_line style.notation max bytes

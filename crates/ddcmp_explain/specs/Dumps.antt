@@ -1,5 +1,5 @@
--- What explain writes and returns of a dump: what it does of the dump's text as digits, with all
--- blank but those of its data.
+-- What explain writes and returns for a dump: what it does for the hexadecimal digits that `shown`
+-- leaves of the dump's text.
 use Rattle.std.specs.Prelude.{◌≡◌, ◌≢◌, ◌⊎◌, ◌↔◌, ℕ, ◌-◌, ◌<◌, ◌^◌, List, ◌++◌, length, false}
 use Rattle.std.specs.Prelude.{IsOk, IsTrue, Some, None, Result, Ok, Err}
 use Rattle.ddcmp_input.specs.Dump.{DumpView, dump_after, dump_begun, not_dumped, shown}
@@ -14,8 +14,8 @@ use Rattle.ddcmp_explain.specs.declared.form.Form.TheVariants.{Hex}
 use Rattle.ddcmp_explain.specs.declared.style.Style.{Style}
 use Rattle.ddcmp_explain.specs.Explains.{Answer, Tells, refusal}
 
--- the answer, by that of the digits: if these are refused, the line is none of a dump in which
--- reading stands
+-- the result, from that for the digits: if these are refused, the line being read isn't one of a
+-- dump
 abbrev pub dump_answer : DumpView → Answer → Result (Unit {0}) DumpFault
 dump_answer at (Ok u) = Ok u
 dump_answer at (Err digits.Odd) = Err (fault.Line (not_dumped at))
@@ -24,8 +24,7 @@ dump_answer at (Err digits.Read) = Err fault.Read
 dump_answer at (Err digits.Write) = Err fault.Write
 dump_answer at (Err digits.Memory) = Err fault.Memory
 
--- What explain did with a dump: what it saw of it and what is left, and what the sink held and
--- holds.
+-- What explain did with a dump: how much of it was read, what is left, what was written.
 pub record ExplainsDump (style : Style) (max : ℕ) (input : List ℕ) (left old new : Known)
     (result : Result (Unit {0}) DumpFault) : Type 0 where
   pub seen : List ℕ
@@ -36,7 +35,7 @@ pub record ExplainsDump (style : Style) (max : ℕ) (input : List ℕ) (left old
   pub tells : Tells Hex style max (shown seen) (Some rest) old new explained
   pub answers : result ≡ dump_answer (dump_after dump_begun seen) explained
 
--- A dump was explained: what was written, and when each answer comes.
+-- A dump was explained: what was written, and when each result is returned.
 pub record IsDumpExplained (style : Style) (max : ℕ) (source : SourceChange) (sink : SinkChange)
     (result : Result (Unit {0}) DumpFault) : Type 0 where
   pub told : (input : List ℕ) → source.before ≡ Some input

@@ -20,13 +20,13 @@ refusal_by (Some index) left_digits = Some (NotHex index)
 refusal_by None [] = None
 refusal_by None (digit ∷ left_digits) = Some Odd
 
--- Why an input doesn't spell whole bytes: its first byte that is neither blank nor a digit, or else
--- a digit that is left over.
+-- Why an input doesn't encode whole bytes: its first byte that isn't allowed where it is, or else a
+-- digit that is left over.
 abbrev pub refusal : Form → List ℕ → Option ExplainFault
 refusal form input = refusal_by (unexpected_in form input) (left_in form input)
 
--- the whole text: the lines of the items of the whole bytes, and the last line if nothing is
--- refused
+-- the whole output: the lines of the items of all complete bytes, and the last lines if the input
+-- isn't refused
 unfoldable pub explained : Form → Style → ℕ → List ℕ → List ℕ
 explained form style max input =
     lines_in style max (bytes_of form input)
@@ -36,8 +36,7 @@ explained form style max input =
 abbrev pub Answer : Type 0
 Answer = Result (Unit {0}) ExplainFault
 
--- What the input that was seen says for each answer: whether it was seen to its end and what it
--- is refused for, and what was written.
+-- For each result: whether the input was read to its end, why it is refused, and what was written.
 abbrev pub Tells : Form → Style → ℕ → List ℕ → Known → Known → Known → Answer → Type 0
 Tells form style max seen left old new (Ok u) =
     IsAtEnd left × (length seen < 2 ^ 64 - 1) × (refusal form seen ≡ None)
@@ -55,14 +54,13 @@ Tells form style max seen left old new (Err Write) =
     AppendsPart old new (explained form style max seen)
 Tells form style max seen left old new (Err Memory) = (seen ≡ []) × Appends old new []
 
--- What explain did with an input: what it saw of it and what is left, and what the sink held and
--- holds.
+-- What explain did with an input: how much of it was read, what is left, what was written.
 abbrev pub Explains : Form → Style → ℕ → List ℕ → Known → Known → Known → Answer → Type 0
 Explains form style max input left old new result =
     (seen rest : List ℕ) × (input ≡ seen ++ rest) × (left ≡ Some rest)
     × Tells form style max seen (Some rest) old new result
 
--- An input was explained: what was written, and when each answer comes.
+-- An input was explained: what was written, and when each result is returned.
 pub record IsExplained (form : Form) (style : Style) (max : ℕ) (source : SourceChange)
     (sink : SinkChange) (result : Answer) : Type 0 where
   pub told : (input : List ℕ) → source.before ≡ Some input
@@ -70,7 +68,8 @@ pub record IsExplained (form : Form) (style : Style) (max : ℕ) (source : Sourc
   pub ok : (input : List ℕ) → source.before ≡ Some input
       → IsOk result ↔ ((refusal form input ≡ None) × (length input < 2 ^ 64 - 1)
       × (source.state ≡ Fine) × (sink.broken ≡ false) × (result ≢ Err Memory))
-  -- Read exactly if the source isn't fine, or has returned 2^64 - 1 bytes with no write failing.
+  -- Err Read: exactly if the source's state isn't Fine, or it returned 2^64 - 1 bytes and no write
+  -- failed.
   pub read : source.state ≢ Fine → result ≡ Err Read
   pub read_only : result ≡ Err Read
       → (source.state ≢ Fine) ⊎ GaveMost source.before source.after

@@ -19,11 +19,11 @@ use Rattle.ddcmp_frame.specs.Reading.{ReadItem}
 use Rattle.hex.specs.Hex.{encode_lower}
 use Rattle.ddcmp_explain.specs.Text.{flag_text, kind_text, lends}
 
--- a member of an object after others: its name, and the text of its value
+-- a member of an object that isn't the first: its name, and the text of its value
 abbrev pub member : List ℕ → List ℕ → List ℕ
 member name value = codes ",\"" ++ name ++ codes "\":" ++ value
 
--- a text as a value; none of those below has a character that JSON escapes
+-- a text as a value; none of those below has a character that JSON must escape
 abbrev pub quoted : List ℕ → List ℕ
 quoted text = codes "\"" ++ text ++ codes "\""
 
@@ -48,7 +48,7 @@ reason_in_words reason.TooLong = codes "message too long"
 reason_in_words reason.Format = codes "header format error"
 reason_in_words (reason.Other n) = codes "other"
 
--- why a NAK was sent; other control frames have no reason
+-- the reason of a NAK; other control frames have none
 abbrev pub json_reason : ControlType → ℕ → List ℕ
 json_reason Nak sub = member (codes "reason") (quoted (reason_in_words (reason_of sub)))
 json_reason Ack sub = []
@@ -64,7 +64,7 @@ json_header (Control h) =
     quoted (kind_text h.kind) ++ member (codes "sub") (decimal h.sub) ++ json_reason h.kind h.sub
     ++ json_fields h.flags h.resp h.num h.addr
 
--- no reader gives the last two
+-- A reader never reports the last two.
 abbrev pub json_fault : HeaderFault → List ℕ
 json_fault (BadType code) = member (codes "type") (decimal code)
 json_fault CountZero = member (codes "count") (codes "0")
@@ -75,7 +75,7 @@ json_fault Check = member (codes "fault") (quoted (codes "check"))
 abbrev pub json_start : ℕ → List ℕ
 json_start offset = codes "{\"offset\":" ++ decimal offset
 
--- what an item is, without the end of its object
+-- an item, without the end of its object
 unfoldable pub json_item : Item → List ℕ
 json_item (Good offset h) = json_start offset ++ member (codes "item") (json_header h)
 json_item (HeaderCheck offset) =
@@ -89,7 +89,7 @@ json_item (TooLong offset h) =
 json_item (Format offset fault) =
     json_start offset ++ member (codes "item") (quoted (codes "format")) ++ json_fault fault
 
--- the line of an item, up to the data that it lends
+-- the line of an item, up to its data
 abbrev pub json_front : Item → List ℕ
 json_front item = json_item item ++ (if lends item then codes ",\"data\":\"" else codes "}\n")
 
@@ -98,11 +98,11 @@ abbrev pub json_data : Item → List ℕ → List ℕ
 json_data item lent =
     if lends item then member (codes "data") (quoted (encode_lower lent)) else []
 
--- the line of an item with the data that it lends
+-- the line of an item with its data
 unfoldable pub json_line_of : ReadItem → List ℕ
 json_line_of given = json_item given.0 ++ json_data given.0 given.1 ++ codes "}\n"
 
--- how many items there are, how many bytes, and how many of these are of an unfinished frame
+-- the totals: how many items, how many bytes, and how many of these in the incomplete frame
 abbrev pub json_totals : ℕ → ℕ → ℕ → List ℕ
 json_totals count bytes left_open =
     codes "{\"items\":" ++ decimal count ++ member (codes "bytes") (decimal bytes)

@@ -11,7 +11,7 @@ use Rattle.ddcmp_frame.specs.Naks.{reason_of}
 use Rattle.ddcmp_explain.specs.Json.{reason_in_words}
 use Rattle.ddcmp_explain.specs.Text.{fault_text}
 
--- of a control frame the fields that it means, and why a NAK was sent
+-- for a control frame, the fields that have a meaning, and the reason of a NAK
 abbrev pub control_label : ControlType → ℕ → ℕ → ℕ → List ℕ
 control_label Ack sub resp num = codes "ACK resp=" ++ decimal resp
 control_label Nak sub resp num =
@@ -32,7 +32,7 @@ frame_label (Data h) =
 frame_label (Maint h) = codes "MAINT" ++ count_label h.count
 frame_label (Control h) = control_label h.kind h.sub h.resp h.num
 
--- and of an item, which may be none that is good
+-- the label of any item, good or not
 unfoldable pub item_label : Item → List ℕ
 item_label (Good offset h) = frame_label h
 item_label (HeaderCheck offset) = codes "header check"

@@ -1,10 +1,10 @@
--- The text of a log and the bytes that it spells, said apart from how it is read.
+-- The text of a log and the bytes that it encodes, as a grammar, independent of the parser.
 use Rattle.std.specs.Prelude.{◌≡◌, ◌≢◌, ℕ, ◌+◌, ◌*◌, true, List, [], ◌∷◌, ◌++◌, Some}
 use Rattle.std.specs.List.{All}
 use Rattle.ddcmp_explain.specs.Digits.{hex_value, is_between, is_x}
 
--- Two digits a byte, maybe after `0x`; between bytes blanks, colons, hyphens and commas, and
--- comments from a `#` to the end of the line.
+-- Two digits a byte, optionally after `0x`. Between bytes there may be blanks, colons, hyphens and
+-- commas, and comments from a `#` to the end of the line.
 pub data Log : List ℕ → List ℕ → Type 0 where
   Nothing : Log [] []
   Gap : (c : ℕ) {text bytes : List ℕ} → is_between c ≡ true → Log text bytes → Log (c ∷ text) bytes

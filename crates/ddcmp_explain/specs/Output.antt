@@ -1,4 +1,4 @@
--- What is written in each notation.
+-- What is written, in each notation.
 use Rattle.std.specs.Prelude.{ℕ, List, codes, length}
 use Rattle.std.specs.List.{flat_map}
 use Rattle.ddcmp_frame.specs.declared.item.Item.{Item}
@@ -8,17 +8,17 @@ use Rattle.ddcmp_explain.specs.declared.notation.Notation.TheVariants.{Plain, Js
 use Rattle.ddcmp_explain.specs.Text.{front_text, line_of, totals}
 use Rattle.ddcmp_explain.specs.Json.{json_front, json_line_of, json_totals}
 
--- the line of an item with the data that it lends
+-- the line of an item with its data
 abbrev pub line_in : Notation → ReadItem → List ℕ
 line_in Plain given = line_of given
 line_in Json given = json_line_of given
 
--- the same up to the data that it lends
+-- the same up to the data
 abbrev pub front_in : Notation → Item → List ℕ
 front_in Plain item = front_text item
 front_in Json item = json_front item
 
--- what stands after data
+-- what follows the data
 abbrev pub after_in : Notation → List ℕ
 after_in Plain = codes "\n"
 after_in Json = codes "\"}\n"
@@ -31,7 +31,7 @@ abbrev pub totals_in : Notation → ℕ → ℕ → ℕ → List ℕ
 totals_in Plain count bytes left_open = totals count bytes left_open
 totals_in Json count bytes left_open = json_totals count bytes left_open
 
--- how many items there are, how many bytes, and how many of these are of an unfinished frame
+-- the totals: how many items, how many bytes, and how many of these in the incomplete frame
 abbrev pub last_line : Notation → ℕ → List ℕ → List ℕ
 last_line notation max bytes =
     totals_in notation (length (items max bytes)) (length bytes) (open_at_end max bytes)

@@ -1,4 +1,4 @@
--- The text that says what bytes of a line are, line by line.
+-- The plain text of the bytes of a line, one line an item.
 use Rattle.std.specs.Prelude.{[], ℕ, ◌++◌, Bool, true, false, List, codes, decimal, if◌then◌else◌}
 use Rattle.ddcmp_frame.specs.declared.header.Flags.{Flags}
 use Rattle.ddcmp_frame.specs.declared.header.ControlType.{ControlType}
@@ -44,14 +44,14 @@ header_text (Maint h) = codes "MAINT" ++ counted_text h
 header_text (Control h) =
     kind_text h.kind ++ codes " sub=" ++ decimal h.sub ++ fields_text h.flags h.resp h.num h.addr
 
--- no reader gives the last two
+-- A reader never reports the last two.
 abbrev pub fault_text : HeaderFault → List ℕ
 fault_text (BadType code) = codes "type=" ++ decimal code
 fault_text CountZero = codes "count=0"
 fault_text NotAStart = codes "start"
 fault_text Check = codes "check"
 
--- what an item is, after the offset of its start byte
+-- the offset of an item's start byte, and what the item is
 unfoldable pub item_text : Item → List ℕ
 item_text (Good offset h) = decimal offset ++ codes " " ++ header_text h
 item_text (HeaderCheck offset) = decimal offset ++ codes " header check"
@@ -59,7 +59,7 @@ item_text (DataCheck offset h) = decimal offset ++ codes " data check " ++ heade
 item_text (TooLong offset h) = decimal offset ++ codes " too long " ++ header_text h
 item_text (Format offset fault) = decimal offset ++ codes " format " ++ fault_text fault
 
--- whether an item lends data
+-- whether the line of an item shows data
 abbrev pub lends : Item → Bool
 lends (Good offset (Data h)) = true
 lends (Good offset (Maint h)) = true
@@ -69,7 +69,7 @@ lends (DataCheck offset h) = false
 lends (TooLong offset h) = false
 lends (Format offset fault) = false
 
--- the line of an item, up to the data that it lends
+-- the line of an item, up to its data
 abbrev pub front_text : Item → List ℕ
 front_text item = item_text item ++ (if lends item then codes " " else codes "\n")
 
@@ -77,11 +77,11 @@ front_text item = item_text item ++ (if lends item then codes " " else codes "\n
 abbrev pub data_text : Item → List ℕ → List ℕ
 data_text item lent = if lends item then codes " " ++ encode_lower lent else []
 
--- the line of an item with the data that it lends
+-- the line of an item with its data
 unfoldable pub line_of : ReadItem → List ℕ
 line_of given = item_text given.0 ++ data_text given.0 given.1 ++ codes "\n"
 
--- how many items there are, how many bytes, and how many of these are of an unfinished frame
+-- the totals: how many items, how many bytes, and how many of these in the incomplete frame
 abbrev pub totals : ℕ → ℕ → ℕ → List ℕ
 totals count bytes left_open =
     codes "items=" ++ decimal count ++ codes " bytes=" ++ decimal bytes

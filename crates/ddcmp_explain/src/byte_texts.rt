@@ -1,8 +1,8 @@
 //! Numbers of one byte as text.
 ghost use Rattle.std.specs.Prelude.{◌≡◌, ◌≤◌, decimal, take};
 
-/// The digits of a number, with blanks after them up to three bytes, and how many digits they are.
-/// They go by a table, since the numbers of frames come in no order that a branch could foresee.
+/// Returns the digits of a number, padded with blanks to three bytes, and how many digits they are.
+/// It uses a table, since no branch predictor could foresee the numbers of frames.
 #[inline(always)]
 pub(crate) fn byte_text(number: u8) -> ([u8; 3], usize)
     ensures digits { take result.1 result.0 ≡ decimal number }
@@ -12,7 +12,7 @@ pub(crate) fn byte_text(number: u8) -> ([u8; 3], usize)
     ([first, second, third], usize::from(length))
 }
 
-// Entry `n` has the digits of `n`, and how many they are.
+// Entry `n` has the digits of `n`, and how many there are.
 #[rattlefmt::skip]
 static BYTE_TEXTS: [[u8; 4]; 256] = [
     [b'0', b' ', b' ', 1], [b'1', b' ', b' ', 1], [b'2', b' ', b' ', 1], [b'3', b' ', b' ', 1],

@@ -1,4 +1,4 @@
-//! The bytes that an input spells, piece by piece.
+//! The bytes that an input encodes, chunk by chunk.
 ghost use Rattle.std.specs.Prelude.{◌≡◌, ◌+◌, ◌≤◌, ◌<◌, ◌++◌, IfSome, List, ℕ, None, Some, length};
 ghost use Rattle.std.specs.Prelude.{get_or, option_to_list, take};
 ghost use Rattle.std.specs.Option.{ForSome};
@@ -10,13 +10,13 @@ use crate::hex_digits::{hex_value, is_blank};
 use crate::hex_values::put_eight;
 use crate::spot::Spot;
 
-/// After how many bytes sixteen digits are looked for again.
+/// The initial number of bytes after which sixteen digits are looked for again.
 const SHORTEST: usize = 16;
 
 const LONGEST: usize = 1024;
 
-/// Turns an input in one of the forms into bytes, and keeps the digit that is left over, and of a
-/// log where it stands.
+/// Decodes an input in one of the forms; keeps the digit that is left over, and the state of the
+/// log parser.
 #[derive(Drop)]
 pub(crate) struct Decoder {
     pub(crate) form: Form,
@@ -26,8 +26,8 @@ pub(crate) struct Decoder {
     ghost small: { IsSmall spot },
 }
 
-/// What came of a piece: how many bytes it made whole, and the index in the piece of its first
-/// byte that isn't allowed where it stands.
+/// The result of decoding a chunk: how many bytes it completed, and the index in the chunk of its
+/// first byte that isn't allowed where it is.
 #[derive(Clone, Copy)]
 pub(crate) struct Decoded {
     pub(crate) count: usize,
@@ -37,7 +37,7 @@ pub(crate) struct Decoded {
 impl Decoder {
     ghost use Rattle.ddcmp_explain.specs.Inside.Decoding.{Decodes, place_of};
 
-    /// Nothing so far.
+    /// Returns a decoder that has read nothing.
     pub(crate) fn new(form: Form) -> Self
         ensures form { result.form ≡ form }
         ensures none { result.high ≡ None }
@@ -50,7 +50,7 @@ impl Decoder {
         }
     }
 
-    /// Decodes a piece: of digits, into the front of `bytes`. Raw bytes stay where they are.
+    /// Decodes a chunk; digits are decoded into the front of `bytes`, raw bytes stay in the chunk.
     pub(crate) fn decode(&mut self, piece: &[u8], bytes: &mut [u8]) -> Decoded
         requires { length piece.now ≤ length bytes.old }
         ensures form { self.new.form ≡ self.old.form }
@@ -75,7 +75,7 @@ impl Decoder {
         }
     }
 
-    /// Returns the first `count` bytes of a piece that was decoded.
+    /// Returns the first `count` bytes of a chunk that was decoded.
     pub(crate) fn decoded<'a>(&self, piece: &'a [u8], bytes: &'a [u8], count: usize) -> &'a [u8]
         requires piece { count ≤ length piece.now }
         requires bytes { count ≤ length bytes.now }
@@ -87,7 +87,7 @@ impl Decoder {
         }
     }
 
-    /// Makes bytes of digits, two each, up to the first byte that is neither a digit nor blank.
+    /// Decodes pairs of digits, up to the first byte that is neither a digit nor blank.
     fn pair(&mut self, piece: &[u8], bytes: &mut [u8]) -> Decoded
         requires { length piece.now ≤ length bytes.old }
         ensures form { self.new.form ≡ self.old.form }
@@ -100,8 +100,8 @@ impl Decoder {
     {
         let mut count = 0;
         let mut i = 0;
-        // If sixteen digits don't stand together they are looked for again after a wait, which
-        // doubles up to the longest.
+        // If no sixteen digits are adjacent, they are looked for again after a wait, which doubles
+        // up to a maximum.
         let mut tries_at = 0;
         let mut wait = SHORTEST;
         while i < piece.len() {
@@ -123,7 +123,7 @@ impl Decoder {
                         self.high = None;
                     }
                     None => match value_at(piece, i + 1) {
-                        // Most digits stand together.
+                        // Most digits are adjacent.
                         Some(low) => {
                             bytes[count] = digit * 16 + low;
                             count += 1;
@@ -149,7 +149,7 @@ impl Decoder {
         }
     }
 
-    /// Makes bytes of a log, up to the first character that has no meaning where it stands.
+    /// Decodes a log, up to the first character that isn't allowed where it is.
     fn spell(&mut self, piece: &[u8], bytes: &mut [u8]) -> Decoded
         requires { length piece.now ≤ length bytes.old }
         ensures form { self.new.form ≡ self.old.form }
@@ -183,7 +183,7 @@ impl Decoder {
     }
 }
 
-/// Puts a byte after others if one was completed, and returns how many there are then.
+/// Stores a byte after `count` others if one was completed; returns how many there are then.
 #[inline(always)]
 fn put(bytes: &mut [u8], count: usize, completed: Option<u8>) -> usize
     requires { count < length bytes.old }
@@ -199,7 +199,7 @@ fn put(bytes: &mut [u8], count: usize, completed: Option<u8>) -> usize
     }
 }
 
-/// Returns the value of the digit at `i`, if one is there.
+/// Returns the value of the digit at `i`, if there is one.
 #[inline(always)]
 fn value_at(piece: &[u8], i: usize) -> Option<u8>
     ensures value { IfSome result (λ v. hex_value_of (get_or piece.now i 0) ≡ Some v) }

@@ -1,4 +1,4 @@
-//! Why an input wasn't explained to its end whose form was detected.
+//! Why an input whose form was detected wasn't explained to its end.
 ghost use Rattle.std.specs.Prelude.{◌≡◌};
 ghost use Rattle.ddcmp_explain.specs.Detection.{digits_fault, dump_fault};
 
@@ -7,15 +7,15 @@ use crate::explain_fault::ExplainFault;
 use ddcmp_input::NotDumped;
 use thiserror::Error;
 
-/// Why an input wasn't explained to its end whose form was detected.
+/// Why an input whose form was detected wasn't explained to its end.
 #[derive(Debug, Drop, Error, PartialEq, Eq)]
 pub enum DetectedFault {
     #[error("odd number of digits")]
     Odd,
-    /// The index of the first byte that isn't allowed where it stands, counted from 0.
+    /// The index, from 0, of the first byte that isn't allowed where it is.
     #[error("not hexadecimal at {0}")]
     NotHex(u64),
-    /// A line is none of a dump, or stands for others.
+    /// A line isn't one of a dump, or is `*`, which stands for omitted lines.
     #[error("{0}")]
     Line(NotDumped),
     #[error("read")]

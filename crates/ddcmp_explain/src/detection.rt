@@ -1,41 +1,41 @@
-//! What an input is by its first bytes.
+//! The form of an input, detected from its first bytes.
 ghost use Rattle.std.specs.Prelude.{◌≡◌};
 ghost use Rattle.ddcmp_explain.specs.Detection.{address_then, blanks_then, colon_then};
 ghost use Rattle.ddcmp_explain.specs.Detection.{detected_at, detected_first};
 ghost use Rattle.ddcmp_explain.specs.Detection.{is_text as is_text_byte, sight_after, start_then};
 
-/// What an input is by its first bytes.
+/// The form of an input.
 #[derive(Clone, Copy)]
 pub enum Detected {
-    /// The bytes as they are.
+    /// Raw bytes.
     Raw,
     /// A dump of `hexdump -C`, `xxd` or `od -A x -t x1`.
     Dump,
-    /// Digits as logs have them.
+    /// Hexadecimal digits, as in logs.
     Text,
 }
 
-/// What the bytes so far may be the beginning of.
+/// The detector's state: what the bytes so far may be the beginning of.
 #[derive(Clone, Copy)]
 pub(crate) enum Sight {
-    /// Nothing but ends of lines was taken.
+    /// Only line ends so far.
     Start,
-    /// This many digits of an address were taken.
+    /// This many digits of an address so far.
     Address(u8),
-    /// At the colon after an address of `xxd`.
+    /// After the colon of an address of `xxd`.
     Colon,
     /// In the blanks after an address.
     Blanks,
     /// A digit of data follows an address.
     Dump,
-    /// The first line begins with no address.
+    /// The first line doesn't begin with an address.
     Text,
-    /// A byte is none of a text.
+    /// A byte isn't text.
     Raw,
 }
 
 impl Sight {
-    /// Returns what the bytes may begin with a byte more.
+    /// Returns the state after one more byte.
     #[tactic(auto, unfolding(crate::specs::Detection::sight_after))]
     fn after(self, byte: u8) -> Sight
         ensures { result ≡ sight_after self byte }
@@ -52,7 +52,7 @@ impl Sight {
         }
     }
 
-    /// Returns what an input is of which these are the first bytes.
+    /// Returns the form of an input that begins with the bytes so far.
     fn detected(self) -> Detected
         ensures { result ≡ detected_at self }
     {
@@ -122,7 +122,7 @@ fn in_blanks(byte: u8) -> Sight
     }
 }
 
-/// Returns what an input is that begins with these bytes.
+/// Returns the form of an input that begins with these bytes.
 pub(crate) fn detect(first: &[u8]) -> Detected
     ensures { result ≡ detected_first first.now }
 {

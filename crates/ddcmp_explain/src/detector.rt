@@ -1,4 +1,4 @@
-//! Explains an input whose form is detected by its first bytes.
+//! Explains an input whose form is detected from its first bytes.
 ghost use Rattle.std.specs.Prelude.{◌≡◌, ◌≢◌, ◌⊎◌, ◌↔◌, ◌-◌, ◌<◌, ◌≤◌, ◌^◌, [], false};
 ghost use Rattle.std.specs.Prelude.{IsOk, IsTrue, List, ℕ, None, Option, Some, length};
 ghost use Rattle.std.specs.Io.KnownBytes.{Consumes, IsAtEnd};
@@ -41,7 +41,7 @@ fn of_dump(by: Result<(), DumpFault>) -> Result<(), DetectedFault>
     }
 }
 
-/// Explains an input of which `first` was read, and all of it if it `is_ended`, as what it is by
+/// Explains an input of which `first` was read (all of it if `is_ended`), in the form detected from
 /// these bytes.
 fn explain_first<R: Source, W: Sink>(
     frames: Reader,
@@ -74,9 +74,9 @@ fn explain_first<R: Source, W: Sink>(
     }
 }
 
-/// Writes the line of each item of an input, and a last line of totals, in a style. By its first 64
-/// bytes the input is raw, a dump or digits as logs have them; nothing is written before they or
-/// its end were read.
+/// Writes the line of each item of an input, and a last line of totals, in a style. The form is
+/// detected from the first 64 bytes: raw, a dump, or digits as in logs. Nothing is written before
+/// these or the end of the input were read.
 pub fn explain_detected<R: Source, W: Sink>(
     alloc: Global,
     reader: &mut R,
@@ -88,7 +88,7 @@ pub fn explain_detected<R: Source, W: Sink>(
     requires whole { W.broken writer.old ≡ false }
     requires max { (0 < max) × (max ≤ MAX_COUNT) }
 
-    // If the input is known: what was written, and when each result comes.
+    // If the input is known: what was written, and when each result is returned.
     ensures told { (input : List ℕ) → R.left reader.old ≡ Some input
         → ExplainsDetected style max input (R.left reader.new)
         (W.contents writer.old) (W.contents writer.new) result }
@@ -97,7 +97,8 @@ pub fn explain_detected<R: Source, W: Sink>(
         × (length input < 2 ^ 64 - 1) × (R.state reader.new ≡ Worst.Fine)
         × (W.broken writer.new ≡ false) × (result ≢ Err DetectedFault.Memory)) }
 
-    // Read exactly if the reader isn't fine, or has returned 2^64 - 1 bytes with no write failing.
+    // Err Read: exactly if the reader's state isn't Fine, or it returned 2^64 - 1 bytes and no
+    // write failed.
     ensures read { R.state reader.new ≢ Worst.Fine → result ≡ Err DetectedFault.Read }
     ensures read_only { result ≡ Err DetectedFault.Read
         → (R.state reader.new ≢ Worst.Fine) ⊎ GaveMost (R.left reader.old) (R.left reader.new) }

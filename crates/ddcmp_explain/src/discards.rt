@@ -1,4 +1,4 @@
-//! The lines of bytes that no item takes.
+//! The lines of bytes that belong to no item.
 ghost use Rattle.std.specs.Prelude.{◌≡◌, ◌+◌, ◌≤◌, Option};
 ghost use Rattle.ddcmp_io.specs.Written.{HandsOver, output_of};
 ghost use Rattle.ddcmp_explain.specs.Discarded.{open_end, open_front};
@@ -48,7 +48,7 @@ pub fn write_discarded<W: Sink>(
     page.write(writer, &line[..end]);
 }
 
-/// Writes what is open, up to its numbers, in words.
+/// Puts the line of an incomplete frame, up to its numbers, as plain text; returns where it ends.
 fn put_open_words(line: &mut [u8; LINE], offset: u64, header: &Option<Header>) -> usize
     ensures puts { Puts line.old 0 line.new result (open_front Notation.Plain offset header.now) }
     ensures within { result ≤ 110 }
@@ -63,7 +63,7 @@ fn put_open_words(line: &mut [u8; LINE], offset: u64, header: &Option<Header>) -
     }
 }
 
-/// The same as members of an object of JSON.
+/// Does the same as members of a JSON object.
 fn put_open_members(line: &mut [u8; LINE], offset: u64, header: &Option<Header>) -> usize
     ensures puts { Puts line.old 0 line.new result (open_front Notation.Json offset header.now) }
     ensures within { result ≤ 160 }
@@ -92,7 +92,7 @@ fn put_open_front(
     }
 }
 
-/// Puts how many bytes are there, of how many; returns where it ends.
+/// Puts how many bytes of a frame were read, and how many it has; returns where that ends.
 fn put_open_end(line: &mut [u8; LINE], notation: Notation, have: u64, whole: u64) -> usize
     ensures puts { Puts line.old 0 line.new result (open_end notation have whole) }
     ensures within { result ≤ 80 }
@@ -124,8 +124,8 @@ fn open_length(header: &Option<Header>) -> u64
     }
 }
 
-/// Writes the line of the frame that is still open: its offset, its header if that is whole, and
-/// how many of its bytes came.
+/// Writes the line of the incomplete frame: its offset, its header if that is complete, and how
+/// many of its bytes were read.
 pub(crate) fn write_open<W: Sink>(
     page: &mut Page,
     writer: &mut W,

@@ -22,8 +22,8 @@ use ddcmp_io::input::read_within;
 use ddcmp_io::{Got, Sink, Source, Worst};
 use std::alloc::Global;
 
-/// Takes a piece of a dump as digits, with all blank but those of its data. `bytes` is room for
-/// what they spell.
+/// Explains a chunk of a dump as digits, all but its data replaced. `bytes` is a buffer for the
+/// decoded bytes.
 fn take_piece<W: Sink>(
     explainer: &mut Explainer,
     dump: &mut Dump,
@@ -48,7 +48,7 @@ fn take_piece<W: Sink>(
     explainer.take(writer, piece, bytes)
 }
 
-/// Takes a dump to its end, of which `first` was read, and all of it if it `is_ended`.
+/// Explains a dump of which `first` was read (all of it if `is_ended`), to its end.
 fn take_dump<R: Source, W: Sink>(
     explainer: &mut Explainer,
     dump: &mut Dump,
@@ -93,7 +93,7 @@ fn take_dump<R: Source, W: Sink>(
     Err(ExplainFault::Read)
 }
 
-/// Returns the result for a dump whose digits were explained so.
+/// Returns the result for a dump, from that for its digits.
 fn answer(explained: Result<(), ExplainFault>, dump: &Dump) -> Result<(), DumpFault>
     ensures { result ≡ dump_answer dump.now explained }
 {
@@ -107,7 +107,7 @@ fn answer(explained: Result<(), ExplainFault>, dump: &Dump) -> Result<(), DumpFa
     }
 }
 
-/// Explains a dump of which `first` was read, and all of it if it `is_ended`.
+/// Explains a dump of which `first` was read (all of it if `is_ended`).
 pub(crate) fn explain_opened_dump<R: Source, W: Sink>(
     frames: Reader,
     first: &mut [u8],
@@ -133,8 +133,8 @@ pub(crate) fn explain_opened_dump<R: Source, W: Sink>(
 }
 
 /// Writes the line of each item of the bytes that a dump shows, and a last line of totals, in a
-/// style. A line that is none of a dump is reported by its number; the items of the lines before it
-/// are written.
+/// style. A line that isn't one of a dump is reported by its number, after the items of the lines
+/// before it were written.
 pub fn explain_dump<R: Source, W: Sink>(
     alloc: Global,
     reader: &mut R,
@@ -146,7 +146,7 @@ pub fn explain_dump<R: Source, W: Sink>(
     requires whole { W.broken writer.old ≡ false }
     requires max { (0 < max) × (max ≤ MAX_COUNT) }
 
-    // If the input is known: what was written, and when each result comes.
+    // If the input is known: what was written, and when each result is returned.
     ensures told { (input : List ℕ) → R.left reader.old ≡ Some input
         → ExplainsDump style max input (R.left reader.new)
         (W.contents writer.old) (W.contents writer.new) result }
@@ -155,7 +155,8 @@ pub fn explain_dump<R: Source, W: Sink>(
         × (R.state reader.new ≡ Worst.Fine) × (W.broken writer.new ≡ false)
         × (result ≢ Err DumpFault.Memory)) }
 
-    // Read exactly if the reader isn't fine, or has returned 2^64 - 1 bytes with no write failing.
+    // Err Read: exactly if the reader's state isn't Fine, or it returned 2^64 - 1 bytes and no
+    // write failed.
     ensures read { R.state reader.new ≢ Worst.Fine → result ≡ Err DumpFault.Read }
     ensures read_only { result ≡ Err DumpFault.Read
         → (R.state reader.new ≢ Worst.Fine) ⊎ GaveMost (R.left reader.old) (R.left reader.new) }

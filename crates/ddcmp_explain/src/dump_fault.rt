@@ -5,7 +5,7 @@ use thiserror::Error;
 /// Why a dump wasn't explained to its end.
 #[derive(Debug, Drop, Error, PartialEq, Eq)]
 pub enum DumpFault {
-    /// A line is none of a dump, or stands for others.
+    /// A line isn't one of a dump, or is `*`, which stands for omitted lines.
     #[error("{0}")]
     Line(NotDumped),
     #[error("read")]

@@ -6,7 +6,7 @@ use thiserror::Error;
 pub enum ExplainFault {
     #[error("odd number of digits")]
     Odd,
-    /// The index of the first byte that isn't allowed where it stands, counted from 0.
+    /// The index, from 0, of the first byte that isn't allowed where it is.
     #[error("not hexadecimal at {0}")]
     NotHex(u64),
     #[error("read")]

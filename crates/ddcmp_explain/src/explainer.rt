@@ -1,4 +1,4 @@
-//! Explaining an input, piece by piece.
+//! Explains an input, chunk by chunk.
 ghost use Rattle.std.specs.Prelude.{◌≡◌, ◌≢◌, ◌⊎◌, ◌↔◌, ◌+◌, ◌-◌, ◌<◌, ◌≤◌, ◌^◌, ◌++◌, [], false};
 ghost use Rattle.std.specs.Prelude.{List, ℕ, Option, length, IsTrue};
 ghost use Rattle.std.specs.Io.KnownBytes.{Consumes, IsAtEnd};
@@ -17,7 +17,7 @@ use ddcmp_io::{Got, Sink, Source, Worst};
 /// How many bytes of input are read at once.
 pub const PIECE: usize = 16384;
 
-/// Explains an input, piece by piece.
+/// Explains an input, chunk by chunk.
 #[derive(Drop)]
 pub(crate) struct Explainer {
     pub(crate) decoder: Decoder,
@@ -30,7 +30,7 @@ pub(crate) struct Explainer {
 impl Explainer {
     ghost use Rattle.ddcmp_explain.specs.Inside.Progress.{Progress, Takes};
 
-    /// Nothing so far, for a reader of none.
+    /// Returns an explainer that has read nothing, for a new reader.
     pub(crate) fn new(frames: Reader, form: Form, style: Style) -> Self
         requires { StandsFor frames [] }
         ensures form { result.decoder.form ≡ form }
@@ -46,8 +46,8 @@ impl Explainer {
         }
     }
 
-    /// Takes a piece of the input, and writes the lines of the items that it completes. `bytes` is
-    /// room for what digits spell.
+    /// Takes a chunk of the input, and writes the lines of the items that it completes. `bytes` is
+    /// a buffer for decoded digits.
     pub(crate) fn take<W: Sink>(
         &mut self,
         writer: &mut W,
@@ -74,7 +74,7 @@ impl Explainer {
         match self.lines.flush(writer) {
             Ok(()) => match decoded.unexpected {
                 None => Ok(()),
-                // A reader that has returned the most bytes counts as failed.
+                // A reader that has returned the maximum number of bytes counts as failed.
                 Some(_) if self.seen == u64::MAX => Err(ExplainFault::Read),
                 Some(index) => Err(ExplainFault::NotHex(before + index as u64)),
             },
@@ -82,7 +82,7 @@ impl Explainer {
         }
     }
 
-    /// Writes the last line of an input that spells whole bytes.
+    /// Writes the last line of an input that consists of whole bytes.
     pub(crate) fn finish<W: Sink>(&mut self, writer: &mut W) -> Result<(), ExplainFault>
         requires { W.broken writer.old ≡ false }
         ensures seen { self.new.seen ≡ self.old.seen }
@@ -103,7 +103,7 @@ impl Explainer {
         }
     }
 
-    /// Takes the input to its end, of which `first` was read, and all of it if it `is_ended`.
+    /// Takes an input of which `first` was read (all of it if `is_ended`), to its end.
     pub(crate) fn take_all<R: Source, W: Sink>(
         &mut self,
         first: &[u8],

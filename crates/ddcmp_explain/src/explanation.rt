@@ -1,4 +1,4 @@
-//! Explains a text of bytes, line by line.
+//! Explains an input, line by line.
 ghost use Rattle.std.specs.Prelude.{◌≡◌, ◌<◌, ◌≤◌, [], false, IsTrue, List, ℕ, Option, length};
 ghost use Rattle.std.specs.Io.KnownBytes.{Consumes, IsAtEnd};
 ghost use Rattle.ddcmp_frame.specs.Reader.{StandsFor};
@@ -16,7 +16,7 @@ use ddcmp_frame::Reader;
 use ddcmp_io::{Sink, Source, Worst};
 use std::alloc::Global;
 
-/// Writes the line of each item of what the input spells, and a last line of totals, in words.
+/// Writes the line of each item that the input encodes, and a last line of totals, as plain text.
 pub fn explain<R: Source, W: Sink>(
     alloc: Global,
     reader: &mut R,
@@ -34,7 +34,7 @@ pub fn explain<R: Source, W: Sink>(
     explain_as(alloc, reader, writer, form, Notation::Plain, max)
 }
 
-/// Writes the line of each item of what the input spells, and a last line of totals, in a notation.
+/// Writes the line of each item that the input encodes, and a last line of totals, in a notation.
 pub fn explain_as<R: Source, W: Sink>(
     alloc: Global,
     reader: &mut R,
@@ -53,7 +53,7 @@ pub fn explain_as<R: Source, W: Sink>(
     explain_with(alloc, reader, writer, form, Style::items(notation), max)
 }
 
-/// Explains an input of which `first` was read, and all of it if it `is_ended`.
+/// Explains an input of which `first` was read (all of it if `is_ended`).
 pub(crate) fn explain_opened<R: Source, W: Sink>(
     frames: Reader,
     first: &[u8],
@@ -77,8 +77,8 @@ pub(crate) fn explain_opened<R: Source, W: Sink>(
     explainer.take_all(first, is_ended, reader, writer)
 }
 
-/// Writes the line of each item of what the input spells, and a last line of totals, in a style:
-/// with or without lines of the bytes that no item takes.
+/// Writes the line of each item that the input encodes, and a last line of totals, in a style: with
+/// or without lines for bytes that belong to no item.
 pub fn explain_with<R: Source, W: Sink>(
     alloc: Global,
     reader: &mut R,

@@ -1,13 +1,13 @@
-//! How an input spells bytes.
+//! How an input encodes bytes.
 
-/// How the input spells bytes.
+/// How an input encodes bytes.
 #[derive(Clone, Copy, Debug, PartialEq, Eq)]
 pub enum Form {
-    /// Two hexadecimal digits of either case a byte; space, tab, CR and LF are left out.
+    /// Two hexadecimal digits a byte, of either case; space, tab, CR and LF are ignored.
     Hex,
-    /// Two hexadecimal digits of either case a byte, maybe after `0x`. Between bytes there may be
-    /// blanks, colons, hyphens and commas, and from a `#` on the rest of a line is a comment.
+    /// Two hexadecimal digits a byte, of either case, optionally after `0x`. Between bytes there
+    /// may be blanks, colons, hyphens and commas, and comments from a `#` to the end of the line.
     Text,
-    /// The bytes as they are.
+    /// Raw bytes.
     Raw,
 }

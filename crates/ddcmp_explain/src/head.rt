@@ -1,4 +1,4 @@
-//! How the frame begins that is still open.
+//! The first bytes of the incomplete frame.
 ghost use Rattle.std.specs.Prelude.{◌≡◌, ◌+◌, ◌-◌, ◌<◌, ◌≤◌, ◌++◌, ◌∷◌, [], List, ℕ, drop, length};
 ghost use Rattle.std.specs.Prelude.{take};
 ghost use Rattle.ddcmp_explain.specs.Inside.Heads.{Heads, Follows};
@@ -6,7 +6,7 @@ ghost use Rattle.ddcmp_explain.specs.Discarded.{open_header};
 
 use ddcmp_frame::Header;
 
-/// The number of bytes of the frame that is still open, and the first eight of them.
+/// The number of bytes of the incomplete frame, and the first eight of them.
 #[derive(Clone, Copy)]
 pub(crate) struct Head {
     pub(crate) count: usize,
@@ -14,7 +14,7 @@ pub(crate) struct Head {
 }
 
 impl Head {
-    /// Nothing is open.
+    /// Returns the value if no frame is incomplete.
     pub(crate) fn new() -> Self
         ensures { Heads result [] }
     {
@@ -24,7 +24,7 @@ impl Head {
         }
     }
 
-    /// Takes a byte, after which this many bytes are open.
+    /// Takes a byte; `left_open` is the number of bytes of the incomplete frame after it.
     pub(crate) fn follow(&mut self, byte: u8, left_open: usize)
         ensures { (rest more : List ℕ) → Heads self.old rest → Follows rest byte more
             → left_open ≡ length more → Heads self.new more }
@@ -39,7 +39,7 @@ impl Head {
         self.count = left_open;
     }
 
-    /// Appends a byte to those that are held.
+    /// Appends a byte.
     fn append(&mut self, byte: u8)
         requires few { self.old.count < 8 }
         ensures count { self.new.count ≡ self.old.count }
@@ -50,7 +50,7 @@ impl Head {
         self.bytes[self.count] = byte;
     }
 
-    /// Keeps the last bytes of those that were held and this one.
+    /// Keeps the last `left_open` bytes, this one included.
     fn shift(&mut self, byte: u8, left_open: usize)
         requires few { self.old.count < 8 }
         requires fewer { left_open ≤ self.old.count }
@@ -63,7 +63,7 @@ impl Head {
         self.bytes[..left_open].copy_from_slice(&held[end - left_open..end]);
     }
 
-    /// Returns the header, if it is whole.
+    /// Returns the header, if it is complete.
     pub(crate) fn header(&self) -> Option<Header>
         ensures { (rest : List ℕ) → Heads self.now rest → result ≡ open_header rest }
     {

@@ -2,8 +2,8 @@
 ghost use Rattle.std.specs.Prelude.{◌≡◌, ◌<◌, IfSome};
 ghost use Rattle.ddcmp_explain.specs.Digits.{hex_value as value_of, is_blank as is_blank_byte};
 
-/// Returns the value of a hexadecimal digit of either case. It goes by a table, since digits of
-/// data come in no order that a branch could foresee.
+/// Returns the value of a hexadecimal digit of either case. It uses a table, since no branch
+/// predictor could foresee digits of data.
 #[inline(always)]
 pub(crate) fn hex_value(byte: u8) -> Option<u8>
     ensures value { result ≡ value_of byte }
@@ -13,14 +13,14 @@ pub(crate) fn hex_value(byte: u8) -> Option<u8>
     if value < 16 { Some(value) } else { None }
 }
 
-/// Space, tab, CR or LF.
+/// Returns whether a byte is a space, tab, CR or LF.
 pub(crate) fn is_blank(byte: u8) -> bool
     ensures { result ≡ is_blank_byte byte }
 {
     byte == b' ' || byte == b'\t' || byte == b'\r' || byte == b'\n'
 }
 
-// Entry `b` is the value of the digit `b`, and 0xFF if `b` is none.
+// Entry `b` is the value of the digit `b`, and 0xFF if `b` isn't one.
 #[rattlefmt::skip]
 static HEX_VALUES: [u8; 256] = [
     0xFF, 0xFF, 0xFF, 0xFF, 0xFF, 0xFF, 0xFF, 0xFF, 0xFF, 0xFF, 0xFF, 0xFF, 0xFF, 0xFF, 0xFF, 0xFF,

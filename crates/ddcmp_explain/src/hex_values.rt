@@ -1,4 +1,4 @@
-//! The bytes that sixteen hexadecimal digits spell.
+//! The bytes that sixteen hexadecimal digits encode.
 ghost use Rattle.std.specs.Prelude.{◌≡◌, ◌+◌, ◌<◌, ◌≤◌, false, true, length, map, slice_index};
 ghost use Rattle.std.specs.Prelude.{None};
 ghost use Rattle.std.specs.Simd.Lanes.{Each1};
@@ -8,7 +8,7 @@ ghost use Rattle.ddcmp_explain.specs.Inside.Decoding.{PutsEight};
 
 use std::simd::prelude::*;
 
-/// The values of sixteen digits of either case; 255 for what is none.
+/// Returns the values of sixteen digits of either case; 255 for a byte that isn't one.
 #[inline(always)]
 fn values_of(digits: u8x16) -> u8x16
     ensures { result ≡ map (λ c. slice_index HEX_VALUES c) digits }
@@ -21,7 +21,7 @@ fn values_of(digits: u8x16) -> u8x16
     decimal.simd_lt(u8x16::splat(10)).select(decimal, by_letter)
 }
 
-/// Returns the bytes of sixteen values, two each, the high one first.
+/// Packs sixteen values into bytes, two each, the high one first.
 #[inline(always)]
 fn bytes_of(values: u8x16) -> u8x8
     requires { Each1 (λ v. v < 16) values }
@@ -32,8 +32,8 @@ fn bytes_of(values: u8x16) -> u8x8
     high * u8x8::splat(16) + low
 }
 
-/// Puts the eight bytes that sixteen digits from `i` on spell, if sixteen stand together, no digit
-/// waits for its second and they are looked for by now; returns whether it did.
+/// Decodes the sixteen digits from `i` on into eight bytes, if `i` has reached `tries_at`, no digit
+/// is pending and all sixteen are digits; returns whether it did.
 #[inline(always)]
 pub(crate) fn put_eight(
     piece: &[u8],

@@ -1,4 +1,5 @@
-//! The bytes that an input spells, piece by piece, for a caller that reads two inputs side by side.
+//! The bytes that an input encodes, chunk by chunk, for a caller that reads two inputs side by
+//! side.
 ghost use Rattle.std.specs.Prelude.{◌≡◌, ◌≤◌, IfOk, length};
 
 use crate::decoder::Decoder;
@@ -18,11 +19,11 @@ pub enum InputForm {
     As(Form),
     /// As a dump of `hexdump -C`, `xxd` or `od -A x -t x1`.
     Dump,
-    /// As its first 64 bytes say.
+    /// Detected from its first 64 bytes.
     Detected,
 }
 
-/// An input, and how far its bytes were read.
+/// An input, and how far it was read.
 pub struct InputBytes<R> {
     reader: R,
     written: InputForm,
@@ -31,11 +32,11 @@ pub struct InputBytes<R> {
     /// How many bytes were read.
     seen: u64,
     ended: bool,
-    /// The index of the first byte that isn't allowed where it stands.
+    /// The index of the first byte that isn't allowed where it is.
     unexpected: Option<u64>,
 }
 
-// Manual, since a derived `Drop` is expanded wherever it is dropped.
+// Manual, since a derived `Drop` would be expanded wherever a value is dropped.
 impl<R: Drop> Drop for InputBytes<R> {
     fn drop(self) {
         let InputBytes {
@@ -50,7 +51,7 @@ impl<R: Drop> Drop for InputBytes<R> {
     }
 }
 
-/// Returns how a dump or digits are decoded, of an input that is written so.
+/// Returns the form in which the decoder begins.
 fn form_of(written: InputForm) -> Form {
     match written {
         InputForm::As(form) => form,
@@ -59,7 +60,7 @@ fn form_of(written: InputForm) -> Form {
 }
 
 impl<R: Source> InputBytes<R> {
-    /// Nothing was read.
+    /// Returns an input of which nothing was read.
     pub fn new(reader: R, written: InputForm) -> InputBytes<R> {
         InputBytes {
             reader,
@@ -72,8 +73,8 @@ impl<R: Source> InputBytes<R> {
         }
     }
 
-    /// Returns how many bytes come next, which are put into the front of `bytes`; 0 at the end of
-    /// an input that spells whole bytes. After a fault each call reports one.
+    /// Puts the next bytes into the front of `bytes`, and returns how many; 0 at the end of an
+    /// input of whole bytes. After a fault each call returns one.
     pub fn next(
         &mut self,
         piece: &mut [u8; PIECE],
@@ -97,7 +98,7 @@ impl<R: Source> InputBytes<R> {
         Err(self.wrong())
     }
 
-    /// Reads a piece: returns how many bytes it has, 0 at the end.
+    /// Reads a chunk; returns how many bytes it has, 0 at the end.
     fn read(&mut self, piece: &mut [u8; PIECE]) -> Result<usize, DetectedFault>
         ensures within { IfOk result (λ count. count ≤ PIECE) }
     {
@@ -120,7 +121,7 @@ impl<R: Source> InputBytes<R> {
         }
     }
 
-    /// Reads the first bytes, and detects by them how the input is written.
+    /// Reads the first bytes, and detects from them how the input is written.
     fn open(&mut self, piece: &mut [u8; PIECE]) -> Result<usize, DetectedFault>
         requires fine { R.state self.old.reader ≡ Worst.Fine }
         ensures within { IfOk result (λ count. count ≤ PIECE) }
@@ -144,7 +145,7 @@ impl<R: Source> InputBytes<R> {
         Ok(count)
     }
 
-    /// Decodes a piece into the front of `bytes`: returns how many it makes.
+    /// Decodes a chunk into the front of `bytes`; returns how many bytes result.
     fn decode(&mut self, piece: &mut [u8], bytes: &mut [u8; PIECE]) -> usize
         requires size { length piece.old ≤ PIECE }
         ensures within { result ≤ PIECE }
@@ -162,7 +163,7 @@ impl<R: Source> InputBytes<R> {
         decoded.count
     }
 
-    /// Returns why the input isn't read on.
+    /// Returns the fault for an input that can't be decoded further.
     fn wrong(&self) -> DetectedFault {
         match (self.written, self.unexpected) {
             (InputForm::Dump, _) => DetectedFault::Line(self.dump.not_dumped()),
@@ -171,7 +172,7 @@ impl<R: Source> InputBytes<R> {
         }
     }
 
-    /// The end of the input: it may end within a byte.
+    /// Returns 0 at the end of the input, or a fault if it ends within a byte.
     fn finish(&self) -> Result<usize, DetectedFault>
         ensures within { IfOk result (λ count. count ≤ PIECE) }
     {

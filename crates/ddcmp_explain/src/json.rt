@@ -12,7 +12,7 @@ use crate::reasons::reason_name;
 use crate::text::lends;
 use ddcmp_frame::{ControlType, Counted, Flags, Header, HeaderFault, Item, Nak, Short};
 
-/// A member whose value is a number of one byte; `name` is its text up to that.
+/// Puts a member whose value is a number of one byte; `name` is its text before the number.
 fn put_member(line: &mut [u8; LINE], at: usize, name: &[u8], number: u8) -> usize
     requires { at + length name.now + 3 ≤ LINE }
     ensures puts { Puts line.old at line.new result (name.now ++ decimal number) }
@@ -59,7 +59,7 @@ fn kind_value(kind: ControlType) -> &'static [u8]
     }
 }
 
-/// The member of a reason.
+/// Puts the member for the reason of a NAK.
 fn put_reason_member(line: &mut [u8; LINE], at: usize, reason: Nak) -> usize
     requires { at + 42 ≤ LINE }
     ensures puts { Puts line.old at line.new result
@@ -71,7 +71,7 @@ fn put_reason_member(line: &mut [u8; LINE], at: usize, reason: Nak) -> usize
     put(line, after_name, b"\"")
 }
 
-/// Writes why a NAK was sent, from its SUBTYPE.
+/// Puts the reason of a NAK, from its SUBTYPE.
 fn put_reason(line: &mut [u8; LINE], at: usize, kind: ControlType, sub: u8) -> usize
     requires { at + 42 ≤ LINE }
     ensures puts { Puts line.old at line.new result (json_reason kind sub) }
@@ -99,7 +99,7 @@ fn put_control(line: &mut [u8; LINE], at: usize, h: &Short) -> usize
     put_fields(line, after_reason, h.flags, h.resp, h.num, h.addr)
 }
 
-/// A name as a value, and the fields of a header with COUNT.
+/// Puts a name as a value, and the fields of a header with COUNT.
 fn put_counted<const N: usize>(
     line: &mut [u8; LINE],
     at: usize,
@@ -165,7 +165,7 @@ fn put_damaged(line: &mut [u8; LINE], at: usize, header: &Header) -> usize
     put_header(line, at_header, header)
 }
 
-/// Writes what an item is, without the end of its object.
+/// Puts an item, without the end of its object.
 #[tactic(auto, unfolding(crate::specs::Json::json_item))]
 fn put_item(line: &mut [u8; LINE], item: &Item) -> usize
     ensures puts { Puts line.old 0 line.new result (json_item item.now) }
@@ -192,7 +192,7 @@ fn put_item(line: &mut [u8; LINE], item: &Item) -> usize
     }
 }
 
-/// Returns what comes after an item: the name of the data that it lends, or the end of its object.
+/// Returns what follows an item: the name of its data, or the end of the object.
 fn item_end(item: &Item) -> &'static [u8]
     ensures value { result.now
         ≡ (if lends_data item.now then codes ",\"data\":\"" else codes "}\n") }
@@ -201,7 +201,7 @@ fn item_end(item: &Item) -> &'static [u8]
     if lends(item) { b",\"data\":\"" } else { b"}\n" }
 }
 
-/// Puts the line of an item, up to the data that it lends; returns where it ends.
+/// Puts the line of an item, up to its data; returns where it ends.
 #[inline(never)]
 pub(crate) fn put_json_front(line: &mut [u8; LINE], item: &Item) -> usize
     ensures puts { Puts line.old 0 line.new result (json_front item.now) }
@@ -211,7 +211,7 @@ pub(crate) fn put_json_front(line: &mut [u8; LINE], item: &Item) -> usize
     put_slice(line, after_item, item_end(item))
 }
 
-/// Puts the last line: how many items, how many bytes, and how many of these of an unfinished
+/// Puts the last line: how many items, how many bytes, and how many of these in the incomplete
 /// frame; returns where it ends.
 #[inline(never)]
 pub(crate) fn put_json_totals(

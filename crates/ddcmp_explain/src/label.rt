@@ -10,10 +10,10 @@ use crate::reasons::reason_name;
 use crate::text::put_fault;
 use ddcmp_frame::{ControlType, Header, Item, Nak};
 
-/// More than the label of an item takes.
+/// Room for the label of an item, and to spare.
 pub const LABEL_ROOM: usize = 192;
 
-/// A NAK with its reason, from its SUBTYPE.
+/// Puts a NAK with its reason, from its SUBTYPE.
 fn put_nak_label(line: &mut [u8; LINE], at: usize, sub: u8, resp: u8) -> usize
     requires { at + 49 ≤ LINE }
     ensures puts { Puts line.old at line.new result
@@ -29,7 +29,7 @@ fn put_nak_label(line: &mut [u8; LINE], at: usize, sub: u8, resp: u8) -> usize
     put_byte(line, at_resp, resp)
 }
 
-/// Of a control frame the fields that it means.
+/// Puts the fields of a control frame that have a meaning.
 fn put_control_label(
     line: &mut [u8; LINE],
     at: usize,
@@ -57,7 +57,7 @@ fn put_control_label(
     }
 }
 
-/// Puts what comes after a number of bytes; returns where it ends.
+/// Puts the unit of a number of bytes; returns where it ends.
 fn put_unit(line: &mut [u8; LINE], at: usize, count: u16) -> usize
     requires { at + 7 ≤ LINE }
     ensures puts { Puts line.old at line.new result
@@ -119,7 +119,7 @@ pub fn label_frame(line: &mut [u8; LABEL_ROOM], header: &Header) -> usize
     put_frame_label(line, 0, header)
 }
 
-/// Puts the label of an item, which may be none that is good; returns where it ends.
+/// Puts the label of an item, good or not; returns where it ends.
 #[tactic(auto, unfolding(crate::specs::Label::item_label))]
 pub fn label_item(line: &mut [u8; LABEL_ROOM], item: &Item) -> usize
     ensures puts { Puts line.old 0 line.new result (item_label item.now) }

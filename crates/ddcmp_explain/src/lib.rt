@@ -1,4 +1,4 @@
-//! The bytes of a line in words, line by line: the command `ddcmp explain` over any source and
+//! The bytes of a line as text, one line an item: the command `ddcmp explain`, over any source and
 //! sink.
 #![tactic(auto)]
 

@@ -18,18 +18,18 @@ use crate::style::Style;
 use ddcmp_frame::{Header, Item, Pushed, Reader};
 use ddcmp_io::{Page, Sink, WriteFailed};
 
-/// The lines of the bytes so far, in order, for a sink.
+/// Writes the lines of the bytes received so far to a sink, in order.
 #[derive(Drop)]
 pub(crate) struct Lines {
     pub(crate) frames: Reader,
     pub(crate) style: Style,
     pub(crate) items: u64,
     pub(crate) page: Page,
-    // If skipped bytes are reported: how far the items reach, and how the frame begins that is
-    // still open.
+    // If skipped bytes are reported: where the last item ends, and the first bytes of the
+    // incomplete frame.
     pub(crate) reached: Reached,
     pub(crate) head: Head,
-    // Whether a frame was good, if that is reported too.
+    // Whether a frame was good, if skipped bytes are reported.
     pub(crate) is_found: bool,
     ghost counted: { items ≤ frames.offset },
 }
@@ -37,7 +37,7 @@ pub(crate) struct Lines {
 impl Lines {
     ghost use Rattle.ddcmp_explain.specs.Inside.Progress.{HasTold};
 
-    /// No bytes so far, for a reader of none.
+    /// Returns a value that has taken no bytes, for a new reader.
     pub(crate) fn new(frames: Reader, style: Style) -> Self
         requires { StandsFor frames [] }
         ensures max { result.frames.max ≡ frames.max }
@@ -57,8 +57,8 @@ impl Lines {
         }
     }
 
-    /// Takes bytes up to the first that completes an item, and writes its line, which is put
-    /// together in `line`. Returns how many.
+    /// Takes bytes up to the first that completes an item, and writes its line, which is assembled
+    /// in `line`. Returns how many bytes were taken.
     #[inline(always)]
     fn push<W: Sink>(&mut self, writer: &mut W, line: &mut [u8; LINE], bytes: &[u8]) -> usize
         requires some { 0 < length bytes.now }
@@ -76,7 +76,7 @@ impl Lines {
         if self.style.discarded {
             return self.push_one(writer, bytes[0]);
         }
-        // The data of a frame that the bytes have whole are written from there.
+        // The data of a frame that is whole in the bytes are written from there.
         let at = self.frames.offset();
         if let Some(fields) = self.frames.push_frame(bytes) {
             self.items += 1;
@@ -112,8 +112,8 @@ impl Lines {
         used
     }
 
-    /// Takes a byte, and writes the line of the item that it completes, and before it that of what
-    /// was skipped.
+    /// Takes a byte, and writes the line of the item that it completes, after a line for the bytes
+    /// skipped before that.
     fn push_one<W: Sink>(&mut self, writer: &mut W, byte: u8) -> usize
         requires fits { self.old.frames.offset + 1 < 2 ^ 64 }
         requires discarded { self.old.style.discarded ≡ true }
@@ -141,7 +141,7 @@ impl Lines {
         1
     }
 
-    /// Writes the line of what was skipped before an item.
+    /// Writes the line of the bytes skipped before an item.
     fn reach<W: Sink>(&mut self, writer: &mut W, item: &Item)
         ensures frames { self.new.frames ≡ self.old.frames }
         ensures style { self.new.style ≡ self.old.style }
@@ -159,7 +159,7 @@ impl Lines {
         self.reached = reached;
     }
 
-    /// Writes the line of what was skipped up to an offset.
+    /// Writes the line of the bytes skipped up to an offset.
     fn write_skipped_to<W: Sink>(&mut self, writer: &mut W, to: u64)
         ensures frames { self.new.frames ≡ self.old.frames }
         ensures style { self.new.style ≡ self.old.style }
@@ -211,8 +211,8 @@ impl Lines {
         }
     }
 
-    /// Writes the lines of the bytes after the last item, and that no frame was good, if that is
-    /// reported.
+    /// Writes the lines of the bytes after the last item, and a line if no frame was good, if
+    /// skipped bytes are reported.
     fn write_end<W: Sink>(&mut self, writer: &mut W, bytes: u64, left_open: u64)
         ensures frames { self.new.frames ≡ self.old.frames }
         ensures style { self.new.style ≡ self.old.style }
@@ -231,7 +231,7 @@ impl Lines {
         self.write_none(writer);
     }
 
-    /// Writes that no frame was good, if none was.
+    /// Writes a line if no frame was good.
     fn write_none<W: Sink>(&mut self, writer: &mut W)
         ensures frames { self.new.frames ≡ self.old.frames }
         ensures style { self.new.style ≡ self.old.style }
@@ -264,7 +264,7 @@ impl Lines {
         }
     }
 
-    /// Writes all lines that wait.
+    /// Writes all buffered lines.
     pub(crate) fn flush<W: Sink>(&mut self, writer: &mut W) -> Result<(), WriteFailed>
         ensures max { self.new.frames.max ≡ self.old.frames.max }
         ensures style { self.new.style ≡ self.old.style }

@@ -1,4 +1,4 @@
-//! How lines are written.
+//! The notation of lines.
 ghost use Rattle.std.specs.Prelude.{◌≤◌};
 ghost use Rattle.ddcmp_io.specs.Written.{HandsOver, output_of};
 ghost use Rattle.ddcmp_explain.specs.Output.{after_in, front_in, line_in, totals_in};
@@ -11,17 +11,17 @@ use ddcmp_frame::Item;
 use ddcmp_io::text::write_hex;
 use ddcmp_io::{Page, Sink};
 
-/// How lines are written.
+/// The notation of lines.
 #[derive(Clone, Copy, Debug)]
 pub enum Notation {
-    /// Words for people.
+    /// Plain text for people.
     Plain,
-    /// An object of JSON a line, for programs.
+    /// A JSON object a line, for programs.
     Json,
 }
 
 impl Notation {
-    /// Puts the line of an item, up to the data that it lends; returns where it ends.
+    /// Puts the line of an item, up to its data; returns where it ends.
     #[inline(always)]
     fn put_front(self, line: &mut [u8; LINE], item: &Item) -> usize
         ensures puts { Puts line.old 0 line.new result (front_in self item.now) }
@@ -33,7 +33,7 @@ impl Notation {
         }
     }
 
-    /// Writes what comes after data.
+    /// Writes what follows data.
     #[inline(always)]
     fn write_after<W: Sink>(self, page: &mut Page, writer: &mut W)
         ensures { HandsOver (output_of W.broken W.contents writer.old page.old)
@@ -57,7 +57,7 @@ impl Notation {
     }
 }
 
-/// Writes the line of an item, with the data that it lends.
+/// Writes the line of an item, with its data.
 pub fn write_item<W: Sink>(
     page: &mut Page,
     writer: &mut W,
@@ -73,7 +73,7 @@ pub fn write_item<W: Sink>(
     write_item_by(&mut line, page, writer, notation, item, data);
 }
 
-/// The same by way of a line that it overwrites, which needn't be cleared for each item.
+/// Does the same by way of `line`, which it overwrites and which needn't be cleared for each item.
 #[inline(always)]
 pub(crate) fn write_item_by<W: Sink>(
     line: &mut [u8; LINE],
@@ -95,7 +95,7 @@ pub(crate) fn write_item_by<W: Sink>(
     }
 }
 
-/// Writes the last line: how many items, how many bytes, and how many of these of an unfinished
+/// Writes the last line: how many items, how many bytes, and how many of these in the incomplete
 /// frame.
 pub fn write_last<W: Sink>(
     page: &mut Page,

@@ -4,13 +4,13 @@ ghost use Rattle.ddcmp_explain.specs.Inside.Openings.{Opens};
 
 use ddcmp_io::{Got, Source, Worst};
 
-/// How many bytes are looked at: more than a frame's header, and about a line of a dump.
+/// How many bytes the detection looks at: more than a frame's header, and about a line of a dump.
 pub(crate) const OPENING: usize = 64;
 
 /// What was read of an input to detect its form.
 #[derive(Clone, Copy)]
 pub(crate) enum Opening {
-    /// All bytes that are looked at.
+    /// All bytes that the detection looks at.
     Whole,
     /// The input ended after this many.
     Ended(usize),
@@ -18,7 +18,7 @@ pub(crate) enum Opening {
     Failed,
 }
 
-/// Reads the first bytes of an input, as many as are looked at.
+/// Reads the first bytes of an input, as many as the detection looks at.
 pub(crate) fn read_opening<R: Source>(reader: &mut R, first: &mut [u8; OPENING]) -> Opening
     requires fine { R.state reader.old ≡ Worst.Fine }
     ensures bytes { Opens (R.left reader.old) (R.left reader.new) result first.new }

@@ -1,16 +1,16 @@
-//! The text of a line, put together piece by piece in an array before it goes to a page. The place
-//! at which the next piece goes is handed on as a value, so that it can stay in a register.
+//! The text of a line, assembled in an array before it goes to a page. The position of the next
+//! piece is passed on as a value, so that it can stay in a register.
 ghost use Rattle.std.specs.Prelude.{◌≡◌, ◌+◌, ◌-◌, ◌^◌, ◌<◌, ◌≤◌, decimal, length};
 ghost use Rattle.ddcmp_explain.specs.Inside.Putting.{Puts};
 
 use crate::byte_texts::byte_text;
 use itoa::write_digits;
 
-/// More than the text of an item takes, without its data.
+/// Room for the text of an item without its data, and to spare.
 pub(crate) const LINE: usize = 192;
 
-/// Puts a text of a length that the compiler knows after the first `at` bytes; returns where it
-/// ends. It is stored at once, while a copy between slices first asks whether they overlap.
+/// Puts a text whose length the compiler knows after the first `at` bytes; returns where it ends.
+/// It compiles to a plain store; a copy between slices would first check whether they overlap.
 #[inline(always)]
 pub(crate) fn put<const N: usize>(line: &mut [u8; LINE], at: usize, text: &[u8; N]) -> usize
     requires { at + N ≤ LINE }
@@ -21,7 +21,7 @@ pub(crate) fn put<const N: usize>(line: &mut [u8; LINE], at: usize, text: &[u8; 
     end
 }
 
-/// Stores a text in a place of its length.
+/// Stores a text in a slice of its length.
 #[inline(always)]
 fn store<const N: usize>(place: &mut [u8], text: &[u8; N])
     requires { length place.old ≡ N }
@@ -91,8 +91,8 @@ static POWERS: [u64; 20] = [
     10_000_000_000_000_000_000,
 ];
 
-/// Returns how many decimal digits a number has: those of the power of two in it, or one more. The
-/// logarithm of 2 is a little above 1233 / 4096.
+/// Returns how many decimal digits a number has: those of the highest power of two in it, or one
+/// more. The decimal logarithm of 2 is a little above 1233 / 4096.
 #[inline(always)]
 fn digits_in(number: u64) -> usize
     ensures value { result ≡ length (decimal number) }

@@ -1,10 +1,10 @@
-//! The reasons of NAKs in words.
+//! The names of the reasons of NAKs.
 ghost use Rattle.std.specs.Prelude.{◌≡◌, ◌≤◌, length};
 ghost use Rattle.ddcmp_explain.specs.Json.{reason_in_words};
 
 use ddcmp_frame::Nak;
 
-/// Returns the reason of a NAK in words, as JSON and a trace have it.
+/// Returns the name of a NAK's reason, as it is in JSON and in a trace.
 pub fn reason_name(reason: Nak) -> &'static [u8]
     ensures name { result.now ≡ reason_in_words reason }
     ensures within { length result.now ≤ 30 }

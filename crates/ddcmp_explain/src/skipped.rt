@@ -7,15 +7,15 @@ ghost use Rattle.ddcmp_explain.specs.Discarded.{has_frame, passed, skipped_parts
 
 use ddcmp_frame::Item;
 
-/// An item: its offset, and how many bytes it takes.
+/// Where an item is: its offset, and how many bytes it takes.
 #[derive(Clone, Copy)]
 pub struct Reached {
     pub offset: u64,
     pub taken: u64,
 }
 
-/// Returns the offset of an item, and how many bytes it takes: a header that is damaged takes none,
-/// since only its start byte is skipped.
+/// Returns the offset of an item, and how many bytes it takes: none for a damaged header, since
+/// only its start byte is skipped.
 pub fn reached_by(item: &Item) -> Reached
     ensures offset { result.offset ≡ item_offset item.now }
     ensures taken { result.taken ≡ taken_by item.now }
@@ -30,7 +30,7 @@ pub fn reached_by(item: &Item) -> Reached
     Reached { offset, taken }
 }
 
-/// Returns whether a frame is good, by whether one before it was.
+/// Returns whether a good frame was found, this item included.
 pub(crate) fn finds_good(is_found: bool, item: &Item) -> bool
     ensures { (frames : List (Header × List ℕ)) (lent : List ℕ) → is_found ≡ has_frame frames
         → result ≡ has_frame (frames ++ good_frame_of (item.now, lent)) }
@@ -50,14 +50,14 @@ pub struct Skipped {
 }
 
 impl Reached {
-    /// Makes one at an offset, of no bytes.
+    /// Returns the value for an offset, with no bytes.
     pub fn at(offset: u64) -> Reached
         ensures { result ≡ record { offset = offset; taken = 0 } }
     {
         Reached { offset, taken: 0 }
     }
 
-    /// Returns what was skipped after the item, up to an offset.
+    /// Returns the bytes skipped after the item, up to an offset.
     pub fn skipped_to(&self, to: u64) -> Option<Skipped>
         ensures { skipped_parts result ≡ passed (self.now.offset + self.now.taken) to }
     {

@@ -1,4 +1,4 @@
-//! The place of a character in digits as logs have them.
+//! The state of the parser of logs.
 ghost use Rattle.std.specs.Prelude.{◌≡◌};
 ghost use Rattle.ddcmp_explain.specs.Digits.{IsSmall, begins_with, completed_at, ends_with};
 ghost use Rattle.ddcmp_explain.specs.Digits.{half_at, hex_value as hex_value_of};
@@ -7,25 +7,25 @@ ghost use Rattle.ddcmp_explain.specs.Digits.{is_wrong as is_wrong_spot, spot_aft
 
 use crate::hex_digits::{hex_value, is_blank};
 
-/// The place in a log of the character that was taken last.
+/// The state of the parser of logs after a character.
 #[derive(Clone, Copy)]
 pub(crate) enum Spot {
     /// Between two bytes.
     Between,
-    /// At a zero that begins a byte, or `0x`.
+    /// After a zero that begins a byte, or `0x`.
     Zero,
-    /// At the end of `0x`.
+    /// After `0x`.
     Prefixed,
-    /// At the first digit of a byte, which has this value.
+    /// After the first digit of a byte, which has this value.
     Half(u8),
     /// In a comment.
     Comment,
-    /// The character has no meaning here.
+    /// The character isn't allowed here.
     Wrong,
 }
 
 impl Spot {
-    /// Returns the place of a character more.
+    /// Returns the state after one more character.
     #[tactic(auto, unfolding(crate::specs::Digits::spot_after))]
     pub(crate) fn after(self, byte: u8) -> Spot
         ensures place { result ≡ spot_after self byte }
@@ -42,7 +42,7 @@ impl Spot {
         }
     }
 
-    /// Returns the byte that a character more completes.
+    /// Returns the byte that one more character completes.
     #[tactic(auto, unfolding(crate::specs::Digits::completed_at))]
     pub(crate) fn complete(self, byte: u8) -> Option<u8>
         requires { IsSmall self }
@@ -58,14 +58,14 @@ impl Spot {
         }
     }
 
-    /// Returns whether the character has no meaning here.
+    /// Returns whether the character isn't allowed here.
     pub(crate) fn is_wrong(self) -> bool
         ensures { result ≡ is_wrong_spot self }
     {
         matches!(self, Spot::Wrong)
     }
 
-    /// Returns the digit that makes no byte if nothing more comes.
+    /// Returns the digit that is left over if the input ends here.
     pub(crate) fn half(self) -> Option<u8>
         ensures { result ≡ half_at self }
     {
@@ -77,7 +77,7 @@ impl Spot {
     }
 }
 
-/// Between two bytes.
+/// Returns the state after a character between two bytes.
 fn begin(byte: u8) -> Spot
     ensures place { result ≡ begins_with (hex_value_of byte) byte }
     ensures small { IsSmall result }
@@ -112,7 +112,7 @@ fn after_prefix(byte: u8) -> Spot
     }
 }
 
-/// At the second digit of a byte.
+/// Returns the state after the second digit of a byte.
 fn end(byte: u8) -> Spot
     ensures place { result ≡ ends_with (hex_value_of byte) }
     ensures small { IsSmall result }
@@ -123,7 +123,7 @@ fn end(byte: u8) -> Spot
     }
 }
 
-/// A blank, colon, hyphen or comma.
+/// Returns whether a byte is a blank, colon, hyphen or comma.
 fn is_between(byte: u8) -> bool
     ensures { result ≡ is_between_byte byte }
 {

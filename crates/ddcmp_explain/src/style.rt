@@ -1,12 +1,12 @@
-//! What is reported of bytes.
+//! What is reported about bytes.
 use crate::notation::Notation;
 
-/// What is reported of bytes, and how.
+/// What is reported about bytes, and how.
 #[derive(Clone, Copy, Debug)]
 pub struct Style {
     pub notation: Notation,
-    /// Whether bytes that no item takes have lines of their own: those that were skipped, and those
-    /// of a frame that is still open.
+    /// Whether bytes that belong to no item have lines too: those that were skipped, and those of
+    /// an incomplete frame.
     pub discarded: bool,
 }
 
@@ -14,7 +14,7 @@ impl Style {
     ghost use Rattle.std.specs.Prelude.{◌≡◌};
     ghost use Rattle.ddcmp_explain.specs.Discarded.{items_in};
 
-    /// Items alone.
+    /// Returns the style with lines for items only.
     pub fn items(notation: Notation) -> Self
         ensures { result ≡ items_in notation }
     {

@@ -9,9 +9,9 @@ ghost use Rattle.ddcmp_explain.specs.Text.{front_text, totals};
 use crate::put::{LINE, put, put_byte, put_number};
 use ddcmp_frame::{ControlType, Counted, Flags, Header, HeaderFault, Item, Short};
 
-/// Returns the name of a control frame, up to the number that follows it, with blanks after it up
-/// to ten bytes, and how long it is. The compiler makes a table of it, since kinds come in no order
-/// that a branch could foresee.
+/// Returns the name of a control frame, up to the number that follows it, padded with blanks to ten
+/// bytes, and its length. The compiler makes a table of it, since no branch predictor could foresee
+/// the kinds.
 #[inline(always)]
 fn kind_name(kind: ControlType) -> (&'static [u8; 10], usize)
     ensures name { take result.1 result.0.now ≡ kind_text kind ++ codes " sub=" }
@@ -39,7 +39,7 @@ fn put_kind(line: &mut [u8; LINE], at: usize, kind: ControlType) -> usize
     at + length
 }
 
-/// Both flags, up to the number that follows them.
+/// Returns the text of both flags, up to the number that follows them.
 #[inline(always)]
 fn flags_name(flags: Flags) -> &'static [u8; 14]
     ensures { result.now ≡ flags_text flags }
@@ -125,7 +125,7 @@ pub(crate) fn put_fault(line: &mut [u8; LINE], at: usize, fault: &HeaderFault) -
     }
 }
 
-/// An offset, a label and a header.
+/// Puts an offset, a label and a header.
 #[inline(always)]
 fn put_labelled<const N: usize>(
     line: &mut [u8; LINE],
@@ -143,7 +143,7 @@ fn put_labelled<const N: usize>(
     put_header(line, at_header, header)
 }
 
-/// Writes what an item is, without the data that it lends.
+/// Puts the text of an item, without its data.
 #[tactic(auto, unfolding(crate::specs::Text::item_text))]
 #[inline(always)]
 fn put_item(line: &mut [u8; LINE], item: &Item) -> usize
@@ -166,7 +166,7 @@ fn put_item(line: &mut [u8; LINE], item: &Item) -> usize
     }
 }
 
-/// Returns whether an item lends data.
+/// Returns whether the line of an item shows data.
 #[inline(always)]
 pub(crate) fn lends(item: &Item) -> bool
     ensures { result ≡ lends_data item.now }
@@ -181,7 +181,7 @@ pub(crate) fn lends(item: &Item) -> bool
     }
 }
 
-/// Returns what comes after an item: a blank before the data that it lends, or the end of its line.
+/// Returns what follows an item: a blank before its data, or the end of its line.
 #[inline(always)]
 fn item_end(item: &Item) -> &'static [u8; 1]
     ensures { result.now ≡ (if lends_data item.now then codes " " else codes "\n") }
@@ -189,7 +189,7 @@ fn item_end(item: &Item) -> &'static [u8; 1]
     if lends(item) { b" " } else { b"\n" }
 }
 
-/// Puts the line of an item, up to the data that it lends; returns where it ends.
+/// Puts the line of an item, up to its data; returns where it ends.
 #[inline(always)]
 pub(crate) fn put_front(line: &mut [u8; LINE], item: &Item) -> usize
     ensures puts { Puts line.old 0 line.new result (front_text item.now) }
@@ -199,7 +199,7 @@ pub(crate) fn put_front(line: &mut [u8; LINE], item: &Item) -> usize
     put(line, after_item, item_end(item))
 }
 
-/// Puts the last line: how many items, how many bytes, and how many of these of an unfinished
+/// Puts the last line: how many items, how many bytes, and how many of these in the incomplete
 /// frame; returns where it ends.
 pub(crate) fn put_totals(line: &mut [u8; LINE], items: u64, bytes: u64, left_open: u64) -> usize
     ensures puts { Puts line.old 0 line.new result (totals items bytes left_open) }

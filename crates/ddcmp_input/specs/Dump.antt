@@ -1,5 +1,6 @@
--- What is made of the bytes of a dump: a digit of data stays, a line that is none of a dump is
--- question marks, and all else is blank. By the place in its line at which each byte stands.
+-- What a dump is turned into: digits of data are kept, a line that isn't one of a dump becomes
+-- question marks, and everything else becomes blanks. This depends on the place of each byte in its
+-- line.
 use Rattle.std.specs.Prelude.{ℕ, ◌+◌, ◌-◌, ◌^◌, min, Bool, true, false, ◌==◌, ◌||◌, if◌then◌else◌}
 use Rattle.std.specs.Prelude.{nat_lt}
 use Rattle.std.specs.Prelude.{List, [], ◌∷◌}
@@ -25,7 +26,7 @@ kind_of_byte c =
     else if c == 13 then kind.Return
     else kind.Other
 
--- a line begins with its address, or is empty
+-- A line begins with its address, or is empty.
 abbrev pub start_then : Kind → Place
 start_then kind.Digit = Address 1
 start_then kind.LineFeed = Start
@@ -33,7 +34,7 @@ start_then kind.Return = Return
 start_then kind.Star = LeftOut
 start_then _ = Refused
 
--- after the address stands a colon in a dump of `xxd`, else blanks; or nothing
+-- After the address there is a colon in a dump of `xxd`, else blanks; or nothing.
 abbrev pub past_address : Kind → Place
 past_address kind.Colon = Colon
 past_address kind.Blank = Blanks
@@ -41,12 +42,12 @@ past_address kind.LineFeed = Start
 past_address kind.Return = Return
 past_address _ = Refused
 
--- an address has six to fifteen digits, since sixteen are a frame
+-- An address has 6 to 15 digits (16 would be a frame).
 abbrev pub address_then : ℕ → Kind → Place
 address_then count kind.Digit = if nat_lt count 15 then Address (count + 1) else Refused
 address_then count k = if nat_lt count 6 then Refused else past_address k
 
--- blanks stand in front of each byte, and of the bar in front of the text
+-- Each byte is preceded by blanks, and so is the bar before the text.
 abbrev pub blanks_then : Kind → Place
 blanks_then kind.Digit = High
 blanks_then kind.Blank = Blanks
@@ -60,7 +61,7 @@ abbrev pub half_then : Kind → Place → Place
 half_then kind.Digit on_digit = on_digit
 half_then _ on_digit = Refused
 
--- where the bytes are whole
+-- after a place at which no byte is incomplete
 abbrev pub whole_then : Kind → Place → Place → Place
 whole_then kind.Digit on_blank on_digit = on_digit
 whole_then kind.Blank on_blank on_digit = on_blank
@@ -72,13 +73,13 @@ abbrev pub text_then : Kind → Place
 text_then kind.LineFeed = Start
 text_then _ = Text
 
--- CR stands before LF alone
+-- A CR is allowed only before LF.
 abbrev pub return_then : Kind → Place
 return_then kind.LineFeed = Start
 return_then _ = Refused
 
--- In a dump of `xxd` a group has one byte or two, and two blanks in a row end the data. From a line
--- that is none on nothing more is read.
+-- In a dump of `xxd` a group has one or two bytes, and two blanks in a row end the data. After a
+-- line that isn't one of a dump nothing more is read.
 abbrev pub place_of_kind : Place → Kind → Place
 place_of_kind Start k = start_then k
 place_of_kind (Address count) k = address_then count k
@@ -113,11 +114,11 @@ blank_at Refused = 63
 blank_at LeftOut = 63
 blank_at _ = 32
 
--- what is made of the byte that stands at a place
+-- what a byte at a place becomes
 unfoldable pub shown_at : Place → ℕ → ℕ
 shown_at place byte = if is_data_at place then byte else blank_at place
 
--- the same of bytes one after another, and the place of the last
+-- what bytes become, one after another; and the place after them
 unfoldable pub shown_from : Place → List ℕ → List ℕ
 shown_from place [] = []
 shown_from place (byte ∷ rest) =
@@ -127,22 +128,22 @@ unfoldable pub place_from : Place → List ℕ → Place
 place_from place [] = place
 place_from place (byte ∷ rest) = place_from (place_after place byte) rest
 
--- a line that is over, as each accepted LF is at its end, is counted
+-- A line is counted when its LF is accepted.
 abbrev pub line_at : Place → ℕ → ℕ
 line_at Start line = min (line + 1) (2 ^ 64 - 1)
 line_at _ line = line
 
--- the number of the line at its end, if bytes begin in the line of that number
+-- the line number after some bytes, of which the first is in line `line`
 unfoldable pub line_from : Place → ℕ → List ℕ → ℕ
 line_from place line [] = line
 line_from place line (byte ∷ rest) =
     line_from (place_after place byte) (line_at (place_after place byte) line) rest
 
--- a text of a dump, with all blank but the digits of its data
+-- the text of a dump, with everything but the digits of its data replaced
 abbrev pub shown : List ℕ → List ℕ
 shown text = shown_from Start text
 
--- where reading a dump stands: in its line of this number, from 1
+-- the state of reading a dump: the place in the line, and the number of the line, from 1
 pub record DumpView : Type 0 where
   pub place : Place
   pub line : ℕ
@@ -156,7 +157,7 @@ dump_after v text = record {
   line = line_from v.place v.line text;
 }
 
--- why the line that is read is none
+-- why the current line isn't one of a dump
 abbrev pub not_dumped : DumpView → NotDumped
 not_dumped v = not_dumped_at v.place v.line
   where

@@ -1,4 +1,4 @@
--- Messages in hexadecimal, one in a line.
+-- Messages in hexadecimal, one a line.
 use Rattle.std.specs.Prelude.{ℕ, ◌+◌, Bool, true, false, ◌==◌, ◌&&◌, nat_le, min, if◌then◌else◌}
 use Rattle.std.specs.Prelude.{List, []}
 use Rattle.std.specs.Prelude.{◌∷◌, ◌++◌, length, Option, Some, None, option_to_list, Result, Ok}
@@ -8,9 +8,9 @@ use Rattle.hex.specs.declared.FromHexError.{FromHexError}
 use Rattle.ddcmp_input.specs.declared.entry.Entry.{Entry}
 use Rattle.ddcmp_input.specs.declared.entry.Entry.TheVariants.{Message, NotHexadecimal, TooLong}
 
--- The longest message; the number of the line, from 1; a digit whose second one is to come; why the
--- line is none; whether it is over; whether a carriage return came last, which a line feed takes
--- with it; and the bytes that its digits spell.
+-- The maximum length of a message; the line number, from 1; a first digit without its second; why
+-- the line is refused, if it is; whether it has ended; whether the last byte was a CR, which
+-- belongs to the line's end if LF follows; and the bytes decoded so far.
 pub record HexView : Type 0 where
   pub max : ℕ
   pub number : ℕ
@@ -42,7 +42,7 @@ line_begun v = record {
   message = [];
 }
 
--- the byte that two digits spell
+-- the byte that two digits encode
 abbrev pub first_byte : List ℕ → Option ℕ
 first_byte [] = None
 first_byte (byte ∷ rest) = Some byte
@@ -54,7 +54,7 @@ first_of_ok (Err e) = None
 unfoldable pub byte_of_digits : ℕ → ℕ → Option ℕ
 byte_of_digits high low = first_of_ok (decode_sized (high ∷ low ∷ []) 1)
 
--- a byte more of a line
+-- one more byte of a line
 abbrev pub after_spelled : Option ℕ → HexView → HexView
 after_spelled None v = record v { high = None; refused = Some NotHexadecimal }
 after_spelled (Some byte) v =
@@ -66,7 +66,7 @@ abbrev pub after_second : Option ℕ → ℕ → HexView → HexView
 after_second None digit v = record v { high = Some digit }
 after_second (Some high) digit v = after_spelled (byte_of_digits high digit) v
 
--- a digit of a line: of one that is none already nothing more is read
+-- A digit of a line. After the line is refused, nothing more is read.
 abbrev pub after_digit_in : Option Entry → ℕ → HexView → HexView
 after_digit_in None digit v = after_second v.high digit v
 after_digit_in (Some why) digit v = v
@@ -90,7 +90,7 @@ entry_of_line_in (Some why) v = Some why
 abbrev pub entry_of_line : HexView → Option Entry
 entry_of_line v = entry_of_line_in v.refused v
 
--- the line is `?` alone
+-- the line consists of `?` only
 abbrev pub is_mark : Option ℕ → Bool
 is_mark None = false
 is_mark (Some digit) = digit == 63
@@ -98,11 +98,11 @@ is_mark (Some digit) = digit == 63
 abbrev pub is_question : HexView → Bool
 is_question v = is_mark v.high && (length v.message == 0)
 
--- a byte of the input, and what it completes
+-- the state for a byte, which begins the next line if this one has ended
 abbrev pub in_line : HexView → HexView
 in_line v = if v.ended then line_begun v else v
 
--- a carriage return that no line feed follows is a character of its line
+-- A CR that isn't followed by LF is a character of its line.
 abbrev pub return_taken : HexView → HexView
 return_taken v = if v.returned then after_digit 13 (record v { returned = false }) else v
 

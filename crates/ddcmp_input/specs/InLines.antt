@@ -1,4 +1,4 @@
--- What an input in hexadecimal means: a message in each line.
+-- The meaning of an input in hexadecimal: one message a line.
 use Rattle.std.specs.Prelude.{◌≡◌, ℕ, ◌+◌, ◌≤◌, Bool, if◌then◌else◌, min, List, [], ◌∷◌, ◌++◌}
 use Rattle.std.specs.Prelude.{length, map, option_to_list, Some}
 use Rattle.ddcmp_input.specs.HexLines.{HexView, begun, byte_of_digits, after_byte, entry_of_byte}
@@ -15,11 +15,11 @@ unfoldable pub told_in : List ℕ → HexView → List (ℕ × Told)
 told_in [] v = []
 told_in (byte ∷ rest) v = told_by_byte byte v ++ told_in rest (after_byte byte v)
 
--- the line of this number begins
+-- the state at the beginning of the line of this number
 abbrev pub line_at : ℕ → ℕ → HexView
 line_at max number = record (begun max) { number = number }
 
--- the number of the line after it
+-- the number of the next line
 abbrev pub next_number : ℕ → ℕ
 next_number number = min (number + 1) 18446744073709551615
 
@@ -30,7 +30,7 @@ carriage returns = if returns then 13 ∷ [] else []
 abbrev pub line_end : Bool → List ℕ
 line_end returns = carriage returns ++ 10 ∷ []
 
--- these digits, of either case, spell these bytes, two a byte
+-- these digits, of either case, encode these bytes, two digits a byte
 abbrev pub Spells : List ℕ → List ℕ → Type 0
 Spells [] [] = Unit {0}
 Spells [] (byte ∷ message) = ⊥
@@ -39,12 +39,12 @@ Spells (high ∷ low ∷ digits) [] = ⊥
 Spells (high ∷ low ∷ digits) (byte ∷ message) =
     (byte_of_digits high low ≡ Some byte) × Spells digits message
 
--- neither this line nor, if a CR ends it, the line without that spells bytes, at most this many
+-- Neither this line nor, if it ends with CR, the line without that encodes at most `max` bytes.
 abbrev pub IsNone : ℕ → List ℕ → Type 0
 IsNone max line = (digits message : List ℕ) (returns : Bool) → line ≡ digits ++ carriage returns
     → Spells digits message → length message ≤ max → ⊥
 
--- digits and the message that they spell, of which there may be this many bytes
+-- digits, and the message that they encode, which may be empty
 pub record Line : Type 0 where
   pub digits : List ℕ
   pub message : List ℕ
@@ -53,7 +53,7 @@ pub record IsLine (max : ℕ) (line : Line) : Type 0 where
   pub spells : Spells line.digits line.message
   pub fits : Fits max line.message
 
--- lines written one after another, and what is reported of them from this number on
+-- lines, one after another; and what is reported of them, the first having this number
 unfoldable pub in_lines : Bool → List Line → List ℕ
 in_lines returns [] = []
 in_lines returns (line ∷ rest) = line.digits ++ (line_end returns ++ in_lines returns rest)

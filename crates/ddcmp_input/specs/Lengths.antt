@@ -7,7 +7,7 @@ use Rattle.ddcmp_input.specs.declared.entry.Entry.TheVariants.{Message, TooLong,
 use Rattle.ddcmp_input.specs.declared.lengths.Place.{Place}
 use Rattle.ddcmp_input.specs.declared.lengths.Place.TheVariants.{Start, Half, Inside, Passing}
 
--- the longest message, where the next byte stands, and the bytes of the message so far
+-- the maximum length of a message, the place of the next byte, and the bytes of the message so far
 pub record LengthsView : Type 0 where
   pub max : ℕ
   pub place : Place
@@ -16,18 +16,18 @@ pub record LengthsView : Type 0 where
 abbrev pub begun : ℕ → LengthsView
 begun max = record { max = max; place = Start; message = [] }
 
--- a length or a message has begun, and its end is to come
+-- a length or a message is incomplete
 abbrev pub is_unfinished : Place → Bool
 is_unfinished (Half high) = true
 is_unfinished (Inside left) = true
 is_unfinished _ = false
 
--- what is to come of a message has room
+-- there is room for the rest of the message
 abbrev pub HasRoom : Place → ℕ → ℕ → Type 0
 HasRoom (Inside left) held capacity = (0 < left) × (held + left ≤ capacity)
 HasRoom _ held capacity = Unit {0}
 
--- a message of no bytes, or longer than the longest, is refused and its bytes are skipped
+-- An empty message, or one longer than the maximum, is refused, and its bytes are skipped.
 abbrev pub is_refused : ℕ → ℕ → Bool
 is_refused max length = (length == 0) || nat_lt max length
 
@@ -40,7 +40,7 @@ after_length length v =
     then record v { place = place_before length }
     else record v { place = Inside length; message = [] }
 
--- the last byte of a message, or of one that is skipped, stands before the next length
+-- the next byte is the last one of a message, or of one that is skipped
 abbrev pub is_last : ℕ → Bool
 is_last left = nat_le left 1
 

@@ -1,16 +1,16 @@
-//! A dump that comes in pieces.
+//! A dump that is read in chunks.
 ghost use Rattle.std.specs.Prelude.{◌≡◌};
 
 use crate::place::Place;
 use std::marker::Model;
 use thiserror::Error;
 
-/// Why a line is none of a dump, with its number from 1.
+/// Why a line isn't one of a dump, with its number from 1.
 #[derive(Clone, Copy, Debug, PartialEq, Eq, Error)]
 pub enum NotDumped {
     #[error("line {0}: not a line of a dump")]
     NotALine(u64),
-    /// `hexdump` and `od` write a `*` for lines that are like the one before them.
+    /// `hexdump` and `od` write `*` for lines that repeat the one before them.
     #[error("line {0}: repeated lines left out (*): dump with -v")]
     Star(u64),
 }
@@ -33,7 +33,7 @@ impl Model for Dump {
 impl Dump {
     ghost use Rattle.ddcmp_input.specs.Dump.{dump_after, dump_begun, not_dumped, shown_from};
 
-    /// At the first line.
+    /// Returns the state before the first line.
     pub fn new() -> Self
         ensures { result ≡ dump_begun }
     {
@@ -43,8 +43,8 @@ impl Dump {
         }
     }
 
-    /// Takes a piece, and makes all of it blank but the digits of data. From a line on that is none
-    /// of a dump all is question marks.
+    /// Takes a chunk, and replaces everything but the digits of data by blanks. From a line on that
+    /// isn't one of a dump, everything becomes question marks.
     pub fn blank(&mut self, piece: &mut [u8])
         ensures shown { piece.new ≡ shown_from self.old.place piece.old }
         ensures state { self.new ≡ dump_after self.old piece.old }
@@ -56,7 +56,7 @@ impl Dump {
         }
     }
 
-    /// Returns why the line that is read is none.
+    /// Returns why the current line isn't one of a dump.
     pub fn not_dumped(&self) -> NotDumped
         ensures { result ≡ not_dumped self.now }
     {

@@ -7,16 +7,16 @@ pub enum Entry {
     Message,
     /// A line that isn't hexadecimal: another character, or an odd number of digits.
     NotHexadecimal,
-    /// A message that is longer than the longest.
+    /// A message longer than the maximum.
     TooLong,
-    /// In binary, a message of no bytes.
+    /// In binary, an empty message.
     Empty,
 }
 
-/// What came of a piece of the input.
+/// The result for a chunk of the input.
 #[derive(Clone, Copy, PartialEq, Eq)]
 pub struct Pushed {
-    /// How many bytes were used. The caller pushes the rest.
+    /// How many bytes were used. The caller has to push the others again.
     pub used: usize,
     /// What the last of these bytes completed. Without one all bytes were used.
     pub entry: Option<Entry>,

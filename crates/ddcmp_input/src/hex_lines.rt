@@ -1,4 +1,4 @@
-//! Messages in hexadecimal, one in a line.
+//! Messages in hexadecimal, one a line.
 ghost use Rattle.std.specs.Prelude.{◌≡◌};
 ghost use Rattle.ddcmp_input.specs.HexLines.{byte_of_digits};
 
@@ -6,20 +6,20 @@ use crate::entry::{Entry, Pushed};
 use std::alloc::{AllocError, Global};
 use std::marker::Model;
 
-/// Takes messages of an input that has each in a line of hexadecimal digits. An empty line is none.
-/// A line ends with LF, or with CR LF.
+/// Parses an input with one message a line, in hexadecimal digits. An empty line isn't a message. A
+/// line ends with LF, or with CR LF.
 #[derive(Drop)]
 pub struct HexLines {
     max: u16,
     /// The number of the line, from 1.
     number: u64,
-    /// A digit whose second one is to come.
+    /// A first digit without its second.
     high: Option<u8>,
-    /// Why the line is none.
+    /// Why the line is refused, if it is.
     refused: Option<Entry>,
-    /// The line is over.
+    /// Whether the line has ended.
     ended: bool,
-    /// A carriage return came last: part of the line's end if a line feed follows.
+    /// Whether the last byte was a CR, which is part of the line's end if LF follows.
     returned: bool,
     message: Vec<u8>,
 }
@@ -51,7 +51,7 @@ impl HexLines {
     ghost use Rattle.ddcmp_input.specs.HexLines.{entry_of_byte, after_bytes, entries_of_bytes};
     ghost use Rattle.ddcmp_input.specs.HexLines.{is_question};
 
-    /// Nothing has come. It takes all the memory that it will need.
+    /// Makes a parser that has read nothing. It allocates all memory that it will need.
     pub fn new(alloc: Global, max: u16) -> Result<HexLines, AllocError>
         ensures { IfOk result (λ made. made ≡ begun max) }
     {
@@ -114,7 +114,7 @@ impl HexLines {
         Some(Entry::Message)
     }
 
-    /// A carriage return that no line feed follows is a character of the line.
+    /// Takes a CR that isn't followed by LF as a character of the line.
     fn take_return(&mut self)
         ensures { self.new ≡ return_taken self.old }
     {
@@ -149,10 +149,10 @@ impl HexLines {
         }
     }
 
-    /// Takes bytes of a piece, up to the first that completes something.
+    /// Takes bytes of a chunk, up to the first that completes something.
     pub fn push_all(&mut self, piece: &[u8]) -> Pushed
         ensures used { result.used ≤ length piece.now }
-        // The last byte used completed it, and no byte before it completed anything.
+        // The last byte that was used completed it, and no byte before that completed anything.
         ensures first { (n : ℕ) (entry : Entry) → result.entry ≡ Some entry → result.used ≡ n + 1
             → entries_of_bytes (take n piece.now) self.old ≡ [] }
         ensures whole { result.entry ≡ None → result.used ≡ length piece.now }
@@ -182,7 +182,7 @@ impl HexLines {
         &self.message
     }
 
-    /// Returns whether the line is `?` alone, which is no message.
+    /// Returns whether the line consists of `?` only, which isn't a message.
     pub fn is_question(&self) -> bool
         ensures { result ≡ is_question self.now }
     {
@@ -200,7 +200,7 @@ impl HexLines {
     }
 }
 
-/// The byte that two digits spell.
+/// Returns the byte that two digits encode.
 #[tactic(auto, unfolding(crate::specs::HexLines::byte_of_digits))]
 fn byte_in(high: u8, low: u8) -> Option<u8>
     ensures { result ≡ byte_of_digits high low }

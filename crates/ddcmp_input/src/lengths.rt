@@ -5,20 +5,20 @@ use crate::entry::{Entry, Pushed};
 use std::alloc::{AllocError, Global};
 use std::marker::Model;
 
-/// Where in the input the next byte stands.
+/// The place of the next byte in the input.
 #[derive(Clone, Copy)]
 pub enum Place {
     /// Before a length.
     Start,
     /// After its high byte.
     Half(u8),
-    /// In a message of which this many bytes are to come.
+    /// In a message, with this many bytes left.
     Inside(u16),
-    /// In one that is skipped.
+    /// In a message that is skipped, with this many bytes left.
     Passing(u16),
 }
 
-/// Takes messages of an input that has each after its length as two bytes, the high one first.
+/// Parses an input with each message after its length as two bytes, the high one first.
 #[derive(Drop)]
 pub struct Lengths {
     max: u16,
@@ -45,7 +45,7 @@ impl Lengths {
     ghost use Rattle.ddcmp_input.specs.Lengths.{after_byte, entry_of_byte, after_bytes};
     ghost use Rattle.ddcmp_input.specs.Lengths.{entries_of_bytes, is_unfinished};
 
-    /// Nothing has come. It takes all the memory that it will need.
+    /// Makes a parser that has read nothing. It allocates all memory that it will need.
     pub fn new(alloc: Global, max: u16) -> Result<Lengths, AllocError>
         ensures { IfOk result (λ made. made ≡ begun max) }
     {
@@ -56,7 +56,7 @@ impl Lengths {
         })
     }
 
-    /// Takes a byte: what it completes.
+    /// Takes a byte; returns what it completes.
     pub fn push(&mut self, byte: u8) -> Option<Entry>
         ensures state { self.new ≡ after_byte byte self.old }
         ensures entry { result ≡ entry_of_byte byte self.old }
@@ -91,7 +91,7 @@ impl Lengths {
         }
     }
 
-    /// A message of this length begins.
+    /// Begins a message of this length.
     fn begin(&mut self, length: u16) -> Option<Entry>
         ensures state { self.new ≡ after_length length self.old }
         ensures entry { result ≡ entry_of_length length self.old.max }
@@ -109,10 +109,10 @@ impl Lengths {
         None
     }
 
-    /// Takes bytes of a piece, up to the first that completes something.
+    /// Takes bytes of a chunk, up to the first that completes something.
     pub fn push_all(&mut self, piece: &[u8]) -> Pushed
         ensures used { result.used ≤ length piece.now }
-        // The last byte used completed it, and no byte before it completed anything.
+        // The last byte that was used completed it, and no byte before that completed anything.
         ensures first { (n : ℕ) (entry : Entry) → result.entry ≡ Some entry → result.used ≡ n + 1
             → entries_of_bytes (take n piece.now) self.old ≡ [] }
         ensures whole { result.entry ≡ None → result.used ≡ length piece.now }
@@ -134,8 +134,8 @@ impl Lengths {
         Pushed { used, entry: None }
     }
 
-    /// Takes the bytes of a piece that are at one place: a byte of a length, or what there is of a
-    /// message.
+    /// Takes the bytes of a chunk up to the next place: a byte of a length, or as much as there is
+    /// of a message.
     fn push_part(&mut self, piece: &[u8]) -> Pushed
         requires { 0 < length piece.now }
         ensures some { 0 < result.used }
@@ -155,7 +155,7 @@ impl Lengths {
         }
     }
 
-    /// Takes what there is of a message, of which this many bytes are to come.
+    /// Takes as much as there is of a message, of which this many bytes are left.
     fn push_within(&mut self, piece: &[u8], left: u16) -> Pushed
         requires place { self.old.place ≡ Place.Inside left }
         requires some { 0 < length piece.now }
@@ -183,15 +183,15 @@ impl Lengths {
         }
     }
 
-    /// Returns the message that came last, if the last byte completed it.
+    /// Returns the last message, if the last byte completed it.
     pub fn message(&self) -> &[u8]
         ensures { result.now ≡ self.now.message }
     {
         &self.message
     }
 
-    /// Returns whether a length or a message has begun whose end is to come: if the input ends
-    /// here, it is cut off. The rest of a refused message is skipped, and isn't unfinished.
+    /// Returns whether a length or a message is incomplete: if the input ends here, it is
+    /// truncated. The rest of a refused message is skipped, and doesn't count.
     pub fn is_unfinished(&self) -> bool
         ensures { result ≡ is_unfinished self.now.place }
     {

@@ -1,7 +1,7 @@
-//! The input of a program, read without a device, cut in any way. `HexLines` and `Lengths`
-//! read messages: a line of hexadecimal digits each, or each after its length as two bytes. `Dump`
-//! reads dumps of bytes, as `hexdump -C`, `xxd` and `od -A x -t x1` write them: it makes all blank
-//! but the digits of the data, piece by piece, and reports lines in another form by their numbers.
+//! Parses the input of a program, in chunks of any size, without I/O. `HexLines` and `Lengths` read
+//! messages: one a line in hexadecimal digits, or each after its length as two bytes. `Dump` reads
+//! dumps of bytes, as `hexdump -C`, `xxd` and `od -A x -t x1` write them: it replaces everything
+//! but the digits of the data by blanks, chunk by chunk, and reports other lines by their numbers.
 //!
 //!     let mut dump = Dump::new();
 //!     dump.blank(&mut piece);   // "00000000  61 62  |ab|\n" is "          61 62       \n" now

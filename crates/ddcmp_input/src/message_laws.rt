@@ -1,4 +1,4 @@
-//! Laws of messages: functions that do nothing.
+//! Laws of messages: functions without an effect.
 ghost use Rattle.std.specs.Prelude.{◌≡◌, ◌≢◌, ℕ, ◌<◌, Bool, List, [], ◌∷◌, ◌++◌, length, map};
 ghost use Rattle.std.specs.List.{All};
 ghost use Rattle.hex.specs.Hex.{encode_lower, encode_upper, IsBytes};
@@ -16,7 +16,8 @@ ghost use Rattle.ddcmp_input.specs.InLines.{told_in as told_in_lines, line_at, n
 ghost use Rattle.ddcmp_input.specs.InLines.{line_end, Spells, IsNone, Line, IsLine, in_lines};
 ghost use Rattle.ddcmp_input.specs.InLines.{messages_of};
 
-/// A piece of an input is as good as its parts, one after another: where it is cut doesn't matter.
+/// A chunk of an input has the effect of its parts, one after another: it doesn't matter where the
+/// input is cut.
 pub fn pieces()
     ensures lengths { (u w : List ℕ) (v : LengthsView)
         → (after_bytes (u ++ w) v ≡ after_bytes w (after_bytes u v))
@@ -28,8 +29,9 @@ pub fn pieces()
         ≡ entries_of_digits u v ++ entries_of_digits w (after_digits u v)) }
 {}
 
-/// What bytes mean is what `push_all` returns of them, with the message that is held then: nothing
-/// if nothing is completed, and what the last byte completes. It doesn't matter where they are cut.
+/// The meaning of bytes is what `push_all` returns for them, with the message that is then
+/// complete: nothing if nothing is completed, and else what the last byte completes. It doesn't
+/// matter where the input is cut.
 pub fn told_is_answered()
     ensures cut { (u w : List ℕ) (v : LengthsView)
         → told_in (u ++ w) v ≡ told_in u v ++ told_in w (after_bytes u v) }
@@ -43,9 +45,9 @@ pub fn told_is_answered()
         × (told_in_lines (u ++ byte ∷ []) v ≡ told_by_digit byte (after_digits u v)) }
 {}
 
-/// Between two messages in binary: a message after its length yields that message, and messages one
-/// after another yield these in their order, and nothing else. One of no bytes, or longer than the
-/// longest, is refused, and what follows is read as if it hadn't been there.
+/// Between two messages in binary: a message after its length yields that message; messages one
+/// after another yield these in order, and nothing else. An empty message, or one longer than the
+/// maximum, is refused, and what follows is read as if it hadn't been there.
 pub fn binary_messages()
     ensures message { (message rest : List ℕ) (v : LengthsView)
         → v.place ≡ Start → Fits v.max message
@@ -61,10 +63,10 @@ pub fn binary_messages()
         → told_in (behind_length message ++ rest) v ≡ Refused TooLong ∷ told_in rest v }
 {}
 
-/// At the beginning of a line: the digits of a message and a line end, LF or CR LF, yield that
-/// message with the number of the line, and lines one after another yield their messages in order,
-/// and nothing else. An empty line yields nothing. A line that is no message yields one refusal
-/// with its number. After each the next line begins. The digits are those of either case.
+/// At the beginning of a line: the digits of a message, of either case, and a line end, LF or CR
+/// LF, yield that message with the number of the line. Lines one after another yield their messages
+/// in order, and nothing else. An empty line yields nothing. A line that isn't a message yields one
+/// refusal with its number. After each, the next line begins.
 pub fn messages_in_lines()
     ensures line { (digits message rest : List ℕ) (returns : Bool) (max number : ℕ)
         → Spells digits message → Fits max message

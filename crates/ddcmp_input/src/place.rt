@@ -6,10 +6,10 @@ ghost use Rattle.ddcmp_input.specs.Dump.{start_then, text_then, whole_then, plac
 ghost use Rattle.ddcmp_input.specs.Dump.{place_of_kind};
 ghost use Rattle.ddcmp_input.specs.Dump.{is_data_at, kind_of_byte, line_at, shown_at};
 
-/// The place in a line of a dump of the byte that was taken last.
+/// The place in a line of a dump of the last byte.
 #[derive(Clone, Copy)]
 pub enum Place {
-    /// Nothing of the line was taken.
+    /// At the beginning of the line.
     Start,
     /// At this digit of the address, from 1.
     Address(u8),
@@ -17,7 +17,7 @@ pub enum Place {
     Blanks,
     /// At the first digit of a byte.
     High,
-    /// At the second.
+    /// At the second digit of a byte.
     Low,
     /// At the colon after an address of `xxd`.
     Colon,
@@ -30,15 +30,15 @@ pub enum Place {
     Fourth,
     /// In the column of text.
     Text,
-    /// At a CR, which stands before an LF alone.
+    /// At a CR, which is allowed only before LF.
     Return,
-    /// The line is none of a dump.
+    /// The line isn't one of a dump.
     Refused,
-    /// The line begins with a `*`, which stands for lines that were left out.
+    /// The line begins with `*`, which stands for omitted lines.
     LeftOut,
 }
 
-/// What a byte is to a dump.
+/// The kind of a byte in a dump.
 #[derive(Clone, Copy)]
 pub(crate) enum Kind {
     Digit,
@@ -76,7 +76,7 @@ fn kind_of(byte: u8) -> Kind
 }
 
 impl Place {
-    /// Returns the place of a byte more.
+    /// Returns the place of one more byte.
     #[inline(always)]
     #[tactic(auto, unfolding(crate::specs::Dump::place_after))]
     pub(crate) fn after(self, byte: u8) -> Place
@@ -108,7 +108,7 @@ impl Place {
         }
     }
 
-    /// Returns the number of the line, once a byte came here: a line that is over is counted.
+    /// Returns the line number after a byte at this place: a line that has ended is counted.
     #[inline(always)]
     pub(crate) fn count(self, line: u64) -> u64
         ensures { result ≡ line_at self line }
@@ -119,7 +119,7 @@ impl Place {
         }
     }
 
-    /// Returns whether a digit of data stands here.
+    /// Returns whether the byte at this place is a digit of data.
     #[inline(always)]
     fn is_data(self) -> bool
         ensures { result ≡ is_data_at self }
@@ -135,8 +135,8 @@ impl Place {
         }
     }
 
-    /// Returns what a byte here becomes: a digit of data stays, a line that is none of a dump
-    /// becomes question marks, and all else is blank.
+    /// Returns what a byte at this place becomes: digits of data are kept, a line that isn't one of
+    /// a dump becomes question marks, and everything else becomes blanks.
     #[inline(always)]
     #[tactic(auto, unfolding(crate::specs::Dump::shown_at))]
     pub(crate) fn shown(self, byte: u8) -> u8
@@ -214,7 +214,7 @@ fn in_blanks(kind: Kind) -> Place
     }
 }
 
-/// Returns the place after one at which the second digit of a byte is to come.
+/// Returns the place after the first digit of a byte, if the second is at `second`.
 #[inline(always)]
 fn at_half(kind: Kind, second: Place) -> Place
     ensures { result ≡ half_then kind second }
@@ -225,8 +225,8 @@ fn at_half(kind: Kind, second: Place) -> Place
     }
 }
 
-/// Returns the place after one at which the bytes are whole: a blank, a digit or the end of the
-/// line may come.
+/// Returns the place after one at which no byte is incomplete: a blank, a digit or the end of the
+/// line may follow.
 #[inline(always)]
 fn at_whole(kind: Kind, blank: Place, digit: Place) -> Place
     ensures { result ≡ whole_then kind blank digit }

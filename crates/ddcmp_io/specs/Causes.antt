@@ -1,4 +1,4 @@
--- The system's errors in words.
+-- The texts of the system's errors.
 use Rattle.std.specs.Prelude.{ℕ, List, codes}
 use Rattle.std.specs.declared.io.ErrorKind.{ErrorKind}
 use Rattle.std.specs.declared.io.ErrorKind.TheVariants as kind
@@ -22,7 +22,7 @@ cause_words kind.InvalidInput = codes "not an address"
 cause_words kind.OutOfMemory = codes "out of memory"
 cause_words _ = codes "it can't be opened"
 
--- why a line that was open has failed; a device that is gone fails by a code of its own
+-- Why an open line failed. A device that is gone has an error code of its own.
 abbrev pub failure_words : ErrorKind → List ℕ
 failure_words kind.BrokenPipe = codes "broken pipe"
 failure_words kind.ConnectionRefused = cause_words kind.ConnectionRefused

@@ -1,9 +1,9 @@
--- What a call did to its devices.
+-- The effect of a call on its devices.
 use Rattle.std.specs.Prelude.{Bool}
 use Rattle.ddcmp_io.specs.Written.{Known}
 use Rattle.ddcmp_io.specs.declared.device.Worst.{Worst}
 
--- what a source had to give and has yet to give, if that is known, and how it stands
+-- the bytes that a source had and has left, if known, and its state
 pub record SourceChange : Type 0 where
   pub before : Known
   pub after : Known
@@ -12,7 +12,7 @@ pub record SourceChange : Type 0 where
 abbrev pub source_change : Known → Known → Worst → SourceChange
 source_change before after state = record { before = before; after = after; state = state }
 
--- what a sink held and holds, if that is known, and whether a write has failed
+-- the bytes that a sink held and holds, if known, and whether a write failed
 pub record SinkChange : Type 0 where
   pub before : Known
   pub after : Known

@@ -1,11 +1,10 @@
--- What contracts see of the devices over memory that tests use.
+-- What contracts see of the devices in memory for tests.
 use Rattle.std.specs.Prelude.{ℕ, ◌-◌, ◌^◌, Bool, false, List, []}
 use Rattle.ddcmp_io.specs.declared.device.Worst.{Worst}
 use Rattle.ddcmp_io.specs.declared.device.Worst.TheVariants.{Fine}
 
--- A source over pieces: the bytes that are left and the worst answer so far; how many reads were
--- counted, the most bytes that one gives, and which of them is idle and which fails, if 0 is
--- none.
+-- A source over chunks: the bytes that are left and the worst status so far; how many reads there
+-- were, the maximum number of bytes of a read, and which read is idle and which fails (0 for none).
 pub record PiecesView : Type 0 where
   pub left : List ℕ
   pub worst : Worst
@@ -14,7 +13,7 @@ pub record PiecesView : Type 0 where
   pub idle_at : ℕ
   pub fails_at : ℕ
 
--- a source of these bytes that was asked for nothing: its reads have no bound, and none fails
+-- a source of these bytes before any read: its reads have no maximum, and none fails
 abbrev pub pieces_of : List ℕ → PiecesView
 pieces_of bytes = record {
   left = bytes;
@@ -25,9 +24,8 @@ pieces_of bytes = record {
   fails_at = 0;
 }
 
--- A sink over an array: the bytes that it keeps and whether a write has failed; how many writes
--- were counted, how many bytes have room, the most that one write takes, and which of them fails,
--- if 0 is none.
+-- A sink over an array: the bytes that it holds and whether a write failed; how many writes there
+-- were, how many bytes fit, the maximum of a write, and which write fails (0 for none).
 pub record TakenView : Type 0 where
   pub bytes : List ℕ
   pub broken : Bool
@@ -36,7 +34,7 @@ pub record TakenView : Type 0 where
   pub most : ℕ
   pub fails_at : ℕ
 
--- a sink with this room that took nothing and was asked for nothing
+-- a sink for `room` bytes before any write
 abbrev pub taken_nothing : ℕ → TakenView
 taken_nothing room = record {
   bytes = [];

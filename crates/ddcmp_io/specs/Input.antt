@@ -1,4 +1,4 @@
--- How much a source has given.
+-- How many bytes a source has returned.
 use Rattle.std.specs.Prelude.{◌≡◌, ℕ, ◌+◌, ◌-◌, ◌≤◌, ◌^◌, length, Some, None, ⊤}
 use Rattle.ddcmp_io.specs.Written.{Known}
 use Rattle.ddcmp_io.specs.declared.device.Got.{Got}

@@ -2,8 +2,8 @@
 use Rattle.std.specs.Prelude.{ℕ, ◌+◌, ◌-◌, ◌/◌, Bool, false, ◌==◌, nat_le, nat_lt}
 use Rattle.std.specs.Prelude.{if◌then◌else◌, List, [], ◌++◌, length, take, drop}
 
--- How many bytes it has room for when it is empty, the queued bytes, for how many more there is
--- room, and whether some text found none.
+-- How many bytes fit into the empty queue, the queued bytes, how many more fit, and whether some
+-- text was dropped for lack of room.
 pub record QueueView : Type 0 where
   pub size : ℕ
   pub waiting : List ℕ
@@ -17,7 +17,7 @@ abbrev pub after_pushed : List ℕ → QueueView → QueueView
 after_pushed bytes q =
     record q { waiting = q.waiting ++ bytes; room = q.room - length bytes }
 
--- an empty queue has all of its room
+-- an empty queue, with all of its room
 abbrev pub cleared : QueueView → QueueView
 cleared q = record q { waiting = []; room = q.size }
 
@@ -33,7 +33,7 @@ after_taken_back n q = record q {
   room = if nat_le (length q.waiting) n then q.size else q.room + n;
 }
 
--- what was taken is half of the size or more, and makes room
+-- If the bytes that were taken are half of the size or more, their room is reused.
 abbrev pub room_settled : QueueView → ℕ
 room_settled q =
     if nat_lt (q.size - (q.room + length q.waiting)) (q.size / 2) then q.room

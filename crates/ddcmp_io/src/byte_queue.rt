@@ -7,18 +7,18 @@ use crate::device::Sink;
 use std::alloc::{AllocError, Global};
 use std::marker::Model;
 
-/// A queue of bytes: they are appended at its end and taken from its front, in one piece. It has a
-/// fixed size, and doesn't allocate once it is made.
+/// A queue of bytes: they are appended at its end and removed from its front, and are contiguous.
+/// It has a fixed size, and doesn't allocate after it is made.
 pub struct ByteQueue {
     bytes: Vec<u8>,
     /// How many of them were taken.
     start: usize,
     size: usize,
-    /// Whether some text found no room, and so was dropped.
+    /// Whether some text was dropped for lack of room.
     is_cut: bool,
 }
 
-// Manual, since a derived `Drop` is expanded wherever a queue is dropped.
+// Manual, since a derived `Drop` would be expanded wherever a value is dropped.
 impl Drop for ByteQueue {
     fn drop(self) {
         let ByteQueue {
@@ -67,7 +67,7 @@ impl ByteQueue {
         &self.bytes[self.start..]
     }
 
-    /// Returns for how many more bytes there is room.
+    /// Returns how many more bytes fit.
     pub fn room(&self) -> usize
         ensures value { result ≡ self.now.room }
         ensures most { result + length self.now.waiting ≤ self.now.size }
@@ -76,7 +76,7 @@ impl ByteQueue {
         self.size - self.bytes.len()
     }
 
-    /// Returns whether some text was dropped because it found no room.
+    /// Returns whether some text was dropped for lack of room.
     pub fn is_cut(&self) -> bool
         ensures { result ≡ self.now.is_cut }
     {
@@ -116,7 +116,7 @@ impl ByteQueue {
         self.start = 0;
     }
 
-    /// Drops the last `n` bytes that were appended.
+    /// Removes the last `n` bytes that were appended.
     pub fn take_back(&mut self, n: usize)
         ensures { self.new ≡ after_taken_back n self.old }
     {
@@ -128,7 +128,7 @@ impl ByteQueue {
         }
     }
 
-    /// Makes room if the first half is of bytes that were taken.
+    /// Reuses the room of removed bytes if they are at least half of the buffer.
     pub fn settle(&mut self)
         ensures size { self.new.size ≡ self.old.size }
         ensures waiting { self.new.waiting ≡ self.old.waiting }
@@ -146,7 +146,7 @@ impl ByteQueue {
     }
 }
 
-/// Takes text as far as there is room. A queue that had none has failed.
+/// Takes text as far as there is room. If there is none, the queue counts as failed.
 impl Sink for ByteQueue {
     ghost use Rattle.std.specs.Prelude.{Some};
 

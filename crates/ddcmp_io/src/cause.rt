@@ -1,10 +1,10 @@
-//! The system's errors in words.
+//! The texts of the system's errors.
 ghost use Rattle.std.specs.Prelude.{◌≡◌};
 ghost use Rattle.ddcmp_io.specs.Causes.{cause_words, failure_words};
 
 use std::io::ErrorKind;
 
-/// Returns the system's reason not to open a file, a device or a connection, in words.
+/// Returns the text of an error of opening a file, a device or a connection.
 pub fn words_of(kind: ErrorKind) -> &'static str
     ensures { result.now ≡ cause_words kind }
 {
@@ -28,7 +28,7 @@ pub fn words_of(kind: ErrorKind) -> &'static str
     }
 }
 
-/// Returns the system's reason why a read or a write of an open line failed, in words.
+/// Returns the text of an error of reading or writing an open line.
 pub fn failure_words_of(kind: ErrorKind) -> &'static str
     ensures { result.now ≡ failure_words kind }
 {
@@ -40,7 +40,7 @@ pub fn failure_words_of(kind: ErrorKind) -> &'static str
         | ErrorKind::NetworkUnreachable
         | ErrorKind::TimedOut
         | ErrorKind::OutOfMemory => words_of(kind),
-        // A device that is gone fails by a code of its own.
+        // A device that is gone has an error code of its own.
         _ => "input or output error",
     }
 }

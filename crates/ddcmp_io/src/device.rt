@@ -1,4 +1,4 @@
-//! Where bytes come from and where they go.
+//! Sources and sinks of bytes.
 ghost use Rattle.std.specs.Prelude.{◌≡◌, ◌≢◌, ◌<◌, length, false, true, is_none, List, ℕ, Option};
 ghost use Rattle.std.specs.Prelude.{Bool, is_err};
 ghost use Rattle.ddcmp_io.specs.Device.{got_of_error as got_of_error_kind};
@@ -9,9 +9,9 @@ use std::io::{ErrorKind, Read, Write};
 /// The result of one read.
 #[derive(Clone, Copy, Debug, PartialEq, Eq)]
 pub enum Got {
-    /// This many bytes at the front of the buffer; 0 is the end.
+    /// This many bytes were put into the front of the buffer; 0 is the end.
     Bytes(usize),
-    /// Nothing came yet.
+    /// There is nothing to read yet.
     Idle,
     /// The read failed.
     Failed,
@@ -25,7 +25,7 @@ pub enum Worst {
     Failed,
 }
 
-/// A device that bytes come from. It reports them to contracts if it knows them.
+/// A device that bytes are read from. If the bytes are known, contracts see them.
 pub trait Source {
     ghost use Rattle.std.specs.Prelude.{[], ◌∷◌, None};
     ghost use Rattle.ddcmp_io.specs.declared.device.Got.{Got as GotValue};
@@ -33,13 +33,13 @@ pub trait Source {
     ghost use Rattle.ddcmp_io.specs.declared.device.Worst.TheVariants.{Failed};
     ghost use Rattle.ddcmp_io.specs.Device.{ReadGives, worse, Logs};
 
-    // The bytes that reads will return, if they are known.
+    // The bytes that reads will return, if known.
     ghost left: { Self → Option (List ℕ) };
 
     // The worst status so far.
     ghost state: { Self → WorstValue };
 
-    // The results of its reads, if these are known.
+    // The results of its reads, if known.
     ghost answers: { Self → Option (List GotValue) } = { λ _. None };
 
     /// Reads into the front of `buf`.
@@ -49,23 +49,23 @@ pub trait Source {
         ensures worst { state self.new ≡ worse (state self.old) result }
         ensures answers { Logs (answers self.old) (answers self.new) (result ∷ []) };
 
-    /// The worst status so far.
+    /// Returns the worst status so far.
     fn worst(&self) -> Worst
         ensures { result ≡ state self.now };
 }
 
-/// A device that bytes go to. It reports what it holds to contracts if it knows it.
+/// A device that bytes are written to. If the bytes that it holds are known, contracts see them.
 pub trait Sink {
     ghost use Rattle.ddcmp_io.specs.Device.{WriteTakes};
 
-    // The bytes that the sink holds, if they are known.
+    // The bytes that the sink holds, if known.
     ghost contents: { Self → Option (List ℕ) };
 
     // Whether a write has failed.
     ghost broken: { Self → Bool };
 
-    /// Takes bytes from the front of `bytes`, at least one if there is one, and returns how many;
-    /// None is a write that failed.
+    /// Writes bytes from the front of `bytes`, at least one if there is one, and returns how many;
+    /// None is a failed write.
     fn write(&mut self, bytes: &[u8]) -> Option<usize>
         requires whole { broken self.old ≡ false }
         requires some { 0 < length bytes.now }
@@ -97,12 +97,12 @@ pub fn write_all<W: Sink>(writer: &mut W, bytes: &[u8]) -> Result<(), WriteFaile
     Ok(())
 }
 
-/// Why a line could not be used any further.
+/// Why a line can't be used any further.
 #[derive(Clone, Copy, Debug, PartialEq, Eq)]
 pub enum LineFault {
     /// A read failed.
     Read,
-    /// A write failed. How much of the last frame went out isn't known.
+    /// A write failed. It isn't known how much of the last frame was written.
     Write,
     /// A read returned no bytes: the line ended.
     Ended,
@@ -132,7 +132,7 @@ impl<R> FromRead<R> {
     }
 }
 
-/// Returns what a read that ended in an error of this kind counts as: idle, or a failure.
+/// Returns the result of a read with an error of this kind: idle, or a failure.
 fn got_of_error(kind: ErrorKind) -> Got
     ensures { result ≡ got_of_error_kind kind }
 {
@@ -186,7 +186,7 @@ impl<W> ToWrite<W> {
         }
     }
 
-    /// The writer, with all that was written.
+    /// Returns the writer, with all that was written.
     pub fn into_inner(self) -> W
         ensures { result ≡ writer_of self }
     {

@@ -1,20 +1,20 @@
-//! Devices over memory, for tests: they go in small steps, are idle, and fail when they are asked
-//! to.
-//! None allocates. Run a call with a failure at 1, 2, .. until a device has met none.
+//! Devices in memory, for tests: they move a few bytes at a time, are idle, and fail when
+//! requested.
+//! None allocates. Run a call with a failure at 1, 2, .. until no device fails any more.
 ghost use Rattle.std.specs.Prelude.{◌≡◌, ◌<◌, ◌≤◌, ◌++◌, flat_map};
 ghost use Rattle.ddcmp_io.specs.Failing.{pieces_of, taken_nothing};
 
 use crate::device::{Got, Sink, Source, Worst};
 use std::marker::Model;
 
-/// No call: they are counted from 1.
+/// Stands for no call: calls are counted from 1.
 const NEVER: usize = 0;
 
-/// A source that yields pieces one after another, and then its end. An empty piece is an idle read.
-/// Contracts see the bytes that are left, the worst status so far and what it was asked to do.
+/// A source that returns chunks one after another, and then its end. An empty chunk is an idle
+/// read. Contracts see the bytes that are left, the worst status so far and the requested faults.
 #[derive(Drop)]
 pub struct Pieces<'a> {
-    /// What is left of the piece that was begun.
+    /// What is left of the current chunk.
     begun: &'a [u8],
     later: &'a [&'a [u8]],
     most: usize,
@@ -49,7 +49,7 @@ impl<'a> Pieces<'a> {
         Pieces::beginning(&[], pieces)
     }
 
-    /// A text in one piece.
+    /// Returns a source with a text in one chunk.
     pub fn of(text: &'a [u8]) -> Self
         ensures { result ≡ pieces_of text.now }
     {
@@ -70,7 +70,7 @@ impl<'a> Pieces<'a> {
         }
     }
 
-    /// Yields at most this many bytes a read.
+    /// Has a read return at most this many bytes.
     pub fn at_most(self, most: usize) -> Self
         requires { 0 < most }
         ensures { result ≡ record self.entry { most = most } }
@@ -78,7 +78,7 @@ impl<'a> Pieces<'a> {
         Pieces { most, ..self }
     }
 
-    /// Its read number `call`, counted from 1, is idle; 0 is none.
+    /// Has the read number `call`, counted from 1, be idle; 0 for none.
     pub fn idle_at(self, call: usize) -> Self
         ensures { result ≡ record self.entry { idle_at = call } }
     {
@@ -88,7 +88,7 @@ impl<'a> Pieces<'a> {
         }
     }
 
-    /// Its read number `call`, counted from 1, fails; 0 is none.
+    /// Has the read number `call`, counted from 1, fail; 0 for none.
     pub fn failing_at(self, call: usize) -> Self
         ensures { result ≡ record self.entry { fails_at = call } }
     {
@@ -112,7 +112,7 @@ impl<'a> Source for Pieces<'a> {
         ensures bytes { ReadGives (Some self.old.left) (Some self.new.left) result buf.new }
         ensures worst { self.new.worst ≡ worse self.old.worst result }
 
-        // It does what it was asked to.
+        // It does what was requested.
         ensures told { self.new ≡ record self.old {
           left = self.new.left;
           worst = self.new.worst;
@@ -155,8 +155,8 @@ impl<'a> Source for Pieces<'a> {
     }
 }
 
-/// A sink that keeps what it took, at most N bytes, and fails when it is full. Contracts see the
-/// bytes that it keeps, whether a write has failed and what it was asked to do.
+/// A sink that keeps what was written, at most N bytes, and fails when it is full. Contracts see
+/// the bytes that it holds, whether a write failed and the requested faults.
 #[derive(Drop)]
 pub struct Taken<const N: usize> {
     bytes: [u8; N],
@@ -193,7 +193,7 @@ impl<const N: usize> Taken<N> {
         Taken::full_at(N)
     }
 
-    /// Is full at this many bytes.
+    /// Returns a sink that is full at this many bytes.
     pub fn full_at(room: usize) -> Self
         requires { room ≤ N }
         ensures { result ≡ taken_nothing room }
@@ -209,7 +209,7 @@ impl<const N: usize> Taken<N> {
         }
     }
 
-    /// Takes at most this many bytes a write.
+    /// Has a write take at most this many bytes.
     pub fn at_most(self, most: usize) -> Self
         requires { 0 < most }
         ensures { result ≡ record self.entry { most = most } }
@@ -217,7 +217,7 @@ impl<const N: usize> Taken<N> {
         Taken { most, ..self }
     }
 
-    /// Its write number `call`, counted from 1, fails; 0 is none.
+    /// Has the write number `call`, counted from 1, fail; 0 for none.
     pub fn failing_at(self, call: usize) -> Self
         ensures { result ≡ record self.entry { fails_at = call } }
     {
@@ -227,7 +227,7 @@ impl<const N: usize> Taken<N> {
         }
     }
 
-    /// Returns what it took.
+    /// Returns what was written.
     pub fn bytes(&self) -> &[u8]
         ensures { result.now ≡ self.now.bytes }
     {
@@ -250,7 +250,7 @@ impl<const N: usize> Sink for Taken<N> {
         ensures bytes { WriteTakes (Some self.old.bytes) (Some self.new.bytes) result bytes.now }
         ensures broken { self.new.broken ≡ is_none result }
 
-        // It does what it was asked to.
+        // It does what was requested.
         ensures told { self.new ≡ record self.old {
           bytes = self.new.bytes;
           broken = self.new.broken;

@@ -1,11 +1,11 @@
-//! Reading a source no further than its bytes can be counted.
+//! Reads of a source, limited so that its bytes can be counted.
 ghost use Rattle.std.specs.Prelude.{◌≡◌, ◌≢◌, ◌<◌, length};
 ghost use Rattle.ddcmp_io.specs.Device.{ReadGives, worse};
 ghost use Rattle.ddcmp_io.specs.Input.{GivesWithin};
 
 use crate::device::{Got, Source, Worst};
 
-/// Reads once, and no more than `room` bytes.
+/// Reads once, at most `room` bytes.
 pub fn read_within<R: Source>(reader: &mut R, buf: &mut [u8], room: u64) -> Got
     requires fine { R.state reader.old ≢ Worst.Failed }
     requires some { 0 < room }

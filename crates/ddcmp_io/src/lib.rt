@@ -1,5 +1,5 @@
-//! What a program needs of the world: sources of bytes and sinks for them, queued bytes, buffered
-//! text, and devices over memory for tests. It knows nothing of the protocol.
+//! I/O for programs: sources of bytes and sinks for them, queued bytes, buffered text, and devices
+//! in memory for tests. It knows nothing of the protocol.
 #![tactic(auto)]
 
 mod byte_queue;

@@ -4,7 +4,7 @@ ghost use Rattle.std.specs.Prelude.{◌≡◌, ◌<◌, [], false, Some};
 use crate::device::Sink;
 use std::alloc::Global;
 
-/// Keeps what is written. It has failed once memory was refused.
+/// Keeps what is written. It has failed once an allocation failed.
 #[derive(Drop)]
 pub struct MemorySink {
     pub bytes: Vec<u8>,
@@ -12,7 +12,7 @@ pub struct MemorySink {
 }
 
 impl MemorySink {
-    /// Makes one without bytes. It doesn't allocate yet.
+    /// Makes an empty sink. It doesn't allocate yet.
     pub fn new(alloc: Global) -> Self
         ensures empty { result.bytes.items ≡ [] }
         ensures whole { result.refused ≡ false }
@@ -23,7 +23,7 @@ impl MemorySink {
         }
     }
 
-    /// Begins again, in the same memory.
+    /// Removes all bytes, and keeps the memory.
     pub fn clear(&mut self)
         ensures empty { self.new.bytes.items ≡ [] }
         ensures whole { self.new.refused ≡ false }

@@ -1,4 +1,4 @@
-//! Text that is buffered before a sink, so that many short writes share a long one.
+//! A page of text that is buffered before a sink, so that many short writes become a long one.
 ghost use Rattle.std.specs.Prelude.{◌≡◌, ◌+◌, ◌*◌, ◌≤◌, ◌++◌, [], length, true, is_err};
 ghost use Rattle.hex.specs.Hex.{encode_lower};
 ghost use Rattle.ddcmp_io.specs.Written.{HandsOver, output_of};
@@ -7,13 +7,13 @@ use crate::device::{Sink, WriteFailed, write_all};
 use crate::text::put_digits;
 use std::marker::Model;
 
-/// The bytes that a page has room for.
+/// The size of a page in bytes.
 const PAGE: usize = 8192;
 
 /// Text that is buffered. Contracts see it as the list of its bytes.
 ///
-/// After a write that failed it takes text as before and loses it, so that a caller passes the
-/// parts of a line one after another and asks once, at `flush`, whether all went out.
+/// After a failed write it still takes text, and discards it. So a caller can write the parts of a
+/// line one after another and check just once, at `flush`, whether all was written.
 #[derive(Drop)]
 pub struct Page {
     bytes: [u8; PAGE],
@@ -32,7 +32,7 @@ impl Model for Page {
 }
 
 impl Page {
-    /// An empty page.
+    /// Returns an empty page.
     pub fn new() -> Self
         ensures { result ≡ [] }
     {
@@ -42,7 +42,7 @@ impl Page {
         }
     }
 
-    /// Takes a text of any length: it is buffered, or goes out after what was.
+    /// Writes a text of any length: it is buffered, or written after what was buffered.
     #[inline(always)]
     pub fn write<W: Sink>(&mut self, writer: &mut W, text: &[u8])
         ensures sends { HandsOver (output_of W.broken W.contents writer.old self.old)
@@ -64,7 +64,7 @@ impl Page {
         }
     }
 
-    /// Writes what is buffered; returns whether all that was passed went out.
+    /// Writes what is buffered; returns whether all text was written.
     pub fn flush<W: Sink>(&mut self, writer: &mut W) -> Result<(), WriteFailed>
         ensures sends { HandsOver (output_of W.broken W.contents writer.old self.old)
             (output_of W.broken W.contents writer.new self.new) [] }
@@ -80,7 +80,7 @@ impl Page {
         write_all(writer, &self.bytes[..len])
     }
 
-    /// Makes room for a text of `n` bytes, if need be by a flush.
+    /// Makes room for a text of `n` bytes, if necessary by a flush.
     #[inline(always)]
     pub(crate) fn make_room<W: Sink>(&mut self, writer: &mut W, n: usize)
         requires { n ≤ PAGE }
@@ -93,7 +93,7 @@ impl Page {
         }
     }
 
-    /// Appends bytes in hexadecimal digits.
+    /// Appends bytes as hexadecimal digits.
     #[inline(always)]
     pub(crate) fn append_hex(&mut self, bytes: &[u8])
         requires { length self.old + 2 * length bytes.now ≤ PAGE }
@@ -103,7 +103,7 @@ impl Page {
         self.len += 2 * bytes.len();
     }
 
-    /// Returns how many bytes more it has room for.
+    /// Returns how many more bytes fit.
     #[inline(always)]
     fn room(&self) -> usize
         ensures { length self.now + result ≡ PAGE }

@@ -1,5 +1,5 @@
-//! Parts of text, passed to a page piece by piece: numbers, and bytes in hexadecimal digits,
-//! sixteen at a time.
+//! Parts of text that are written to a page: numbers, and bytes as hexadecimal digits, sixteen at a
+//! time.
 ghost use Rattle.std.specs.Prelude.{◌≡◌, ◌+◌, ◌*◌, ◌/◌, ◌%◌, ◌<◌, ◌≤◌, ◌++◌, length, map};
 ghost use Rattle.std.specs.Prelude.{slice_index, take};
 ghost use Rattle.std.specs.Simd.Lanes.{Each1, chunk};
@@ -11,7 +11,7 @@ use crate::page::Page;
 use itoa::{Buffer, Integer};
 use std::simd::prelude::*;
 
-/// A number in decimal digits.
+/// Writes a number in decimal digits.
 pub fn write_number<W: Sink, I: Integer>(page: &mut Page, writer: &mut W, number: I)
     ensures { HandsOver (output_of W.broken W.contents writer.old page.old)
         (output_of W.broken W.contents writer.new page.new) (I.text number) }
@@ -20,10 +20,10 @@ pub fn write_number<W: Sink, I: Integer>(page: &mut Page, writer: &mut W, number
     page.write(writer, buffer.format(number).as_bytes());
 }
 
-/// How many bytes of data are put into digits at once, at most.
+/// The maximum number of bytes of data that are converted to digits at once.
 const CHUNK: usize = 512;
 
-/// The digits of sixteen values.
+/// Returns the digits of sixteen values.
 #[inline(always)]
 fn digits_of(values: u8x16) -> u8x16
     requires { Each1 (λ v. v < 16) values }
@@ -40,7 +40,7 @@ fn high_digits(bytes: u8x16) -> u8x16
     digits_of(bytes >> u8x16::splat(4))
 }
 
-/// The second digit of each of sixteen bytes.
+/// Returns the second digit of each of sixteen bytes.
 #[inline(always)]
 fn low_digits(bytes: u8x16) -> u8x16
     ensures { result ≡ map (λ b. slice_index lower_digits (b % 16)) bytes }
@@ -48,7 +48,7 @@ fn low_digits(bytes: u8x16) -> u8x16
     digits_of(bytes & u8x16::splat(15))
 }
 
-/// Puts the digits of sixteen bytes.
+/// Puts the digits of sixteen bytes into an array.
 #[inline(always)]
 fn put_sixteen(bytes: &[u8], at: usize, digits: &mut [u8])
     requires bytes { at + 16 ≤ length bytes.now }
@@ -62,7 +62,7 @@ fn put_sixteen(bytes: &[u8], at: usize, digits: &mut [u8])
     second.copy_to_slice(&mut digits[2 * at + 16..]);
 }
 
-/// Puts the digits of bytes at the front of an array.
+/// Puts the digits of bytes into the front of an array.
 pub fn put_digits(bytes: &[u8], digits: &mut [u8])
     requires { 2 * length bytes.now ≤ length digits.old }
     ensures { take (2 * length bytes.now) digits.new ≡ encode_lower bytes.now }
@@ -78,7 +78,7 @@ pub fn put_digits(bytes: &[u8], digits: &mut [u8])
     }
 }
 
-/// Some bytes in hexadecimal digits.
+/// Writes a few bytes as hexadecimal digits.
 fn write_chunk<W: Sink>(page: &mut Page, writer: &mut W, bytes: &[u8])
     requires { length bytes.now ≤ CHUNK }
     ensures { HandsOver (output_of W.broken W.contents writer.old page.old)
@@ -88,7 +88,7 @@ fn write_chunk<W: Sink>(page: &mut Page, writer: &mut W, bytes: &[u8])
     page.append_hex(bytes);
 }
 
-/// All bytes in hexadecimal digits.
+/// Writes bytes as hexadecimal digits.
 pub fn write_hex<W: Sink>(page: &mut Page, writer: &mut W, bytes: &[u8])
     ensures { HandsOver (output_of W.broken W.contents writer.old page.old)
         (output_of W.broken W.contents writer.new page.new) (encode_lower bytes.now) }

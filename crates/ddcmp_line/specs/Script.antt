@@ -27,7 +27,7 @@ use Rattle.ddcmp_line.specs.ScriptText.{station_line}
 
 -- ---- both ends, and what is between them
 
--- what is left of the frames that each end wrote and that haven't arrived, in their order
+-- the frames that each end wrote and that haven't arrived (or what is left of them), in order
 pub record Between : Type 0 where
   pub a : List (List ℕ)
   pub b : List (List ℕ)
@@ -49,7 +49,7 @@ pub record Scene : Type 0 where
 
 -- ---- what a command does
 
--- the events that happen, what is between the ends after, and the text that is written
+-- the events that happen, what is between the ends after them, and the text that is written
 pub record Effect : Type 0 where
   pub events : List Event
   pub lines : Between
@@ -63,7 +63,7 @@ abbrev pub outcome_at : End → List (List ℕ) → Scene → List ℕ → Effec
 outcome_at e frames s text =
     record { events = []; lines = with_frames e frames s.lines; text = end_name e ++ text }
 
--- a frame that was written goes last on its line
+-- A frame that was written is the last one on its line.
 abbrev pub frames_after : Reply → List (List ℕ) → List (List ℕ)
 frames_after (reply.Wrote bytes) frames = frames ++ bytes ∷ []
 frames_after _ frames = frames
@@ -72,7 +72,7 @@ abbrev pub cleared_by : Reply → Between → Between
 cleared_by reply.Cleared lines = nothing_between
 cleared_by _ lines = lines
 
--- a poll may write a frame, and clearing empties both lines
+-- A poll may write a frame; Clear empties both lines.
 abbrev pub lines_after : Event → Reply → Between → Between
 lines_after (event.Poll e) r lines = with_frames e (frames_after r (frames_of e lines)) lines
 lines_after event.Clear r lines = cleared_by r lines
@@ -90,18 +90,19 @@ outcome_of_event happened s = record {
   text = reply_text (name_before (end_of happened)) (reply_to happened s.pair);
 }
 
--- Bytes arrive at an end: a line of their number, and then the notices.
+-- Bytes arrive at an end: a line with their number, and then the notices.
 abbrev pub arrival_text : End → List ℕ → End → List ℕ → PairState → List ℕ
 arrival_text who words to bytes p =
     counted_line (end_name who) words (length bytes)
     ++ reply_text (end_name to) (reply_to (event.Arrive to bytes) p)
 
--- the part of the front that is carried: its first bytes, or all
+-- the part of the first frame that is carried: its first `n` bytes, or all
 abbrev pub part_of : Option ℕ → List ℕ → List ℕ
 part_of None front = front
 part_of (Some n) front = take n front
 
--- what is left when n bytes of the front have gone: with its last byte goes the frame
+-- what is left after `n` bytes of the first frame were taken off: without its bytes the frame is
+-- gone
 abbrev pub left_behind : ℕ → List ℕ → List (List ℕ) → List (List ℕ)
 left_behind n front later = if nat_lt n (length front) then drop n front ∷ later else later
 
@@ -109,7 +110,7 @@ abbrev pub taken_off : ℕ → List (List ℕ) → List (List ℕ)
 taken_off n [] = []
 taken_off n (front ∷ later) = left_behind n front later
 
--- the front of a line arrives at the other end, as the carrier gave it
+-- The first frame of a line arrives at the other end, as the carrier returns it.
 abbrev pub outcome_of_carry : End → Option ℕ → List ℕ → List (List ℕ) → Scene → Effect
 outcome_of_carry from most came [] s = outcome_at from [] s (codes "empty\n")
 outcome_of_carry from most came (front ∷ later) s = record {
@@ -124,7 +125,7 @@ outcome_of_lose from (front ∷ later) s =
     outcome_between (with_frames from later s.lines)
     (counted_line (end_name from) (codes "lost ") (length front))
 
--- byte `at` of the front is changed by exclusive or, if it has that byte
+-- byte `at` of the first frame is changed by exclusive or, if the frame has that byte
 abbrev pub changed : ℕ → ℕ → List ℕ → List ℕ
 changed at by front = slice_set front at (bit_xor (slice_index_or front at 0) by)
 
@@ -142,7 +143,7 @@ outcome_of_damage from at by frames s =
     outcome_at from (with_change at by frames) s
     (damage_text (length frames == 0) (has_byte at frames))
 
--- all frames on both lines are lost, and then both ends settle
+-- All frames on both lines are lost, and then both ends settle.
 abbrev pub outcome_of_settle : Scene → Effect
 outcome_of_settle s = record {
   events = (settling s.pair).events;
@@ -150,7 +151,7 @@ outcome_of_settle s = record {
   text = settled_text (settling s.pair).exchanges (settling s.pair).quiet;
 }
 
--- all frames on both lines are lost, and then the line recovers
+-- All frames on both lines are lost, and then the line recovers.
 abbrev pub outcome_of_recover : Scene → Effect
 outcome_of_recover s = record {
   events = (recovering s.pair).events;
@@ -158,7 +159,7 @@ outcome_of_recover s = record {
   text = recovered_text (recovering s.pair).exchanges (is_done (recovered s.pair));
 }
 
--- what a command does, if the carrier gives these bytes if it is asked
+-- the effect of a command, if the carrier returns the bytes `came` for what it is passed
 unfoldable pub outcome_of : ScriptCommand → List ℕ → Scene → Effect
 outcome_of (Happens happened) came s = outcome_of_event happened s
 outcome_of (Carry from most) came s =
@@ -183,22 +184,22 @@ carriages_from from most came [] = []
 carriages_from from most came (front ∷ later) =
     record { from = from; bytes = part_of most front; came = came } ∷ []
 
--- what a command hands to the carrier
+-- what a command passes to the carrier
 unfoldable pub carriages_of : ScriptCommand → List ℕ → Scene → List Carriage
 carriages_of (Carry from most) came s = carriages_from from most came (frames_of from s.lines)
 carriages_of _ came s = []
 
--- each came out as it went in
+-- The carrier returned exactly what it was passed, each time.
 unfoldable pub AreDirect : List Carriage → Type 0
 AreDirect [] = ⊤
 AreDirect (c ∷ rest) = (c.came ≡ c.bytes) × AreDirect rest
 
--- no more came out than went in
+-- The carrier never returned more bytes than it was passed.
 unfoldable pub AreWithin : List Carriage → Type 0
 AreWithin [] = ⊤
 AreWithin (c ∷ rest) = (length c.came ≤ length c.bytes) × AreWithin rest
 
--- what a carrier was handed, and gave
+-- what a carrier was passed, and what it returned
 pub record Carries (is_direct : Bool) (old new : Option (List Carriage)) (all : List Carriage)
     : Type 0 where
   pub told : Logs old new all
@@ -207,7 +208,7 @@ pub record Carries (is_direct : Bool) (old new : Option (List Carriage)) (all : 
 
 -- ---- lines, one after another
 
--- a line that was done, and what the carrier gave if the line asked it
+-- a line that was done, and what the carrier returned, if the line uses it
 pub record DoneLine : Type 0 where
   pub line : List ℕ
   pub came : List ℕ
@@ -242,7 +243,7 @@ carriages_by NotHex came s = []
 abbrev pub after_line : DoneLine → Scene → Scene
 after_line d s = scene_after (reading_of d.line) d.came s
 
--- the scene after some lines, the text that they write, and what they hand to the carrier
+-- the scene after some lines, the text that they write, and what they pass to the carrier
 unfoldable pub after_lines : List DoneLine → Scene → Scene
 after_lines [] s = s
 after_lines (d ∷ rest) s = after_lines rest (after_line d s)
@@ -257,7 +258,7 @@ carriages_of_lines [] s = []
 carriages_of_lines (d ∷ rest) s =
     carriages_by (reading_of d.line) d.came s ++ carriages_of_lines rest (after_line d s)
 
--- a line is a command, or skipped
+-- a line is a command, a comment or empty
 abbrev pub IsScriptLine : List ℕ → Type 0
 IsScriptLine line = (reading_of line ≢ NoCommand) × (reading_of line ≢ NotHex)
 

@@ -1,4 +1,4 @@
--- How a script ends: which of its lines were done, what was written, and what the pair is after.
+-- How a script ends: which of its lines were done, what was written, and what the pair is then.
 use Rattle.std.specs.Prelude.{◌≡◌, ◌≢◌, ⊤, ◌⊎◌, ◌↔◌, ℕ, ◌+◌, ◌-◌, ◌<◌, ◌^◌, Bool, false, List, []}
 use Rattle.std.specs.Prelude.{◌∷◌, ◌++◌, length, Option, Some, Result, Ok, Err, IsOk, IsTrue}
 use Rattle.std.specs.Io.KnownBytes.{Appends}
@@ -24,23 +24,22 @@ use Rattle.ddcmp_line.specs.Script.{Carries, Scene, DoneLine, AllFit, nothing_be
 use Rattle.ddcmp_line.specs.Script.{after_lines, text_of_lines, carriages_of_lines, events_by}
 use Rattle.ddcmp_line.specs.Script.{carriages_by}
 
--- a pair that has nothing between its ends
+-- a pair with nothing between its ends
 abbrev pub scene_with : PairState → Scene
 scene_with p = record { pair = p; lines = nothing_between }
 
--- the scene after some lines that begin with this pair, and the text that they write
+-- the scene after some lines, which start with this pair and nothing between its ends
 abbrev pub scene_then : PairState → List DoneLine → Scene
 scene_then p done = after_lines done (scene_with p)
 
 abbrev pub text_then : PairState → List DoneLine → List ℕ
 text_then p done = text_of_lines done (scene_with p)
 
--- what they hand to the carrier
+-- what these lines pass to the carrier
 abbrev pub carriages_then : PairState → List DoneLine → List Carriage
 carriages_then p done = carriages_of_lines done (scene_with p)
 
--- A pair before and after a call, whether its carrier is direct, and what the carrier had reported
--- before and after.
+-- The pair and the carrier's log before and after a call, and whether the carrier is direct.
 pub record Around : Type 0 where
   pub pair : PairState
   pub pair_after : PairState
@@ -62,23 +61,23 @@ around p q is_direct told told_after = record {
 abbrev pub Carried : Around → List Carriage → Type 0
 Carried x all = Carries x.is_direct x.told x.told_after all
 
--- a part of a line that is no whole line yet
+-- a text without LF: a part of a line
 abbrev pub HasNoLf : List ℕ → Type 0
 HasNoLf [] = ⊤
 HasNoLf (c ∷ more) = (c ≢ 10) × HasNoLf more
 
--- An input begins with these lines, each of them fits, and after them stand others.
+-- An input begins with these lines, all of them are valid, and the lines `behind` follow.
 pub record Begins (done : List DoneLine) (behind : List (List ℕ)) (input : List ℕ) : Type 0 where
   pub lines : lines_done done ++ behind ≡ lines_of input
   pub fit : AllFit (lines_done done)
 
--- These lines were done and nothing else: the pair is as after them, and their text was written.
+-- These lines were done and no more: the pair is as after them, and their text was written.
 pub record Did (done : List DoneLine) (x : Around) (Wrote : List ℕ → Type 0) : Type 0 where
   pub pair : x.pair_after ≡ (scene_then x.pair done).pair
   pub carried : Carried x (carriages_then x.pair done)
   pub written : Wrote (text_then x.pair done)
 
--- All lines were done, and the last line of the text was written too.
+-- All lines were done, and the last lines of the text were written too.
 pub record Finished (counted : Bool) (input : List ℕ) (x : Around) (Wrote : List ℕ → Type 0)
     : Type 0 where
   pub done : List DoneLine
@@ -92,7 +91,7 @@ pub record Paused (input : List ℕ) (x : Around) (Wrote : List ℕ → Type 0) 
   pub begins : Begins done behind input
   pub did : Did done x Wrote
 
--- Every line that LF ends, before the bytes that are left, was done, and no other.
+-- Every line that ends with LF before the unread bytes was done, and no other.
 pub record PausedBefore (rest : List ℕ) (input : List ℕ) (x : Around) (Wrote : List ℕ → Type 0)
     : Type 0 where
   pub done : List DoneLine
@@ -101,7 +100,7 @@ pub record PausedBefore (rest : List ℕ) (input : List ℕ) (x : Around) (Wrote
   pub begun : HasNoLf line
   pub did : Did done x Wrote
 
--- All lines before line n were done, and this is how line n reads.
+-- All lines before line `n` were done, and line `n` reads like this.
 pub record StoppedAt (Reads : ParsedLine → Type 0) (n : ℕ) (input : List ℕ) (x : Around)
     (Wrote : List ℕ → Type 0) : Type 0 where
   pub done : List DoneLine
@@ -117,8 +116,8 @@ abbrev pub StoppedBehind : List DoneLine → Around → Type 0
 StoppedBehind done x =
     (x.pair_after ≡ (scene_then x.pair done).pair) × Carried x (carriages_then x.pair done)
 
--- What the line after these hands to the carrier was carried; some of its events happened, each of
--- them whole; and the next one allocates.
+-- What the line after these passes to the carrier was carried; some of its events happened, each as
+-- a whole; and the next one needs to allocate.
 pub record StoppedInside (line : List ℕ) (done : List DoneLine) (x : Around) : Type 0 where
   pub came : List ℕ
   pub wants : WantsMemory (events_by (reading_of line) came (scene_then x.pair done))
@@ -126,17 +125,17 @@ pub record StoppedInside (line : List ℕ) (done : List DoneLine) (x : Around) :
   pub carried : Carried x (carriages_then x.pair done
       ++ carriages_by (reading_of line) came (scene_then x.pair done))
 
--- nothing was done after these lines, or the next one was begun
+-- Nothing was done after these lines, or the next one was begun.
 abbrev pub StoppedBefore : List (List ℕ) → List DoneLine → Around → Type 0
 StoppedBefore [] done x = StoppedBehind done x
 StoppedBefore (line ∷ behind) done x = StoppedBehind done x ⊎ StoppedInside line done x
 
--- after the text of the last line comes what has been done
+-- After the text of the last line, the last lines of the script's text are written.
 abbrev pub text_behind : Bool → List (List ℕ) → PairState → List ℕ
 text_behind counted [] p = closing_text counted p
 text_behind counted (line ∷ behind) p = []
 
--- Some lines were done, and the next one wasn't, or only in part.
+-- Some lines were done; the next one wasn't, or only in part.
 pub record Broken (input : List ℕ) (x : Around) (Wrote : List ℕ → List (List ℕ) → Type 0)
     : Type 0 where
   pub done : List DoneLine
@@ -145,13 +144,13 @@ pub record Broken (input : List ℕ) (x : Around) (Wrote : List ℕ → List (Li
   pub stopped : StoppedBefore behind done x
   pub written : Wrote (text_then x.pair done) behind
 
--- the line asks the carrier
+-- the line uses the carrier
 abbrev pub AsksCarrier : ParsedLine → Type 0
 AsksCarrier r = (from : End) × (most : Option ℕ) × (r ≡ reading.Asks (command.Carry from most))
 
--- What each answer to a script says of its whole input: which lines were done and how the next one
--- reads, what the pair and its carrier are after, and what was written, or a beginning of it.
--- `counted` is whether counters are asked for.
+-- For each result of a script: which lines were done and how the next one reads, what the pair and
+-- its carrier are then, and what was written, or a beginning of it. `counted` is whether counters
+-- are requested.
 abbrev pub Plays : Bool → List ℕ → Around → (List ℕ → Type 0) → (List ℕ → Type 0)
     → Result (Unit {0}) ScriptFault → Type 0
 Plays counted input x Wrote WrotePart (Ok u) = Finished counted input x Wrote
@@ -167,22 +166,22 @@ Plays counted input x Wrote WrotePart (Err Carrier) =
     (n : ℕ) × StoppedAt AsksCarrier n input x Wrote
 
 -- A script was played: which lines were done, what was written, what the pair is, and when each
--- answer comes. The carrier is down if it has failed.
+-- result is returned. `is_down` is whether the carrier has failed.
 pub record IsPlayed (counted : Bool) (x : Around) (source : SourceChange) (sink : SinkChange)
     (is_down : Bool) (result : Result (Unit {0}) ScriptFault) : Type 0 where
   pub told : (input : List ℕ) → source.before ≡ Some input
       → Plays counted input x (Appends sink.before sink.after)
       (AppendsPart sink.before sink.after) result
-  -- On Read every line was done that LF ends in the bytes that were read, and no other.
+  -- Err Read: every line that ends with LF in the bytes that were read was done, and no other.
   pub paused : (input rest : List ℕ) → source.before ≡ Some input → source.after ≡ Some rest
       → length input < length rest + (2 ^ 64 - 1) → result ≡ Err Read
       → PausedBefore rest input x (Appends sink.before sink.after)
-  -- Ok exactly if every line is a command or skipped, no device failed and memory was had.
+  -- Ok: exactly if every line is valid, and no device and no allocation failed.
   pub ok : (input : List ℕ) → source.before ≡ Some input
       → IsOk result ↔ (AllFit (lines_of input) × (source.state ≡ Fine)
       × (GaveMost source.before source.after → ⊥) × (sink.broken ≡ false) × (is_down ≡ false)
       × (result ≢ Err Memory))
-  -- Read exactly if the source isn't fine, or has returned 2^64 - 1 bytes.
+  -- Err Read: exactly if the source's state isn't Fine, or it has returned 2^64 - 1 bytes.
   pub read : source.state ≢ Fine → result ≡ Err Read
   pub read_only : result ≡ Err Read
       → (source.state ≢ Fine) ⊎ GaveMost source.before source.after
@@ -190,5 +189,5 @@ pub record IsPlayed (counted : Bool) (x : Around) (source : SourceChange) (sink 
       → length input ≡ length rest + (2 ^ 64 - 1) → result ≡ Err Read
   pub write : (result ≡ Err Write) ↔ IsTrue sink.broken
   pub carried : (result ≡ Err Carrier) ↔ IsTrue is_down
-  -- Whatever is answered, messages are in order.
+  -- Whatever the result, messages are in order.
   pub order : IsInOrder x.pair_after

@@ -1,4 +1,4 @@
--- What a script writes of replies, and its last line.
+-- What a script writes for replies, and its last lines.
 use Rattle.std.specs.Prelude.{ℕ, Bool, if◌then◌else◌, List, [], ◌++◌, length, codes, decimal}
 use Rattle.std.specs.Prelude.{Option, Some, None}
 use Rattle.std.specs.List.{flat_map}
@@ -16,12 +16,12 @@ use Rattle.ddcmp_pair.specs.declared.event.Reply.{Reply}
 use Rattle.ddcmp_pair.specs.declared.event.Reply.TheVariants as reply
 use Rattle.ddcmp_pair.specs.Run.{PairState, handed_up, is_clean}
 
--- who replies, before the words of the reply
+-- the name of the end that replies, at the beginning of a line
 abbrev pub end_name : End → List ℕ
 end_name A = codes "A "
 end_name B = codes "B "
 
--- the same; nobody, if both ends are meant
+-- the same; empty, if the reply is for both ends
 abbrev pub name_before : Option End → List ℕ
 name_before (Some e) = end_name e
 name_before None = []
@@ -50,7 +50,7 @@ counted_line who words n = who ++ words ++ decimal n ++ codes "\n"
 abbrev pub bytes_line : List ℕ → List ℕ → List ℕ → List ℕ
 bytes_line who words bytes = who ++ words ++ encode_lower bytes ++ codes "\n"
 
--- the text of an answer
+-- the text of a reply
 unfoldable pub reply_text : List ℕ → Reply → List ℕ
 reply_text who (reply.Started dropped) = counted_line who (codes "started dropped=") dropped
 reply_text who (reply.StartRefused refusal) = who ++ start_refusal_text refusal
@@ -98,7 +98,7 @@ abbrev pub recovered_text : List ℕ → Bool → List ℕ
 recovered_text exchanges is_done =
     codes "recovered " ++ flat_map count_text exchanges ++ done_text is_done
 
--- what became of a byte that was to be changed
+-- the result of damaging a byte
 abbrev pub damage_text : Bool → Bool → List ℕ
 damage_text is_empty is_there =
     if is_empty then codes "empty\n"
@@ -107,7 +107,7 @@ damage_text is_empty is_there =
 abbrev pub yes_or_no : Bool → List ℕ
 yes_or_no is = if is then codes "yes" else codes "no"
 
--- what has been done since the line was cleared: the last line
+-- the last line: a summary since the line was cleared
 abbrev pub totals_line : PairState → List ℕ
 totals_line p =
     codes "honest " ++ yes_or_no p.honest ++ codes " clean " ++ yes_or_no (is_clean p)
@@ -115,12 +115,12 @@ totals_line p =
     ++ decimal (length (handed_up p.b)) ++ codes " acked A=" ++ decimal p.a.acknowledged
     ++ codes " B=" ++ decimal p.b.acknowledged ++ codes "\n"
 
--- what both stations have counted, a line each
+-- the counters of both stations, one line each
 abbrev pub counters_lines : PairState → List ℕ
 counters_lines p =
     counters_line (end_name A) p.a.core.counters ++ counters_line (end_name B) p.b.core.counters
 
--- the end of the text: the counters, if they are asked for, and the last line
+-- the end of the text: the counters, if requested, and the last line
 abbrev pub closing_text : Bool → PairState → List ℕ
 closing_text counted p =
     if counted then counters_lines p ++ totals_line p else totals_line p

@@ -1,4 +1,4 @@
--- The words of a script: what each of its lines asks for.
+-- The syntax of scripts: which command each line is.
 use Rattle.std.specs.Prelude.{ℕ, ◌+◌, ◌-◌, ◌*◌, Bool, ◌&&◌, ◌||◌, nat_le, nat_lt, ◌==◌}
 use Rattle.std.specs.Prelude.{if◌then◌else◌, List, [], ◌∷◌, length, take, codes, slice_index_or}
 use Rattle.std.specs.Prelude.{Option, Some, None, Result, Ok, Err}
@@ -19,7 +19,7 @@ use Rattle.ddcmp_pair.specs.Place.{same_bytes}
 
 -- ---- words
 
--- what stands between blanks
+-- the parts of a line between blanks
 unfoldable pub words : List ℕ → List (List ℕ)
 words line = slice_split (λ c. c == 32) line
 
@@ -35,7 +35,7 @@ end_named word =
 abbrev pub is_digit : ℕ → Bool
 is_digit c = nat_le 48 c && nat_le c 57
 
--- the number of some digits after those of `before`
+-- the number of some digits, which follow those of `before`
 abbrev pub number_behind : ℕ → List ℕ → Option ℕ
 number_behind before [] = Some before
 number_behind before (c ∷ rest) =
@@ -47,7 +47,7 @@ number_in word =
 
 -- ---- bytes, in hexadecimal digits of either case
 
--- two digits make a byte, and nothing else does
+-- Exactly two digits make a byte.
 abbrev pub first_of_ok : Result (List ℕ) FromHexError → Option ℕ
 first_of_ok (Ok bytes) = Some (slice_index_or bytes 0 0)
 first_of_ok (Err e) = None
@@ -88,13 +88,13 @@ command_at verb e =
     else if is_word verb (codes "state") then Some (State e)
     else None
 
--- `send` without a word has the empty message
+-- `send` without a word sends the empty message.
 unfoldable pub asked_at : List ℕ → End → ParsedLine
 asked_at verb e =
     if is_word verb (codes "send") then Asks (Happens (event.Send e []))
     else asked_or_none (command_at verb e)
 
--- a cut is of at least one byte
+-- A frame is cut after at least one byte.
 abbrev pub cut_of : End → Option ℕ → ParsedLine
 cut_of e None = NoCommand
 cut_of e (Some n) = if nat_lt 0 n then Asks (Carry e (Some n)) else NoCommand
@@ -130,7 +130,7 @@ asked_damage verb e number byte =
     then damage_of e (number_in number) (byte_in byte)
     else NoCommand
 
--- by the words after the end
+-- by the words after the name of the end
 unfoldable pub asked_by : List ℕ → End → List (List ℕ) → ParsedLine
 asked_by verb e [] = asked_at verb e
 asked_by verb e (word ∷ []) = asked_with verb e word
@@ -141,7 +141,7 @@ abbrev pub asked_of_end : List ℕ → Option End → List (List ℕ) → Parsed
 asked_of_end verb None more = NoCommand
 asked_of_end verb (Some e) more = asked_by verb e more
 
--- the first word says what is asked for, and the second at which end
+-- The first word is the command, and the second the end.
 unfoldable pub asked_in : List (List ℕ) → ParsedLine
 asked_in [] = NoCommand
 asked_in (verb ∷ []) = alone verb
@@ -156,16 +156,16 @@ reading_of line = if is_skipped line then Skipped else asked_in (words line)
 
 -- ---- lines of a text
 
--- a CR before the LF that ends a line isn't part of it
+-- A CR before the LF that ends a line isn't part of the line.
 unfoldable pub without_cr : List ℕ → List ℕ
 without_cr line =
     if slice_index_or line (length line - 1) 0 == 13 then take (length line - 1) line else line
 
--- what stands between LFs; the last of these isn't ended by one
+-- the parts of a text between LFs; the last one isn't ended by an LF
 unfoldable pub between_lf : List ℕ → List (List ℕ)
 between_lf text = slice_split (λ c. c == 10) text
 
--- the lines that LF ends, without its CR, and after them the last one, if there is one
+-- the lines that end with LF, without their CR, and after them the last one if it isn't empty
 abbrev pub lines_between : List (List ℕ) → List (List ℕ)
 lines_between [] = []
 lines_between (last ∷ []) = if length last == 0 then [] else last ∷ []

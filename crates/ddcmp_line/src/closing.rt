@@ -1,6 +1,6 @@
-//! The last lines of a run between two ends: what both stations have counted, if that is asked for,
-//! and what has been done since the line was cleared. Nothing happens here: what plays a script
-//! writes them at its end, as text or below a picture.
+//! The last lines of a run between two ends: the counters of both stations, if requested, and a
+//! summary since the line was cleared. These functions change nothing: what plays a script writes
+//! these lines at its end, as text or below a picture.
 //! ```text
 //! honest yes clean yes up A=0 B=1 acked A=1 B=0
 //! ```
@@ -22,7 +22,7 @@ fn yes_or_no(is: bool) -> &'static [u8]
     if is { b"yes" } else { b"no" }
 }
 
-/// The last line: what has been done since the line was cleared.
+/// Writes the last line: a summary since the line was cleared.
 fn write_last_line<W: Sink>(page: &mut Page, writer: &mut W, pair: &Pair)
     ensures { HandsOver (output_of W.broken W.contents writer.old page.old)
         (output_of W.broken W.contents writer.new page.new) (totals_line pair.now) }
@@ -53,7 +53,7 @@ pub fn write_both_counters<W: Sink>(page: &mut Page, writer: &mut W, pair: &Pair
     write_counters(page, writer, end_name(End::B), second);
 }
 
-/// The counters, and the last line.
+/// Writes the counters, and the last line.
 fn write_counted_closing<W: Sink>(page: &mut Page, writer: &mut W, pair: &Pair)
     ensures { HandsOver (output_of W.broken W.contents writer.old page.old)
         (output_of W.broken W.contents writer.new page.new)
@@ -63,7 +63,7 @@ fn write_counted_closing<W: Sink>(page: &mut Page, writer: &mut W, pair: &Pair)
     write_last_line(page, writer, pair);
 }
 
-/// Writes the end of the text: the counters, if they are asked for, and the last line.
+/// Writes the end of the text: the counters, if requested, and the last line.
 pub fn write_closing<W: Sink>(page: &mut Page, writer: &mut W, pair: &Pair, counted: bool)
     ensures { HandsOver (output_of W.broken W.contents writer.old page.old)
         (output_of W.broken W.contents writer.new page.new) (closing_text counted pair.now) }

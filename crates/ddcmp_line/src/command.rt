@@ -1,4 +1,4 @@
-//! What a line of a script asks for.
+//! The commands of a script.
 ghost use Rattle.std.specs.Prelude.{◌≡◌, ◌∷◌, ◌*◌, ◌<◌, ◌==◌, [], take, Some, None, is_some, IfOk};
 ghost use Rattle.std.specs.Option.{option_map_or};
 ghost use Rattle.std.specs.List.{slice_split};
@@ -18,16 +18,16 @@ use ddcmp_proto::Memory;
 use hex::FromHexError;
 use std::alloc::Global;
 
-/// What a line of a script asks for.
+/// The command of a line of a script.
 #[derive(Drop)]
 pub enum ScriptCommand {
-    /// An event, which is no arrival.
+    /// An event other than an arrival.
     Happens(Event),
-    /// The front of an end's line arrives at the other end: all of it, or this many bytes.
+    /// The first frame of an end's line arrives at the other end: all of it, or this many bytes.
     Carry(End, Option<u32>),
-    /// The front of an end's line is dropped.
+    /// The first frame of an end's line is dropped.
     Lose(End),
-    /// This byte of the front, counted from 0, is changed by exclusive or.
+    /// This byte of the first frame, counted from 0, is changed by exclusive or.
     Damage(End, u32, u8),
     /// These bytes arrive at an end.
     Raw(End, Bytes),
@@ -35,22 +35,22 @@ pub enum ScriptCommand {
     Settle,
     /// The same, and then the line is repaired by two rounds.
     Recover,
-    /// An end is looked at.
+    /// The state of an end is written.
     State(End),
 }
 
-/// What a line of a script is.
+/// A parsed line of a script.
 #[derive(Drop)]
 pub enum ParsedLine {
     /// An empty line, or a comment.
     Skipped,
     Asks(ScriptCommand),
     NoCommand,
-    /// A command with a word that spells no bytes.
+    /// A command with a word that isn't hexadecimal.
     NotHex,
 }
 
-/// A line without the CR at its end.
+/// Returns a line without the CR at its end.
 #[tactic(auto, unfolding(crate::specs::ScriptWords::without_cr))]
 pub fn without_cr(line: &[u8]) -> &[u8]
     ensures { result.now ≡ without_cr_of line.now }
@@ -62,7 +62,7 @@ pub fn without_cr(line: &[u8]) -> &[u8]
     }
 }
 
-/// Returns what comes before the first blank, and what comes after it if there is one.
+/// Returns what is before the first blank, and what is after it if there is one.
 fn cut(line: &[u8]) -> (&[u8], Option<&[u8]>)
     ensures { slice_split (λ c. c == 32) line.now ≡ result.0.now
         ∷ option_map_or (λ rest. slice_split (λ c. c == 32) rest.now) result.1 [] }
@@ -75,7 +75,7 @@ fn cut(line: &[u8]) -> (&[u8], Option<&[u8]>)
     (line, None)
 }
 
-/// Returns whether a word is this one.
+/// Returns whether two words are equal.
 fn is_word(word: &[u8], name: &[u8]) -> bool
     ensures { result ≡ same_bytes word.now name.now }
 {
@@ -95,10 +95,10 @@ fn end_named(word: &[u8]) -> Option<End>
     }
 }
 
-/// The most digits of a number.
+/// The maximum number of digits of a number.
 const DIGITS: usize = 5;
 
-/// Returns the number that a word of one to five decimal digits spells.
+/// Returns the number that a word of one to five decimal digits stands for.
 #[tactic(auto, unfolding(crate::specs::ScriptWords::number_in))]
 fn number_in(word: &[u8]) -> Option<u32>
     ensures { result ≡ number_of_word word.now }
@@ -123,7 +123,7 @@ fn is_digit(byte: u8) -> bool
     b'0' <= byte && byte <= b'9'
 }
 
-/// Returns the bytes that a word spells in hexadecimal; none if it doesn't.
+/// Decodes a hexadecimal word; returns none if it isn't one.
 #[tactic(auto, unfolding(crate::specs::ScriptWords::bytes_of_digits))]
 fn bytes_of_digits(alloc: Global, word: &[u8]) -> Result<Option<Bytes>, Memory>
     ensures { IfOk result (λ bytes. bytes ≡ bytes_of_word word.now) }
@@ -135,7 +135,7 @@ fn bytes_of_digits(alloc: Global, word: &[u8]) -> Result<Option<Bytes>, Memory>
     }
 }
 
-/// The byte that a word of two hexadecimal digits spells.
+/// Returns the byte that a word of two hexadecimal digits stands for.
 #[tactic(auto, unfolding(crate::specs::ScriptWords::byte_in))]
 fn byte_in(word: &[u8]) -> Option<u8>
     ensures { result ≡ byte_of_word word.now }
@@ -147,7 +147,7 @@ fn byte_in(word: &[u8]) -> Option<u8>
     }
 }
 
-/// A line of one word.
+/// Parses a line of one word.
 #[tactic(auto, unfolding(crate::specs::ScriptWords::alone))]
 fn read_alone(verb: &[u8]) -> ParsedLine
     ensures { result ≡ alone verb.now }
@@ -163,7 +163,7 @@ fn read_alone(verb: &[u8]) -> ParsedLine
     }
 }
 
-/// Returns what an end is asked with no further word.
+/// Returns the command of a line with no word after the end.
 #[tactic(auto, unfolding(crate::specs::ScriptWords::command_at))]
 fn command_at(verb: &[u8], end: End) -> Option<ScriptCommand>
     ensures { result ≡ command_of verb.now end }
@@ -189,7 +189,7 @@ fn command_at(verb: &[u8], end: End) -> Option<ScriptCommand>
     }
 }
 
-/// A line of two words; `send` has the empty message then.
+/// Parses a line of two words; `send` has the empty message then.
 #[tactic(auto, unfolding(crate::specs::ScriptWords::asked_at))]
 fn read_at(alloc: Global, verb: &[u8], end: End) -> ParsedLine
     ensures { result ≡ asked_at verb.now end }
@@ -204,7 +204,7 @@ fn read_at(alloc: Global, verb: &[u8], end: End) -> ParsedLine
     }
 }
 
-/// A line of three words.
+/// Parses a line of three words.
 #[tactic(auto, unfolding(crate::specs::ScriptWords::asked_with))]
 fn read_with(alloc: Global, verb: &[u8], end: End, word: &[u8]) -> Result<ParsedLine, Memory>
     ensures { IfOk result (λ reading. reading ≡ asked_with verb.now end word.now) }
@@ -229,7 +229,7 @@ fn read_with(alloc: Global, verb: &[u8], end: End, word: &[u8]) -> Result<Parsed
     }
 }
 
-/// A cut of no bytes is none.
+/// Returns the command for a part of a frame, which has at least one byte.
 fn read_cut(end: End, number: Option<u32>) -> ParsedLine
     ensures { result ≡ cut_of end number }
 {
@@ -239,7 +239,7 @@ fn read_cut(end: End, number: Option<u32>) -> ParsedLine
     }
 }
 
-/// A line of four words.
+/// Parses a line of four words.
 #[tactic(auto, unfolding(crate::specs::ScriptWords::asked_damage))]
 fn read_damage(verb: &[u8], end: End, number: &[u8], word: &[u8]) -> ParsedLine
     ensures { result ≡ asked_damage verb.now end number.now word.now }
@@ -256,7 +256,7 @@ fn read_damage(verb: &[u8], end: End, number: &[u8], word: &[u8]) -> ParsedLine
     }
 }
 
-/// Returns the words after the second.
+/// Parses the words after the second.
 #[tactic(auto, unfolding(crate::specs::ScriptWords::asked_by, crate::specs::ScriptWords::words))]
 fn read_further(alloc: Global, verb: &[u8], end: End, words: &[u8]) -> Result<ParsedLine, Memory>
     ensures { IfOk result (λ reading. reading ≡ asked_by verb.now end (words_of words.now)) }
@@ -272,7 +272,7 @@ fn read_further(alloc: Global, verb: &[u8], end: End, words: &[u8]) -> Result<Pa
     Ok(read_damage(verb, end, word, byte))
 }
 
-/// Reads the words of a line.
+/// Parses the words of a line.
 #[tactic(auto, unfolding(crate::specs::ScriptWords::asked_in, crate::specs::ScriptWords::words))]
 fn read_words(alloc: Global, line: &[u8]) -> Result<ParsedLine, Memory>
     ensures { IfOk result (λ reading. reading ≡ asked_in (words_of line.now)) }
@@ -291,7 +291,7 @@ fn read_words(alloc: Global, line: &[u8]) -> Result<ParsedLine, Memory>
     }
 }
 
-/// Reads a line.
+/// Parses a line.
 #[tactic(auto, unfolding(crate::specs::ScriptWords::reading_of))]
 pub fn read_line(alloc: Global, line: &[u8]) -> Result<ParsedLine, Memory>
     ensures { IfOk result (λ reading. reading ≡ reading_of line.now) }

@@ -1,4 +1,4 @@
-//! What is left of the frames on both lines.
+//! The frames on both lines, or what is left of them.
 ghost use Rattle.std.specs.Prelude.{◌≡◌, ◌∷◌, ◌+◌, ◌<◌, ◌≤◌, ◌==◌, [], length, drop, true, false};
 ghost use Rattle.std.specs.Prelude.{MatchOption, List, ℕ};
 ghost use Rattle.ddcmp_line.specs.Script.{changed, taken_off, with_change, has_byte};
@@ -12,7 +12,7 @@ use std::marker::Model;
 #[derive(Drop)]
 pub(crate) struct FrameLeft {
     bytes: Vec<u8>,
-    /// How many of them are gone.
+    /// How many of its bytes have arrived or are lost.
     gone: usize,
 }
 
@@ -27,7 +27,7 @@ impl Model for FrameLeft {
 }
 
 impl FrameLeft {
-    /// A whole frame.
+    /// Returns a whole frame.
     pub(crate) fn new(bytes: Bytes) -> Self
         ensures { result ≡ bytes }
     {
@@ -37,14 +37,14 @@ impl FrameLeft {
         }
     }
 
-    /// Returns what is left, to be read.
+    /// Returns the bytes that are left.
     pub(crate) fn as_slice(&self) -> &[u8]
         ensures { result.now ≡ self.now }
     {
         &self.bytes[self.gone..]
     }
 
-    /// The first `n` bytes have gone.
+    /// Removes the first `n` bytes.
     pub(crate) fn advance(&mut self, n: usize)
         requires { n ≤ length self.old }
         ensures { self.new ≡ drop n self.old }
@@ -61,7 +61,7 @@ impl FrameLeft {
     }
 }
 
-/// The frames on the lines of both ends: those that the end wrote and that haven't arrived.
+/// The frames on the lines of both ends: those that an end wrote and that haven't arrived.
 #[derive(Drop)]
 pub(crate) struct FrameLines {
     pub(crate) a: VecDeque<FrameLeft>,
@@ -81,7 +81,7 @@ impl FrameLines {
     ghost use Rattle.ddcmp_line.specs.Script.{with_frames};
     ghost use Rattle.ddcmp_core.specs.Store.{first_message};
 
-    /// Two empty lines.
+    /// Returns two empty lines.
     pub(crate) fn new(alloc: Global) -> Self
         ensures { result ≡ nothing_between }
     {
@@ -91,7 +91,7 @@ impl FrameLines {
         }
     }
 
-    /// Both lines are emptied.
+    /// Empties both lines.
     pub(crate) fn clear(&mut self)
         ensures { self.new ≡ nothing_between }
     {
@@ -109,7 +109,7 @@ impl FrameLines {
         }
     }
 
-    /// Both lines are emptied, if that was the reply to a Clear.
+    /// Empties both lines, if this is the reply to a Clear that was done.
     pub(crate) fn clear_after(&mut self, reply: &Reply)
         ensures { self.new ≡ cleared_by reply.now self.old }
     {
@@ -130,7 +130,7 @@ impl FrameLines {
         }
     }
 
-    /// The first `n` bytes of the front of a line have gone, and with the last of them the frame.
+    /// Removes the first `n` bytes of the first frame of a line, and the frame if none are left.
     pub(crate) fn take_off(&mut self, end: End, n: usize)
         ensures { self.new ≡ with_frames end (taken_off n (frames_of end self.old)) self.old }
     {
@@ -140,7 +140,7 @@ impl FrameLines {
         }
     }
 
-    /// The front of a line leaves it.
+    /// Removes the first frame of a line.
     pub(crate) fn pop(&mut self, end: End) -> Option<FrameLeft>
         ensures frames { self.new ≡ with_frames end (drop 1 (frames_of end self.old)) self.old }
         ensures front { result ≡ first_message (frames_of end self.old) }
@@ -151,7 +151,7 @@ impl FrameLines {
         }
     }
 
-    /// Changes byte `at` of the front of a line by exclusive or, if it has that byte.
+    /// Changes byte `at` of the first frame of a line by exclusive or, if the frame has that byte.
     pub(crate) fn change_front(&mut self, end: End, at: usize, by: u8) -> bool
         ensures frames { self.new
             ≡ with_frames end (with_change at by (frames_of end self.old)) self.old }
@@ -175,7 +175,7 @@ fn front_of(frames: &VecDeque<FrameLeft>) -> Option<&[u8]>
     }
 }
 
-/// The first `n` bytes of the front have gone, and with the last of them the frame.
+/// Removes the first `n` bytes of the first frame, and the frame if none are left.
 fn take_off(frames: &mut VecDeque<FrameLeft>, n: usize)
     ensures { frames.new.items ≡ taken_off n frames.old.items }
 {
@@ -189,7 +189,7 @@ fn take_off(frames: &mut VecDeque<FrameLeft>, n: usize)
     }
 }
 
-/// Changes byte `at` of the front by exclusive or, if it has that byte.
+/// Changes byte `at` of the first frame by exclusive or, if the frame has that byte.
 fn change_front(frames: &mut VecDeque<FrameLeft>, at: usize, by: u8) -> bool
     ensures frames { frames.new.items ≡ with_change at by frames.old.items }
     ensures answer { result ≡ has_byte at frames.old.items }

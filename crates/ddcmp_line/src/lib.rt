@@ -1,6 +1,5 @@
-//! Two stations on a line, joined by a carrier: `script` does what the lines of a text ask for
-//! between them, and writes what comes of it. What else such a program needs is re-exported from
-//! the crates below.
+//! Two stations on a line, joined by a carrier: `script` runs the commands of a text between them,
+//! and writes their results. What else such a program needs is re-exported from the crates below.
 //!
 //! ```text
 //! send A 616263     asks that the station at A is to send the message `abc`

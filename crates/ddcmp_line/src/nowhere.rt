@@ -1,9 +1,9 @@
-//! A sink that keeps nothing.
+//! A sink that discards everything.
 ghost use Rattle.std.specs.Prelude.{None, false};
 
 use ddcmp_io::Sink;
 
-/// Takes all bytes and keeps none.
+/// Discards all bytes.
 #[derive(Clone, Copy, Drop)]
 pub(crate) struct Nowhere;
 

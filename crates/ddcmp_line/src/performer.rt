@@ -1,4 +1,4 @@
-//! Does what the lines of a script ask for.
+//! Runs the commands of a script.
 ghost use Rattle.std.specs.Prelude.{◌≡◌, ◌<◌, [], false, length, Some, None, Ok, Err, IsOk, OnErr};
 ghost use Rattle.std.specs.Prelude.{IsTrue};
 ghost use Rattle.std.specs.VecDeque.{deque_capacity, deque_len};
@@ -38,7 +38,7 @@ pub(crate) enum Stop {
     Carrier,
 }
 
-/// The lines between the ends, and the buffered text.
+/// The lines between the ends, and the buffered output.
 #[derive(Drop)]
 pub(crate) struct Stage {
     pub(crate) alloc: Global,
@@ -46,7 +46,7 @@ pub(crate) struct Stage {
     pub(crate) page: Page,
 }
 
-/// An end writes its next frame, which goes last on its line.
+/// Polls an end; a frame that it writes is the last one on its line.
 fn poll<W: Sink, V: View>(
     pair: &mut Pair,
     view: &mut V,
@@ -71,7 +71,7 @@ fn poll<W: Sink, V: View>(
     Ok(())
 }
 
-/// A frame that was written goes last on its line, if there is room for it.
+/// Appends a frame that was written to its line, which has room.
 fn put_last(frames: &mut VecDeque<FrameLeft>, reply: Reply)
     requires { deque_len frames.old < deque_capacity frames.old }
     ensures { frames.new.items ≡ frames_after reply frames.old.items }
@@ -82,7 +82,7 @@ fn put_last(frames: &mut VecDeque<FrameLeft>, reply: Reply)
     }
 }
 
-/// Returns at most this many bytes from the front of some, or all.
+/// Returns at most this many of the first bytes, or all.
 fn first_of(bytes: &[u8], most: Option<u32>) -> &[u8]
     ensures { result.now ≡ part_of most bytes.now }
 {
@@ -92,7 +92,7 @@ fn first_of(bytes: &[u8], most: Option<u32>) -> &[u8]
     }
 }
 
-/// Writes what is buffered before a carry that may fail, so that one device has failed at most.
+/// Writes what is buffered before a carry that may fail, so that at most one device has failed.
 fn flush_before<W: Sink, C: Carrier>(
     page: &mut Page,
     writer: &mut W,
@@ -110,7 +110,7 @@ fn flush_before<W: Sink, C: Carrier>(
     page.flush(writer)
 }
 
-/// An allocation failure stops a line.
+/// Returns the stop for an allocation failure.
 fn stopped(done: Result<(), Memory>) -> Result<(), Stop>
     ensures { result ≡ stopped_of done }
 {
@@ -121,7 +121,7 @@ fn stopped(done: Result<(), Memory>) -> Result<(), Stop>
 }
 
 impl Stage {
-    /// Empty lines, and no text.
+    /// Returns empty lines without buffered output.
     pub(crate) fn new(alloc: Global) -> Self
         ensures lines { result.lines ≡ nothing_between }
         ensures page { result.page ≡ [] }
@@ -133,7 +133,7 @@ impl Stage {
         }
     }
 
-    /// An end writes its next frame.
+    /// Polls an end, and writes the reply.
     fn poll<W: Sink, V: View>(
         &mut self,
         pair: &mut Pair,
@@ -155,7 +155,7 @@ impl Stage {
         }
     }
 
-    /// Clears the line, and if it is cleared empties both lines.
+    /// Clears the pair; if that is done, empties both lines.
     fn clear<W: Sink, V: View>(
         &mut self,
         pair: &mut Pair,
@@ -199,7 +199,7 @@ impl Stage {
         Ok(())
     }
 
-    /// An event happens.
+    /// Applies an event.
     fn happen<W: Sink, V: View>(
         &mut self,
         pair: &mut Pair,
@@ -222,7 +222,8 @@ impl Stage {
         }
     }
 
-    /// Bytes arrive at an end: a line with these words and their number, and then the notices.
+    /// Has bytes arrive at an end: writes a line with these words and their number, then the
+    /// notices.
     fn arrive<W: Sink, V: View>(
         &mut self,
         pair: &mut Pair,
@@ -250,7 +251,7 @@ impl Stage {
         Ok(())
     }
 
-    /// The front of an end's line arrives at the other end, as the carrier returns it.
+    /// Has the first frame of an end's line arrive at the other end, as the carrier returns it.
     fn carry<W: Sink, C: Carrier, V: View>(
         &mut self,
         pair: &mut Pair,
@@ -296,7 +297,7 @@ impl Stage {
         }
     }
 
-    /// The front of an end's line is dropped.
+    /// Drops the first frame of an end's line.
     fn lose<W: Sink>(&mut self, writer: &mut W, from: End)
         ensures { (p : PairState) → Comes (outcome_of_lose from (frames_of from self.old.lines)
             (scene_of p self.old.lines)) (scene_of p self.old.lines) (scene_of p self.new.lines)
@@ -312,7 +313,7 @@ impl Stage {
         }
     }
 
-    /// A byte of the front of an end's line is changed.
+    /// Changes a byte of the first frame of an end's line.
     fn damage<W: Sink>(&mut self, writer: &mut W, from: End, at: u32, by: u8)
         ensures { (p : PairState) → Comes (outcome_of_damage from at by
             (frames_of from self.old.lines) (scene_of p self.old.lines))
@@ -330,7 +331,7 @@ impl Stage {
         );
     }
 
-    /// All frames on both lines are lost, and then both ends settle.
+    /// Drops all frames on both lines, and then has both ends settle.
     fn settle<W: Sink, V: View>(
         &mut self,
         pair: &mut Pair,
@@ -351,7 +352,7 @@ impl Stage {
         Ok(())
     }
 
-    /// All frames on both lines are lost, and then the line recovers.
+    /// Drops all frames on both lines, and then has the line recover.
     fn recover<W: Sink, V: View>(
         &mut self,
         pair: &mut Pair,
@@ -373,8 +374,7 @@ impl Stage {
         Ok(())
     }
 
-    /// Returns the number of bytes that are left of the first frame on the line that a command
-    /// names.
+    /// Returns how many bytes are left of the first frame on the line that a command names.
     fn front_length(&self, command: &ScriptCommand) -> Option<usize> {
         let from = match command {
             ScriptCommand::Carry(from, _) | ScriptCommand::Lose(from) => *from,

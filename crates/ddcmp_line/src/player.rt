@@ -1,4 +1,4 @@
-//! Plays a script: reads its lines, and does what each asks for between two ends.
+//! Plays a script: reads its lines, and runs their commands between two ends.
 ghost use Rattle.std.specs.Prelude.{◌≡◌, ◌≢◌, ◌⊎◌, ◌↔◌, ◌+◌, ◌-◌, ◌<◌, ◌≤◌, ◌^◌, ◌∷◌, [], false};
 ghost use Rattle.std.specs.Prelude.{Bool, List, ℕ, Option, Some, None, Err, OnErr, IsTrue, length};
 ghost use Rattle.std.specs.Io.KnownBytes.{Appends, Consumes};
@@ -26,19 +26,19 @@ use std::alloc::Global;
 /// How many bytes of a script are read at once.
 const PIECE: usize = 4096;
 
-/// What was read of a script so far.
+/// How far a script was read and played.
 #[derive(Drop)]
 struct Player {
     stage: Stage,
-    /// The bytes of the line that was begun.
+    /// The part of the current line that was read.
     line: Vec<u8>,
-    /// How many lines were done.
+    /// How many lines are done.
     number: u64,
     seen: u64,
 }
 
 impl Player {
-    /// Nothing so far.
+    /// Returns a player that has read nothing.
     fn new(alloc: Global) -> Self
         ensures seen { result.seen ≡ 0 }
         ensures number { result.number ≡ 0 }
@@ -54,7 +54,7 @@ impl Player {
         }
     }
 
-    /// Takes a byte of the script, and if it is LF does the line that it ends.
+    /// Takes a byte of the script; if it is LF, runs the line that it ends.
     fn take_byte<W: Sink, C: Carrier, V: View>(
         &mut self,
         pair: &mut Pair,
@@ -97,7 +97,7 @@ impl Player {
         }
     }
 
-    /// Takes a piece of the script, and does the lines that it completes.
+    /// Takes a chunk of the script, and runs the lines that it completes.
     fn take<W: Sink, C: Carrier, V: View>(
         &mut self,
         pair: &mut Pair,
@@ -130,7 +130,7 @@ impl Player {
         Ok(())
     }
 
-    /// Writes what is buffered; returns which fault it is.
+    /// Writes what is buffered; returns the fault.
     fn stop<W: Sink>(&mut self, writer: &mut W, stop: Stop) -> ScriptFault
         requires few { self.old.number < 2 ^ 64 - 1 }
         requires write { stop ≡ Stop.Write → IsTrue (W.broken writer.old) }
@@ -161,7 +161,7 @@ impl Player {
         }
     }
 
-    /// Runs the last line, if LF doesn't end it.
+    /// Runs the last line, if it doesn't end with LF.
     fn end_input<W: Sink, C: Carrier, V: View>(
         &mut self,
         pair: &mut Pair,
@@ -191,7 +191,7 @@ impl Player {
         self.stage.do_line(pair, view, writer, carrier, &self.line)
     }
 
-    /// Runs what is left of the input, and writes the totals.
+    /// Runs what is left of the input, and writes the last lines.
     fn finish<W: Sink, C: Carrier, V: View>(
         &mut self,
         pair: &mut Pair,
@@ -227,7 +227,7 @@ impl Player {
         }
     }
 
-    /// Takes the script to its end.
+    /// Plays the script to its end.
     fn take_all<R: Source, W: Sink, C: Carrier, V: View, O: Sink>(
         &mut self,
         pair: &mut Pair,
@@ -270,7 +270,7 @@ impl Player {
             → Plays counted input (around p pair.new d log (C.told carrier.new))
             (Appends sink (W.contents writer.new))
             (AppendsPart sink (W.contents writer.new)) result }
-        // If the view goes no further, the script ends as after an allocation failure.
+        // If the view stops, the script ends as after an allocation failure.
         ensures shown { result ≢ Err ScriptFault.Memory → O.broken shown.new ≡ false }
     {
         let mut piece = [0; PIECE];
@@ -287,7 +287,7 @@ impl Player {
                 _ => return Err(ScriptFault::Read),
             };
             self.seen += n as u64;
-            // A reader that has returned the most bytes counts as failed.
+            // A reader that has returned the maximum number of bytes counts as failed.
             if self.seen == u64::MAX {
                 return Err(ScriptFault::Read);
             }
@@ -320,8 +320,8 @@ pub fn script<R: Source, W: Sink, C: Carrier>(
     script_with(alloc, pair, reader, writer, carrier, false)
 }
 
-/// Runs a script: writes the result of each line, the counters of both stations if they are asked
-/// for, and a last line with the totals.
+/// Runs a script: writes the result of each line, the counters of both stations if `counted` is
+/// set, and a last line with the totals.
 pub fn script_with<R: Source, W: Sink, C: Carrier>(
     alloc: Global,
     pair: &mut Pair,
@@ -352,9 +352,9 @@ pub fn script_with<R: Source, W: Sink, C: Carrier>(
     )
 }
 
-/// Runs a script, and has a view show it to a sink: what is promised of the pair, of the carrier
-/// and of the result is what `script` promises. If the view goes no further, the script ends as
-/// after an allocation failure. A sink that failed is left to the caller.
+/// Runs a script, and has a view show it on a sink. For the pair, the carrier and the result it
+/// promises what `script` does. If the view stops, the script ends as after an allocation failure.
+/// The caller has to check whether the sink failed.
 pub fn script_viewed<R: Source, W: Sink, C: Carrier, V: View>(
     alloc: Global,
     pair: &mut Pair,
@@ -376,7 +376,7 @@ pub fn script_viewed<R: Source, W: Sink, C: Carrier, V: View>(
     script_over(alloc, pair, view, reader, &mut text, writer, carrier, false)
 }
 
-/// Runs a script: its text goes to `writer`, and what the view shows to `shown`.
+/// Runs a script: writes its text to `writer`, and what the view shows to `shown`.
 fn script_over<R: Source, W: Sink, C: Carrier, V: View, O: Sink>(
     alloc: Global,
     pair: &mut Pair,

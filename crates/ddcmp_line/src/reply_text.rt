@@ -1,4 +1,4 @@
-//! What a script writes of replies.
+//! What a script writes for replies.
 ghost use Rattle.std.specs.Prelude.{◌≡◌, ◌++◌};
 ghost use Rattle.std.specs.List.{flat_map};
 ghost use Rattle.ddcmp_io.specs.Written.{HandsOver, output_of};
@@ -17,7 +17,7 @@ use ddcmp_pair::{End, Reply};
 use ddcmp_proto::{Notice, SendRefusal, StartRefusal, Station};
 use ddcmp_station::{state_name, write_notice};
 
-/// Who replies, before the words of the reply.
+/// Returns the name of the end that replies, for the beginning of a line.
 pub fn end_name(end: End) -> &'static [u8]
     ensures { result.now ≡ end_name end }
 {
@@ -27,7 +27,7 @@ pub fn end_name(end: End) -> &'static [u8]
     }
 }
 
-/// The same; nobody, if both ends are meant.
+/// Returns the same; empty, if the reply is for both ends.
 pub fn answerer_name(end: Option<End>) -> &'static [u8]
     ensures { result.now ≡ name_before end }
 {
@@ -57,7 +57,7 @@ pub fn clear_refusal_name(refusal: StartRefusal) -> &'static [u8]
     }
 }
 
-/// Returns why a message isn't taken, as a line.
+/// Returns why a message isn't accepted, as a line.
 pub fn send_refusal_name(refusal: SendRefusal) -> &'static [u8]
     ensures { result.now ≡ send_refusal_text refusal }
 {
@@ -86,7 +86,7 @@ fn write_notices<W: Sink>(page: &mut Page, writer: &mut W, who: &[u8], notices: 
     }
 }
 
-/// A line with a number in it.
+/// Writes a line with a number at its end.
 pub fn write_counted<W: Sink>(
     page: &mut Page,
     writer: &mut W,
@@ -104,7 +104,7 @@ pub fn write_counted<W: Sink>(
     page.write(writer, b"\n");
 }
 
-/// A line of words alone, which end it.
+/// Writes a line of words only, with its end.
 pub fn write_plain<W: Sink>(page: &mut Page, writer: &mut W, who: &[u8], words: &[u8])
     ensures { HandsOver (output_of W.broken W.contents writer.old page.old)
         (output_of W.broken W.contents writer.new page.new) (who.now ++ words.now) }
@@ -113,7 +113,7 @@ pub fn write_plain<W: Sink>(page: &mut Page, writer: &mut W, who: &[u8], words: 
     page.write(writer, words);
 }
 
-/// A line with bytes in it.
+/// Writes a line with bytes at its end.
 pub fn write_bytes<W: Sink>(page: &mut Page, writer: &mut W, who: &[u8], words: &[u8], bytes: &[u8])
     ensures { HandsOver (output_of W.broken W.contents writer.old page.old)
         (output_of W.broken W.contents writer.new page.new)
@@ -162,7 +162,7 @@ fn timer_name(on: bool) -> &'static [u8]
     if on { b" timer=on\n" } else { b" timer=off\n" }
 }
 
-/// The state and the numbers of a station.
+/// Writes the state and the numbers of a station.
 fn write_numbers<W: Sink>(page: &mut Page, writer: &mut W, station: &Station)
     ensures { HandsOver (output_of W.broken W.contents writer.old page.old)
         (output_of W.broken W.contents writer.new page.new)
@@ -180,7 +180,7 @@ fn write_numbers<W: Sink>(page: &mut Page, writer: &mut W, station: &Station)
     write_number(page, writer, numbers.t.0);
 }
 
-/// The line of a station.
+/// Writes the line of a station.
 pub fn write_station<W: Sink>(page: &mut Page, writer: &mut W, who: &[u8], station: &Station)
     ensures { HandsOver (output_of W.broken W.contents writer.old page.old)
         (output_of W.broken W.contents writer.new page.new)
@@ -195,14 +195,14 @@ pub fn write_station<W: Sink>(page: &mut Page, writer: &mut W, who: &[u8], stati
     page.write(writer, timer_name(station.timer_on()));
 }
 
-/// Writes how a settle ended, after its exchanges.
+/// Returns how a settle ended, as the end of its line.
 fn settled_name(quiet: bool) -> &'static [u8]
     ensures { result.now ≡ quiet_text quiet }
 {
     if quiet { b" quiet\n" } else { b" busy\n" }
 }
 
-/// The line of a settle.
+/// Writes the line of a settle.
 pub fn write_settled<W: Sink>(page: &mut Page, writer: &mut W, exchanges: u32, quiet: bool)
     ensures { HandsOver (output_of W.broken W.contents writer.old page.old)
         (output_of W.broken W.contents writer.new page.new) (settled_text exchanges quiet) }
@@ -212,7 +212,7 @@ pub fn write_settled<W: Sink>(page: &mut Page, writer: &mut W, exchanges: u32, q
     page.write(writer, settled_name(quiet));
 }
 
-/// Writes how a recovery ended, after its exchanges.
+/// Returns how a recovery ended, as the end of its line.
 fn done_name(is_done: bool) -> &'static [u8]
     ensures { result.now ≡ done_text is_done }
 {
@@ -227,7 +227,7 @@ fn write_count<W: Sink>(page: &mut Page, writer: &mut W, exchanges: u32)
     page.write(writer, b" ");
 }
 
-/// The exchanges of each settle of a recovery.
+/// Writes the exchanges of each settle of a recovery.
 fn write_counts<W: Sink>(page: &mut Page, writer: &mut W, counts: &[u32])
     ensures { HandsOver (output_of W.broken W.contents writer.old page.old)
         (output_of W.broken W.contents writer.new page.new) (flat_map count_text counts.now) }
@@ -237,7 +237,7 @@ fn write_counts<W: Sink>(page: &mut Page, writer: &mut W, counts: &[u32])
     }
 }
 
-/// The line of a recovery.
+/// Writes the line of a recovery.
 pub fn write_recovered<W: Sink>(page: &mut Page, writer: &mut W, exchanges: &[u32], is_done: bool)
     ensures { HandsOver (output_of W.broken W.contents writer.old page.old)
         (output_of W.broken W.contents writer.new page.new)
@@ -248,7 +248,7 @@ pub fn write_recovered<W: Sink>(page: &mut Page, writer: &mut W, exchanges: &[u3
     page.write(writer, done_name(is_done));
 }
 
-/// Returns what became of a byte that was to be changed.
+/// Returns the result of damaging a byte.
 pub fn damage_name(is_empty: bool, is_there: bool) -> &'static [u8]
     ensures { result.now ≡ damage_text is_empty is_there }
 {

@@ -1,25 +1,24 @@
-//! What shows a script.
+//! A view, which shows a script.
 ghost use Rattle.std.specs.Prelude.{◌≡◌, ◌↔◌, false, IsTrue};
 
 use crate::command::ScriptCommand;
 use ddcmp_io::Sink;
 use ddcmp_pair::{Pair, Recovered, Settled, Unwatched, Watch};
 
-/// Shows what the lines of a script do: it watches the pair, and is called before and after what a
-/// line does.
+/// Shows what the lines of a script do. It watches the pair, and is called before and after each
+/// line's effect.
 pub trait View: Watch {
-    /// A line asks for this, and nothing of it is done yet. A command may name the first frame of a
-    /// line between the ends: `front` is the number of its bytes that haven't arrived, if there is
-    /// one.
+    /// Is called before a command has any effect. If the command names a line between the ends that
+    /// has a frame, `front` is how many bytes of the first frame haven't arrived.
     fn begins(&mut self, pair: &Pair, command: &ScriptCommand, front: Option<usize>);
 
-    /// Both ends settled.
+    /// Is called after both ends settled.
     fn settled(&mut self, settled: &Settled);
 
-    /// The line recovered; `done` is whether nothing was left to be done.
+    /// Is called after the line recovered; `done` is whether the pair is then done.
     fn recovered(&mut self, recovered: &Recovered, done: bool);
 
-    /// Writes what it has to show; returns whether it goes on.
+    /// Writes what it has to show; returns whether it continues.
     fn show<W: Sink>(&mut self, writer: &mut W) -> bool
         requires whole { W.broken writer.old ≡ false }
         ensures whole { IsTrue result → W.broken writer.new ≡ false };

@@ -1,4 +1,4 @@
-//! A pair to which things are done one after another, and whether each is answered as it should be.
+//! A pair for which actions are run one after another and their replies checked.
 use ddcmp_pair::{
     Bytes, Config, End, Event, Memory, Notice, Pair, PairRefusal, Recovered, Reply, RunRefusal,
     SendRefusal, Seq, Settled, Station, run,
@@ -33,7 +33,7 @@ pub const HANDED_UP: Answer = Answer::Notices(&[Notice::HandedUp]);
 
 pub const ACKNOWLEDGED: Answer = Answer::Notices(&[Notice::Acknowledged(1)]);
 
-/// The usual sizes.
+/// The default sizes.
 pub const DEFAULT: Config = Config {
     window: 7,
     inbox: 8,
@@ -42,12 +42,12 @@ pub const DEFAULT: Config = Config {
     restart: false,
 };
 
-/// The usual sizes, but for the window.
+/// Returns the default sizes with another window.
 pub fn sizes(window: u16) -> Config {
     Config { window, ..DEFAULT }
 }
 
-/// What is done.
+/// An action.
 #[derive(Clone, Copy)]
 pub enum Action {
     Start(End),
@@ -58,7 +58,7 @@ pub enum Action {
     Take(End),
 }
 
-/// What is answered.
+/// The expected reply.
 #[derive(Clone, Copy)]
 pub enum Answer {
     Started(u8),
@@ -71,10 +71,10 @@ pub enum Answer {
     Took(&'static [u8]),
 }
 
-/// What is done and what is answered.
+/// An action and its expected reply.
 pub type Step = (Action, Answer);
 
-/// Both ends start, and A asks first; then a message crosses and is acknowledged.
+/// Both ends start, and A sends STRT first; then a message is delivered and acknowledged.
 const PATH: &[Step] = &[
     (Action::Start(End::A), Answer::Started(0)),
     (Action::Start(End::B), Answer::Started(0)),
@@ -92,15 +92,15 @@ const PATH: &[Step] = &[
     (Action::Arrive(End::A, ACK_1), ACKNOWLEDGED),
 ];
 
-/// How many steps the startup has.
+/// How many steps the startup handshake has.
 const STARTUP: usize = 8;
 
-/// The startup, and the path of one message.
+/// Returns the startup handshake, and the path of one message.
 pub fn path() -> &'static [Step] {
     PATH
 }
 
-/// The startup alone.
+/// Returns the startup handshake.
 pub fn startup() -> &'static [Step] {
     path().get(..STARTUP).unwrap_or(&[])
 }
@@ -119,7 +119,7 @@ pub fn event_of(alloc: Global, action: Action) -> Result<Event, AllocError> {
     Ok(event)
 }
 
-/// Returns whether a reply is this answer.
+/// Returns whether a reply is as expected.
 pub fn is_answer(reply: &Reply, answer: Answer) -> bool {
     match (reply, answer) {
         (Reply::Started(told), Answer::Started(dropped)) => *told == dropped,
@@ -134,23 +134,23 @@ pub fn is_answer(reply: &Reply, answer: Answer) -> bool {
     }
 }
 
-/// The most bytes of a message at any end.
+/// The maximum length of a message at any end.
 const LONGEST: usize = 16383;
 
-/// A pair to which events happen.
+/// A pair for events.
 pub struct Bench {
     pair: Pair,
 }
 
-// Manual, since a derived `Drop` is expanded wherever a pair is dropped.
+// Manual, since a derived `Drop` would be expanded wherever a value is dropped.
 impl Drop for Bench {
     fn drop(self) {
         let Bench { pair: _pair } = self;
     }
 }
 
-/// Calls whose contracts say more than tests want to know: each stands alone here, and promises
-/// nothing.
+/// Calls whose contracts state more than tests need: each has a function of its own here that
+/// promises nothing.
 impl Bench {
     pub fn new(
         rt: &(impl Abort + AllocGlobal),
@@ -163,7 +163,7 @@ impl Bench {
         }
     }
 
-    /// The pair of a run between ends of the default sizes.
+    /// Returns the pair of a run between ends of the default sizes.
     pub fn of_run(alloc: Global, events: &[Event]) -> Result<Bench, RunRefusal> {
         match run(alloc, DEFAULT, DEFAULT, events) {
             Ok(pair) => Ok(Bench { pair }),
@@ -204,7 +204,7 @@ impl Bench {
         self.pair.done()
     }
 
-    /// Returns how many messages were given, delivered, and reported acknowledged at an end.
+    /// Returns how many messages were accepted, delivered, and reported acknowledged at an end.
     pub fn counts(&self, end: End) -> (usize, usize, u64) {
         (
             self.pair.given(end),
@@ -213,7 +213,7 @@ impl Bench {
         )
     }
 
-    /// Returns whether message `i` of those that an end gave is this one.
+    /// Returns whether message `i` of those that an end accepted is this one.
     pub fn is_given(&self, end: End, i: usize, message: &[u8]) -> bool {
         i < self.pair.given(end) && self.pair.given_at(end, i) == message
     }
@@ -238,7 +238,7 @@ impl Bench {
 }
 
 impl Bench {
-    /// A pair of which memory allows both ends.
+    /// Makes a pair; no allocation fails.
     pub fn ample(rt: &(impl Abort + AllocGlobal), first: Config, second: Config) -> Bench {
         match Bench::new(rt, first, second) {
             Ok(bench) => bench,
@@ -246,21 +246,21 @@ impl Bench {
         }
     }
 
-    /// Both ends run, and neither has anything to send.
+    /// Returns a pair with both ends running and nothing to send.
     pub fn running(rt: &(impl Abort + AllocGlobal), config: Config) -> Bench {
         let mut bench = Bench::ample(rt, config, config);
         bench.plays(rt, startup());
         bench
     }
 
-    /// Each action has its answer, and there is memory.
+    /// Checks that each action has its expected reply; no allocation fails.
     pub fn plays(&mut self, rt: &(impl Abort + AllocGlobal), steps: &[Step]) {
         for (i, (action, answer)) in steps.iter().enumerate() {
             assert!(rt; self.is_played(rt.alloc(), *action, *answer), "step {i}");
         }
     }
 
-    /// Returns whether an action has its answer.
+    /// Returns whether an action has its expected reply.
     pub fn is_played(&mut self, alloc: Global, action: Action, answer: Answer) -> bool {
         match event_of(alloc, action) {
             Ok(event) => self.is_answered(event, answer),
@@ -268,7 +268,7 @@ impl Bench {
         }
     }
 
-    /// Returns whether an event has this answer.
+    /// Returns whether an event has this reply.
     pub fn is_answered(&mut self, event: Event, answer: Answer) -> bool {
         match self.step(event) {
             Ok(reply) => is_answer(&reply, answer),
@@ -276,7 +276,7 @@ impl Bench {
         }
     }
 
-    /// The bytes of an end's next frame, if it has one.
+    /// Returns the bytes of an end's next frame, if it has one.
     pub fn polls(&mut self, from: End) -> Option<Bytes> {
         match self.step(Event::Poll(from)) {
             Ok(Reply::Wrote(bytes)) => Some(bytes),
@@ -284,7 +284,7 @@ impl Bench {
         }
     }
 
-    /// Returns whether an end's next frame arrives whole at the other, and gives this notice.
+    /// Returns whether an end's next frame arrives whole at the other, which returns this notice.
     pub fn crosses(&mut self, from: End, notice: &'static [Notice]) -> bool {
         match self.polls(from) {
             Some(frame) => {
@@ -295,7 +295,7 @@ impl Bench {
         }
     }
 
-    /// Message `number` goes from A to B, is taken and is acknowledged.
+    /// Sends message `number` from A to B, where it is taken and acknowledged.
     pub fn carries(&mut self, rt: &(impl Abort + AllocGlobal), number: u16) {
         let accepted = Answer::Accepted((number % 256) as u8);
         let taken = Answer::Took(b"a");
@@ -314,8 +314,8 @@ impl Bench {
         );
     }
 
-    /// On an honest line A gave this message this many times, and each was delivered at B and is
-    /// reported acknowledged; B sent none.
+    /// Checks that on an honest line A sent this message this many times, and each was delivered at
+    /// B and is reported acknowledged; B sent none.
     pub fn has_many(&self, rt: &impl Abort, message: &[u8], times: usize) {
         assert!(rt; self.counts(End::A) == (times, 0, times as u64));
         assert!(rt; self.counts(End::B) == (0, times, 0));

@@ -5,8 +5,8 @@ use std::alloc::{AllocError, Global};
 use std::process::Abort;
 use std::test::Fail;
 
-/// Sizes at both ends of their ranges. They are a function's, since the prover takes minutes for
-/// such a table as a constant.
+/// Returns sizes at both ends of their ranges. They are in a function, since the prover takes
+/// minutes for such a table as a constant.
 fn many_sizes() -> [Config; 10] {
     let largest = largest();
     [
@@ -48,7 +48,7 @@ fn largest() -> Config {
     }
 }
 
-/// Sizes of which several are out of range.
+/// Returns sizes of which several are out of range.
 fn all_wrong() -> Config {
     Config {
         window: 7,
@@ -59,7 +59,7 @@ fn all_wrong() -> Config {
     }
 }
 
-/// Sizes out of range, and the first of them.
+/// Returns sizes out of range, each with the refusal of the first such one.
 fn refused_sizes() -> [(Config, ConfigRefusal); 8] {
     let inbox = Config {
         inbox: 256,
@@ -87,7 +87,7 @@ fn refused_sizes() -> [(Config, ConfigRefusal); 8] {
     ]
 }
 
-/// Nothing has been done, and both ends are halted.
+/// Returns whether nothing has been done, and both ends are halted.
 fn is_new(bench: &Bench) -> bool {
     bench.premises() == (true, true)
         && bench.counts(End::A) == (0, 0, 0)
@@ -106,17 +106,17 @@ fn pairs_of_many_sizes(rt: HostRuntime) {
     }
 }
 
-/// The refusal of a pair, for its sizes.
+/// Returns the refusal of a pair, for its sizes.
 fn refusal_of_pair(alloc: Global, first: Config, second: Config) -> Option<PairRefusal> {
     Pair::new(alloc, first, second).err()
 }
 
-/// A run without an event.
+/// Returns a run without events.
 fn runs_nothing(alloc: Global, first: Config, second: Config) -> Result<Pair, RunRefusal> {
     run(alloc, first, second, &[])
 }
 
-/// The sizes that a run refused.
+/// Returns the refusal in that of a run.
 fn sizes_of(refused: &RunRefusal) -> Option<PairRefusal> {
     match refused {
         RunRefusal::First(refusal) => Some(PairRefusal::First(*refusal)),
@@ -128,7 +128,7 @@ fn sizes_of(refused: &RunRefusal) -> Option<PairRefusal> {
     }
 }
 
-/// The refusal of a run, for its sizes.
+/// Returns the refusal of a run, for its sizes.
 fn refusal_of_run(alloc: Global, first: Config, second: Config) -> Option<PairRefusal> {
     match runs_nothing(alloc, first, second) {
         Ok(_pair) => None,
@@ -136,13 +136,14 @@ fn refusal_of_run(alloc: Global, first: Config, second: Config) -> Option<PairRe
     }
 }
 
-/// A pair of these sizes is refused so, and a run too.
+/// Checks that a pair with these sizes is refused like this, and a run too.
 fn refuses(rt: &(impl Abort + AllocGlobal), first: Config, second: Config, refusal: PairRefusal) {
     assert!(rt; refusal_of_pair(rt.alloc(), first, second) == Some(refusal));
     assert!(rt; refusal_of_run(rt.alloc(), first, second) == Some(refusal));
 }
 
-/// These sizes are refused at either end, and the first end's refusal comes first.
+/// Checks that these sizes are refused at either end, and the first end's refusal is returned
+/// first.
 fn refuses_at_both(rt: &(impl Abort + AllocGlobal), config: Config, refusal: ConfigRefusal) {
     let first = PairRefusal::First(refusal);
     refuses(rt, config, DEFAULT, first);
@@ -168,7 +169,7 @@ fn sizes_out_of_range_are_refused(rt: HostRuntime) {
     }
 }
 
-/// The events of some steps.
+/// Returns the events of some steps.
 pub fn events_of(alloc: Global, steps: &[Step]) -> Result<Vec<Event>, AllocError> {
     let mut events = Vec::new(alloc);
     for (action, _answer) in steps {
@@ -177,7 +178,7 @@ pub fn events_of(alloc: Global, steps: &[Step]) -> Result<Vec<Event>, AllocError
     Ok(events)
 }
 
-/// The pair of a run of these events; there is memory.
+/// Returns the pair of a run of these events; no allocation fails.
 fn ran(rt: &(impl Abort + AllocGlobal), events: &[Event]) -> Bench {
     match Bench::of_run(rt.alloc(), events) {
         Ok(bench) => bench,

@@ -1,4 +1,4 @@
-//! The path of one message, of which one frame is damaged.
+//! The path of one message, on which one frame is damaged.
 use crate::link::Link;
 use ddcmp_line::{Config, End, Event};
 use std::process::Abort;
@@ -11,12 +11,12 @@ const DEFAULT: Config = Config {
     restart: false,
 };
 
-/// What is done on the path of one message.
+/// The actions on the path of one message.
 #[derive(Clone, Copy)]
 enum Action {
     Start(End),
     Poll(End),
-    /// The front of the line from this end arrives.
+    /// The first frame from this end arrives.
     Pass(End),
     Send,
     Take,
@@ -42,7 +42,7 @@ const PATH: [Action; 14] = [
 /// The lengths of the frames that arrive: STRT, STACK, ACK 0, data 1 and ACK 1.
 const FRAMES: [usize; 5] = [8, 8, 8, 13, 8];
 
-/// What becomes of a byte.
+/// The damage to a byte.
 #[derive(Clone, Copy, Debug)]
 enum Spoil {
     /// It is changed by exclusive or.
@@ -50,8 +50,8 @@ enum Spoil {
     LeftOut,
 }
 
-/// The link after the path on which this frame had this byte spoilt. What is refused then, or finds
-/// nothing to send or to arrive, stays so.
+/// Returns the link after the path, on which a byte of a frame was damaged. Actions that are then
+/// refused, or find nothing to send or to arrive, have no effect.
 fn after_path(rt: &(impl Abort + AllocGlobal), frame: usize, at: usize, spoil: Spoil) -> Link {
     let mut link = Link::new(rt, DEFAULT, DEFAULT);
     let mut passed = 0usize;
@@ -82,7 +82,7 @@ fn after_path(rt: &(impl Abort + AllocGlobal), frame: usize, at: usize, spoil: S
     link
 }
 
-/// The line is repaired, A sends a message, and the line is repaired again.
+/// Repairs the line; A sends a message; and repairs the line again.
 fn repairs(rt: &(impl Abort + AllocGlobal), link: &mut Link) {
     for _time in 0..2u8 {
         let _settled = link.rounds(rt);
@@ -93,7 +93,7 @@ fn repairs(rt: &(impl Abort + AllocGlobal), link: &mut Link) {
     }
 }
 
-/// One damaged byte anywhere costs nothing in the end.
+/// One damaged byte anywhere has no lasting effect.
 #[test]
 fn a_damaged_byte_is_repaired(rt: HostRuntime) {
     for (frame, length) in FRAMES.iter().enumerate() {
@@ -108,7 +108,7 @@ fn a_damaged_byte_is_repaired(rt: HostRuntime) {
     }
 }
 
-/// If the line was honest, each end was handed what the other gave.
+/// Checks that if the line was honest, each end's messages were delivered at the other.
 fn stays_in_order(rt: &(impl Abort + AllocGlobal), frame: usize, at: usize, spoil: Spoil) {
     let mut link = after_path(rt, frame, at, spoil);
     repairs(rt, &mut link);
@@ -118,7 +118,7 @@ fn stays_in_order(rt: &(impl Abort + AllocGlobal), frame: usize, at: usize, spoi
     }
 }
 
-/// Each byte of a frame becomes each other value, or is left out.
+/// Changes each byte of a frame to each other value, or leaves it out.
 fn damage_keeps_the_order(rt: &(impl Abort + AllocGlobal), frame: usize, length: usize) {
     for at in 0..length {
         for change in 1..=255u8 {

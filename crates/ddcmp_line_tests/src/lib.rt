@@ -1,6 +1,6 @@
-//! Tests of two ends from outside: of `ddcmp_pair` on events, of a picture on a paper of their own,
-//! of refused memory to all that plays or serves, and of hostile use: damage, cuts, junk and loss,
-//! over finished calls. Worked rows are in `worked`.
+//! Tests of two ends from outside: of `ddcmp_pair` with events, of pictures on a paper of their
+//! own, of everything that plays or serves with failing allocations, and of hostile use: damage,
+//! cuts, junk and loss, over finished calls. Worked examples are in `worked`.
 #![tactic(auto)]
 
 #[cfg(test)]

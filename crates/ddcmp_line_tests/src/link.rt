@@ -1,13 +1,13 @@
-//! A pair, and the frames that its ends wrote: they wait on the line, and arrive whole, damaged, in
-//! pieces or not at all.
+//! A pair, and the frames that its ends wrote: they are queued on the line, and arrive whole,
+//! damaged, in parts or not at all.
 use ddcmp_line::{Bytes, Config, End, Event, Memory, Pair, Recovered, Reply, Settled, State};
 use std::collections::VecDeque;
 use std::process::Abort;
 
-/// The most bytes of a message at any end.
+/// The maximum length of a message at any end.
 pub const LONGEST: usize = 1500;
 
-/// The frames that an end wrote and that haven't arrived, the front first.
+/// The frames that an end wrote and that haven't arrived, in order.
 type Line = VecDeque<Vec<u8>>;
 
 /// What each end wrote.
@@ -16,7 +16,7 @@ struct Lines {
     of_b: Line,
 }
 
-// Manual, since a derived `Drop` is expanded wherever a line is dropped.
+// Manual, since a derived `Drop` would be expanded wherever a value is dropped.
 impl Drop for Lines {
     fn drop(self) {
         let Lines {
@@ -40,7 +40,7 @@ pub struct Link {
     lines: Lines,
 }
 
-// Manual, since a derived `Drop` is expanded wherever a link is dropped.
+// Manual, since a derived `Drop` would be expanded wherever a value is dropped.
 impl Drop for Link {
     fn drop(self) {
         let Link {
@@ -76,7 +76,7 @@ impl Link {
         self.pair.recover()
     }
 
-    /// The reply to an event. Memory is ample.
+    /// Returns the reply to an event. No allocation fails.
     pub fn does(&mut self, rt: &impl Abort, event: Event) -> Reply {
         match self.step(event) {
             Ok(reply) => reply,
@@ -84,13 +84,13 @@ impl Link {
         }
     }
 
-    /// Returns whether the end takes this message.
+    /// Returns whether the end accepts this message.
     pub fn sends(&mut self, rt: &(impl Abort + AllocGlobal), end: End, message: &[u8]) -> bool {
         let bytes = copy_of(rt, message);
         matches!(self.does(rt, Event::Send(end, bytes)), Reply::Accepted(_))
     }
 
-    /// The end's next frame, if there is one, goes on the line.
+    /// Puts the end's next frame on the line, if there is one.
     pub fn polls(&mut self, rt: &impl Abort, from: End) {
         if let Reply::Wrote(frame) = self.does(rt, Event::Poll(from)) {
             let kept = self.lines.of(from).push_back(frame.into_vec());
@@ -98,21 +98,21 @@ impl Link {
         }
     }
 
-    /// These bytes arrive.
+    /// Has these bytes arrive.
     pub fn arrives(&mut self, rt: &impl Abort, to: End, bytes: Bytes) {
         let Reply::Notices(_told) = self.does(rt, Event::Arrive(to, bytes)) else {
             panic!(rt; "an arrival tells notices");
         };
     }
 
-    /// The front of the line arrives, if there is one.
+    /// Has the first frame of the line arrive, if there is one.
     pub fn passes(&mut self, rt: &impl Abort, from: End) {
         if let Some(front) = self.lines.of(from).pop_front() {
             self.arrives(rt, from.other(), Bytes::new(front));
         }
     }
 
-    /// This many bytes of the front arrive, and the rest stays on the line.
+    /// Has this many bytes of the first frame arrive; the rest stays on the line.
     pub fn cuts(&mut self, rt: &(impl Abort + AllocGlobal), from: End, count: usize) {
         if let Some(front) = self.lines.of(from).pop_front() {
             let count = count.min(front.len());
@@ -125,7 +125,7 @@ impl Link {
         }
     }
 
-    /// The front arrives, and is still to arrive.
+    /// Has the first frame arrive, and keeps it on the line.
     pub fn doubles(&mut self, rt: &(impl Abort + AllocGlobal), from: End) {
         if let Some(front) = self.lines.of(from).front() {
             let bytes = copy_of(rt, front);
@@ -133,12 +133,12 @@ impl Link {
         }
     }
 
-    /// The front is lost.
+    /// Drops the first frame.
     pub fn loses(&mut self, from: End) {
         let _lost = self.lines.of(from).pop_front();
     }
 
-    /// A byte of the front is changed.
+    /// Changes a byte of the first frame.
     pub fn damages(&mut self, from: End, at: usize, change: u8) {
         if let Some(front) = self.lines.of(from).front_mut() {
             if let Some(byte) = front.get_mut(at) {
@@ -147,7 +147,7 @@ impl Link {
         }
     }
 
-    /// A byte of the front is left out.
+    /// Removes a byte of the first frame.
     pub fn leaves_out(&mut self, from: End, at: usize) {
         if let Some(front) = self.lines.of(from).front_mut() {
             if at < front.len() {
@@ -156,7 +156,7 @@ impl Link {
         }
     }
 
-    /// Returns how many bytes the front has.
+    /// Returns how many bytes the first frame has.
     pub fn front(&mut self, from: End) -> usize {
         match self.lines.of(from).front() {
             Some(front) => front.len(),
@@ -164,13 +164,13 @@ impl Link {
         }
     }
 
-    /// All that is on the line is lost.
+    /// Drops all that is on the line.
     pub fn loses_all(&mut self) {
         self.lines.of_a.clear();
         self.lines.of_b.clear();
     }
 
-    /// All that is on the line is lost, and then frames go to and fro.
+    /// Drops all that is on the line, and then settles.
     pub fn settles(&mut self, rt: &impl Abort) -> Settled {
         self.loses_all();
         match self.settle() {
@@ -179,7 +179,7 @@ impl Link {
         }
     }
 
-    /// A settle and two rounds.
+    /// Runs a recovery: a settle and two rounds.
     pub fn recovers(&mut self, rt: &impl Abort) -> Recovered {
         self.loses_all();
         match self.recover() {
@@ -188,15 +188,15 @@ impl Link {
         }
     }
 
-    /// Both timers expire, and the line settles.
+    /// Has both timers expire, and then settles.
     pub fn rounds(&mut self, rt: &impl Abort) -> Settled {
         let _a = self.does(rt, Event::Expire(End::A));
         let _b = self.does(rt, Event::Expire(End::B));
         self.settles(rt)
     }
 
-    /// On an honest line and in a clean run what was delivered is a prefix of what was given at
-    /// the other end, and no more is reported acknowledged than was delivered.
+    /// Checks that on an honest line and in a clean run what was delivered is a prefix of what was
+    /// accepted at the other end, and no more is reported acknowledged than was delivered.
     pub fn keeps_its_promise(&self, rt: &impl Abort) {
         if self.pair.honest() && self.pair.clean() {
             self.is_in_order(rt, End::A);
@@ -210,7 +210,7 @@ impl Link {
         assert!(rt; self.pair.acknowledged(end) <= self.pair.handed_up(end.other()) as u64);
     }
 
-    /// What was delivered at an end is a prefix of what was given at the other.
+    /// Checks that what was delivered at an end is a prefix of what was accepted at the other.
     pub fn is_in_order(&self, rt: &impl Abort, to: End) {
         let from = to.other();
         let mut out = [0; LONGEST];
@@ -224,8 +224,8 @@ impl Link {
         }
     }
 
-    /// Both ends run, and all that was given at each was delivered at the other and is reported
-    /// acknowledged.
+    /// Checks that both ends run, and that all that was accepted at each was delivered at the other
+    /// and is reported acknowledged.
     pub fn is_done(&self, rt: &impl Abort) {
         for end in [End::A, End::B] {
             assert_eq!(rt; self.pair.station(end).state(), State::Running, "{end:?}");
@@ -238,7 +238,7 @@ impl Link {
     }
 }
 
-/// Bytes of the test's own.
+/// Copies bytes.
 pub fn copy_of(rt: &(impl Abort + AllocGlobal), bytes: &[u8]) -> Bytes {
     match Vec::from_slice(rt.alloc(), bytes) {
         Ok(copied) => Bytes::new(copied),

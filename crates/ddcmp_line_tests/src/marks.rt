@@ -18,7 +18,7 @@ impl List {
         self.is_whole = self.is_whole && is_added;
     }
 
-    /// A line of who, what and a label.
+    /// Adds a line: an end, a kind and a label.
     fn line(&mut self, at: End, what: &[u8], label: &[u8]) {
         self.add(match at {
             End::A => b"A",

@@ -1,14 +1,14 @@
-//! In order, once, unchanged, or not at all: over a bad line, and what would be false if the
-//! line isn't honest or a run isn't clean.
+//! Messages are delivered in order, once and unchanged, or not at all: over a bad line; and what
+//! fails if the line isn't honest or a run isn't clean.
 ghost use Rattle.std.specs.Prelude.{◌<◌, ◌≤◌};
 
 use crate::bench::{Action, Answer, Bench, DEFAULT, HANDED_UP, NO_NOTICE, Step, sizes};
 use ddcmp_pair::{Bytes, End, Event, Notice, Reply, SendRefusal};
 use std::process::Abort;
 
-// ---- what the premises are for
+// ---- why the premises are needed
 
-/// One message more is delivered than was accepted.
+/// Checks that one message more was delivered than was accepted.
 fn one_too_many(bench: &Bench, rt: &impl Abort) {
     let (given, _up, _told) = bench.counts(End::A);
     let (_given, handed_up, _acknowledged) = bench.counts(End::B);
@@ -21,7 +21,7 @@ const FIRST: &[u8] = &[
     0x81, 0x01, 0x00, 0x00, 0x01, 0x01, 0xE3, 0x81, 0x61, 0xC1, 0xE8,
 ];
 
-/// It comes when 256 messages are over, and is delivered.
+/// It arrives after 256 messages, and is delivered.
 fn comes_late(bench: &mut Bench, rt: &(impl Abort + AllocGlobal)) {
     let (honest, _clean) = bench.premises();
     assert!(rt; honest);
@@ -29,7 +29,7 @@ fn comes_late(bench: &mut Bench, rt: &(impl Abort + AllocGlobal)) {
     one_too_many(bench, rt);
 }
 
-/// Message 1 comes again when the next message is 257, whose number is 1 too.
+/// Message 1 arrives again when the next message is 257, which has number 1 too.
 #[test]
 fn a_doubled_frame_is_handed_up_twice(rt: HostRuntime) {
     let mut bench = Bench::running(&rt, DEFAULT);
@@ -67,7 +67,7 @@ fn sent_twice() -> [Step; 10] {
     ]
 }
 
-/// Of two frames that were sent the first comes last, after 255 others.
+/// Of two frames that were sent, the first arrives last, after 255 others.
 #[test]
 fn a_late_frame_is_handed_up_twice(rt: HostRuntime) {
     let mut bench = Bench::running(&rt, DEFAULT);
@@ -85,7 +85,7 @@ fn is_acknowledged(bench: &mut Bench) -> bool {
     bench.crosses(End::B, &[Notice::Acknowledged(1)])
 }
 
-/// A frame is lost, a REP shows it, and it is retransmitted.
+/// A frame is lost, found missing by a REP, and retransmitted.
 fn comes_later(rt: &(impl Abort + AllocGlobal), window: u16) {
     let mut bench = Bench::running(rt, sizes(window));
     bench.plays(rt, &sent_twice());
@@ -101,7 +101,7 @@ fn a_lost_message_comes_later(rt: HostRuntime) {
     comes_later(&rt, 255);
 }
 
-/// A message that no other message equals, of bytes that begin no frame.
+/// Returns a message that differs from all others and whose bytes begin no frame.
 fn message(end: End, number: u16) -> [u8; 4] {
     let name = match end {
         End::A => b'a',
@@ -118,7 +118,7 @@ struct BadLine {
 }
 
 impl BadLine {
-    /// Returns what comes of a frame.
+    /// Returns what is left of a frame.
     fn passes(&mut self, rt: &impl Abort, frame: Bytes) -> Option<Bytes> {
         self.frames = self.frames.wrapping_add(1);
         let mut bytes = frame.into_vec();
@@ -137,14 +137,14 @@ impl BadLine {
     }
 }
 
-/// Two ends that talk both ways at once, and the next message of each.
+/// Two ends that send to each other at once, and the next message of each.
 struct Talk {
     bench: Bench,
     line: BadLine,
     next: [u16; 2],
 }
 
-// Manual, since a derived `Drop` is expanded wherever a talk is dropped.
+// Manual, since a derived `Drop` would be expanded wherever a value is dropped.
 impl Drop for Talk {
     fn drop(self) {
         let Talk {
@@ -158,7 +158,7 @@ impl Drop for Talk {
 /// How many messages each end has to send.
 const MESSAGES: u16 = 255;
 
-/// An end's place in a list of both.
+/// Returns an end's index in a list of both.
 fn at(end: End) -> usize
     ensures { result < 2 }
 {
@@ -177,7 +177,7 @@ impl Talk {
         }
     }
 
-    /// Returns what is answered to an event; there is memory.
+    /// Returns the reply to an event; no allocation fails.
     fn does(&mut self, rt: &impl Abort, event: Event) -> Reply {
         match self.bench.step(event) {
             Ok(reply) => reply,
@@ -185,7 +185,7 @@ impl Talk {
         }
     }
 
-    /// Returns whether the end takes this message, if its window isn't full.
+    /// Returns whether the end accepts this message, that is, its window isn't full.
     fn is_offered(&mut self, rt: &(impl Abort + AllocGlobal), end: End, message: &[u8]) -> bool {
         let Ok(bytes) = Vec::from_slice(rt.alloc(), message) else {
             panic!(rt; "no memory");
@@ -197,7 +197,7 @@ impl Talk {
         }
     }
 
-    /// The end sends its messages until its window is full.
+    /// Has the end send its messages until its window is full.
     fn offers(&mut self, rt: &(impl Abort + AllocGlobal), end: End) {
         for _offer in 0..MESSAGES {
             let number = self.next[at(end)];
@@ -208,8 +208,8 @@ impl Talk {
         }
     }
 
-    /// The end's next frame goes over the bad line, and what comes of it arrives. Then the received
-    /// messages are taken.
+    /// Sends the end's next frame over the bad line, and has what is left of it arrive. Then the
+    /// received messages are taken.
     fn crosses(&mut self, rt: &(impl Abort + AllocGlobal), from: End) {
         self.offers(rt, from);
         if let Some(frame) = self.bench.polls(from) {
@@ -220,7 +220,7 @@ impl Talk {
         }
     }
 
-    /// An end's received messages are taken.
+    /// Takes an end's received messages.
     fn takes(&mut self, rt: &impl Abort, end: End) {
         for _message in 0..MESSAGES {
             let Reply::Took(_message) = self.does(rt, Event::Take(end)) else {
@@ -229,13 +229,13 @@ impl Talk {
         }
     }
 
-    /// Both timers expire.
+    /// Has both timers expire.
     fn expires(&mut self, rt: &impl Abort) {
         let _at_a = self.does(rt, Event::Expire(End::A));
         let _at_b = self.does(rt, Event::Expire(End::B));
     }
 
-    /// Frames go to and fro over the bad line for a while.
+    /// Exchanges frames over the bad line for a while.
     fn talks(&mut self, rt: &(impl Abort + AllocGlobal)) {
         for round in 0..600u16 {
             self.crosses(rt, End::A);
@@ -247,12 +247,12 @@ impl Talk {
         self.is_right(rt);
     }
 
-    /// The line is honest, and the run clean.
+    /// Checks that the line is honest, and the run clean.
     fn is_right(&self, rt: &impl Abort) {
         assert!(rt; self.bench.premises() == (true, true));
     }
 
-    /// Both timers expire, and on a line that is good again frames go to and fro.
+    /// Has both timers expire, and exchanges frames on a line that is good again.
     fn settles(&mut self, rt: &(impl Abort + AllocGlobal)) {
         for end in [End::A, End::B] {
             self.offers(rt, end);
@@ -264,7 +264,7 @@ impl Talk {
         }
     }
 
-    /// All messages of an end are delivered at the other, in their order, and reported
+    /// Checks that all messages of an end are delivered at the other, in order, and reported
     /// acknowledged.
     fn has_all(&self, rt: &impl Abort, from: End) {
         let (given, _up, acknowledged) = self.bench.counts(from);
@@ -286,7 +286,7 @@ impl Talk {
     }
 }
 
-/// 255 messages go both ways at once over the bad line, which is repaired then.
+/// 255 messages are sent both ways at once over the bad line, which is then repaired.
 fn all_come(rt: &(impl Abort + AllocGlobal), window: u16) {
     let mut talk = Talk::new(rt, window);
     talk.talks(rt);

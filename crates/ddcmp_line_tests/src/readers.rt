@@ -1,4 +1,4 @@
-//! Texts that end early, junk after the front of a frame, and long texts of one byte.
+//! Texts that end early, junk after the beginning of a frame, and long texts of one byte.
 use ddcmp_explain::{Form, explain};
 use ddcmp_frame::failing::{Pieces, Taken};
 use ddcmp_frame::{Item, Reader};
@@ -14,7 +14,7 @@ const ACK: [u8; 8] = [0x05, 0x01, 0x00, 0x00, 0x00, 0x01, 0xFC, 0x55];
 /// A start byte that begins nothing, and an ACK.
 const FALSE_START: [u8; 9] = [0x81, 0x05, 0x01, 0x00, 0x00, 0x00, 0x01, 0xFC, 0x55];
 
-/// What explain writes of these bytes.
+/// Checks what explain writes for these bytes.
 fn explains(rt: &(impl Abort + AllocGlobal), bytes: &[u8], text: &str) {
     let mut reader = Pieces::of(bytes);
     let mut writer = Taken::<256>::new();
@@ -23,7 +23,7 @@ fn explains(rt: &(impl Abort + AllocGlobal), bytes: &[u8], text: &str) {
     assert_eq!(rt; writer.bytes(), text.as_bytes());
 }
 
-/// A frame that has begun is open, and gives no item.
+/// A frame that has begun is open, and yields no item.
 #[test]
 fn each_beginning_is_open(rt: HostRuntime) -> Result<(), Fail> {
     for length in 0..13usize {
@@ -39,7 +39,7 @@ fn each_beginning_is_open(rt: HostRuntime) -> Result<(), Fail> {
     Ok(())
 }
 
-/// The item of the last byte that gave one.
+/// Returns the item of the last byte that completed one.
 fn last_item(rt: &(impl Abort + AllocGlobal), bytes: &[u8]) -> Option<Item> {
     let Ok(mut reader) = Reader::new(rt.alloc(), 16383) else {
         panic!(rt; "no reader");
@@ -54,8 +54,8 @@ fn last_item(rt: &(impl Abort + AllocGlobal), bytes: &[u8]) -> Option<Item> {
     last
 }
 
-/// Each beginning of a frame is followed by 1600 zeros and an ACK. A header that isn't whole has a
-/// wrong check. Eight bytes are a whole one, and three zeros with their check of 0 are good data.
+/// Each prefix of a frame is followed by 1600 zeros and an ACK. An incomplete header has a wrong
+/// CRC. Eight bytes are a complete one, and three zeros with their CRC of 0 are good data.
 #[test]
 fn a_frame_is_found_after_junk(rt: HostRuntime) -> Result<(), Fail> {
     for length in 1..13usize {
@@ -81,7 +81,7 @@ fn a_frame_is_found_after_junk(rt: HostRuntime) -> Result<(), Fail> {
     Ok(())
 }
 
-/// Returns how many items a reader gives of 20,000 bytes of this value.
+/// Returns how many items a reader returns for 20,000 bytes of this value.
 fn items_of(rt: &(impl Abort + AllocGlobal), max: u16, value: u8) -> u64 {
     assert!(rt; max <= 16383);
     let Ok(mut reader) = Reader::new(rt.alloc(), max) else {
@@ -100,8 +100,8 @@ fn items_of(rt: &(impl Abort + AllocGlobal), max: u16, value: u8) -> u64 {
     items
 }
 
-/// The header of equal bytes has a wrong check for each start byte, so each text of start bytes is
-/// one loss of synchronism. No other byte begins a frame.
+/// A header of equal bytes has a wrong CRC for each start byte, so each text of start bytes is one
+/// loss of synchronism. No other byte begins a frame.
 #[test]
 fn long_texts_of_one_byte(rt: HostRuntime) {
     for max in [1, 1500, 16383] {

@@ -1,5 +1,5 @@
-//! One allocation is refused, wherever it comes, to a pair, to a script, to a served station and to
-//! explain. Run outside the gate, with one allocation refused after another; in the gate none is.
+//! One allocation fails, at any point, in a pair, a script, a served station and explain. Outside
+//! the gate these tests are run with one allocation after another failing; in the gate none fails.
 
 mod explains;
 mod pairs;

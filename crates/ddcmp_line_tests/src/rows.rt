@@ -1,11 +1,11 @@
-//! Many messages one after another, and a window of many.
+//! Many messages one after another, and a window with many.
 use crate::bench::{Action, Answer, Bench, Step, sizes};
 use ddcmp_pair::{End, Settled, State, Station};
 use std::alloc::Global;
 use std::process::Abort;
 
-/// Returns whether a station runs with these numbers R, N, A, T, keeps no message, has no received
-/// messages, and its timer is off.
+/// Returns whether a station runs with these numbers R, N, A and T, without queued or received
+/// messages, and with its timer off.
 fn is_at(station: &Station, numbers: [u8; 4]) -> bool {
     let told = station.numbers();
     station.state() == State::Running
@@ -15,7 +15,7 @@ fn is_at(station: &Station, numbers: [u8; 4]) -> bool {
         && !station.timer_on()
 }
 
-/// Both ends after 300 messages of A.
+/// Returns whether both ends are as after 300 messages of A.
 fn is_after_300(bench: &Bench) -> bool {
     is_at(bench.station(End::A), [0, 44, 44, 45]) && is_at(bench.station(End::B), [44, 0, 0, 1])
 }
@@ -38,12 +38,12 @@ fn numbers_go_round(rt: HostRuntime) {
     goes_round(&rt, 255);
 }
 
-/// Returns whether A takes message `number`, `a`.
+/// Returns whether A accepts message `number`, `a`.
 fn is_taken(bench: &mut Bench, alloc: Global, number: u8) -> bool {
     bench.is_played(alloc, Action::Send(End::A, b"a"), Answer::Accepted(number))
 }
 
-/// Returns whether A's next frame has this number. It is lost.
+/// Returns whether A's next frame has this number. The frame is lost.
 fn is_lost(bench: &mut Bench, number: u8) -> bool {
     match bench.polls(End::A) {
         Some(frame) => frame.as_slice().get(4) == Some(&number),
@@ -51,7 +51,7 @@ fn is_lost(bench: &mut Bench, number: u8) -> bool {
     }
 }
 
-/// After all 255 messages of the window are lost.
+/// Returns steps after all 255 messages of the window are lost.
 fn window_lost() -> [Step; 2] {
     [
         (Action::Poll(End::A), Answer::Idle),
@@ -59,7 +59,7 @@ fn window_lost() -> [Step; 2] {
     ]
 }
 
-/// Returns whether a settle has this many exchanges, and the line is quiet then.
+/// Returns whether a settle has this many exchanges, and the line is then quiet.
 fn is_settled(bench: &mut Bench, exchanges: u32) -> bool {
     match bench.settle() {
         Ok(told) => told

@@ -1,5 +1,5 @@
-//! Long runs of drawn events over pairs of drawn sizes. Frames are lost, damaged and cut, and junk
-//! comes between them; the seed is the test's own, so each run is the same.
+//! Long runs of random events over pairs of random sizes. Frames are lost, damaged and cut, and
+//! junk is inserted; the seed is fixed, so each run is the same.
 ghost use Rattle.std.specs.Prelude.{◌<◌};
 
 use crate::link::{Link, copy_of};
@@ -7,7 +7,7 @@ use ddcmp_line::{Config, End, Event};
 use std::process::Abort;
 use test_kit::Draws;
 
-/// The sizes of one end.
+/// Draws the sizes of one end.
 fn draw_config(draws: &mut Draws, max: u16) -> Config {
     Config {
         window: draws.among(&[1, 2, 7, 127, 255]),
@@ -22,18 +22,18 @@ fn draw_end(draws: &mut Draws) -> End {
     draws.among(&[End::A, End::B])
 }
 
-/// What scripts did if the line was honest and the run clean.
+/// What scripts did while the line was honest and the run clean.
 #[derive(Clone, Copy, Debug)]
 struct Tally {
-    /// Events after which the promise was looked at.
+    /// Events after which the promise was checked.
     kept: u64,
     handed_up: u64,
     acknowledged: u64,
-    /// Scripts that ended so that the line could be repaired.
+    /// Scripts after which the line could be repaired.
     repaired: u64,
 }
 
-/// Both ends start, and A asks first.
+/// Starts both ends; A sends STRT first.
 fn starts(rt: &impl Abort, link: &mut Link) {
     let _a = link.does(rt, Event::Start(End::A));
     let _b = link.does(rt, Event::Start(End::B));
@@ -43,7 +43,7 @@ fn starts(rt: &impl Abort, link: &mut Link) {
     }
 }
 
-/// A message of drawn bytes, of which many begin frames, and at times too long or empty.
+/// Sends a random message, of which many bytes begin frames, and which may be too long or empty.
 fn sends(rt: &(impl Abort + AllocGlobal), link: &mut Link, draws: &mut Draws, end: End, max: u16) {
     let mut message = [0; 80];
     let length = draws.below(max.min(64) as usize + 2);
@@ -59,7 +59,8 @@ fn draw_byte(draws: &mut Draws) -> u8 {
     draws.among(&[any, any, 0x05, 0x81, 0x90, 0x96, 0x00])
 }
 
-/// Junk without a good frame: drawn bytes, or the header of a message whose data never come.
+/// Injects junk without a good frame: random bytes, or the header of a message whose data are
+/// missing.
 fn junk_comes(rt: &(impl Abort + AllocGlobal), link: &mut Link, draws: &mut Draws, to: End) {
     let mut junk = [0; 24];
     for byte in junk.iter_mut() {
@@ -78,7 +79,7 @@ fn junk_comes(rt: &(impl Abort + AllocGlobal), link: &mut Link, draws: &mut Draw
     link.arrives(rt, to, copy_of(rt, &junk[..length]));
 }
 
-/// The front of a line comes to harm.
+/// Damages, cuts or drops the first frame of a line, or injects junk.
 fn harms(rt: &(impl Abort + AllocGlobal), link: &mut Link, draws: &mut Draws, from: End) {
     let length = link.front(from).max(1);
     let at = draws.below(length);
@@ -95,7 +96,7 @@ fn harms(rt: &(impl Abort + AllocGlobal), link: &mut Link, draws: &mut Draws, fr
     }
 }
 
-/// Both ends halt, all received messages are taken, the line is cleared, and both start.
+/// Halts both ends, takes all received messages, clears the line, and starts both.
 fn begins_anew(rt: &impl Abort, link: &mut Link) {
     for end in [End::A, End::B] {
         let _halted = link.does(rt, Event::Halt(end));
@@ -109,7 +110,8 @@ fn begins_anew(rt: &impl Abort, link: &mut Link) {
     starts(rt, link);
 }
 
-/// Something seldom: a start, a halt, a frame that comes twice, a repair, or a line that restarts.
+/// Does something rare: a start, a halt, a frame that arrives twice, a repair, or a line that
+/// restarts.
 fn upsets(rt: &(impl Abort + AllocGlobal), link: &mut Link, draws: &mut Draws, end: End) {
     match draws.below(8) {
         0 => {
@@ -126,7 +128,7 @@ fn upsets(rt: &(impl Abort + AllocGlobal), link: &mut Link, draws: &mut Draws, e
     }
 }
 
-/// One drawn event, of these many.
+/// Runs one random event.
 fn happens(
     rt: &(impl Abort + AllocGlobal),
     link: &mut Link,
@@ -152,8 +154,8 @@ fn happens(
     }
 }
 
-/// If the pair is ready, a recovery repairs the line whatever was lost: all that was given was
-/// delivered, and is reported acknowledged.
+/// If the pair is ready, a recovery repairs the line whatever was lost: all accepted messages were
+/// delivered, and are reported acknowledged.
 fn recovers(rt: &impl Abort, link: &mut Link, tally: &mut Tally) {
     if link.pair.ready() {
         assert!(rt; link.recovers(rt).quiet);
@@ -163,12 +165,12 @@ fn recovers(rt: &impl Abort, link: &mut Link, tally: &mut Tally) {
     }
 }
 
-/// What is drawn from: all that can happen, or all but what is seldom and restarts.
+/// The range of draws: all events, or all without the rare ones and restarts.
 const ANYTHING: usize = 100;
 
 const NOTHING_SELDOM: usize = 98;
 
-/// One script of sixty events.
+/// Runs one script of sixty events.
 fn plays(rt: &(impl Abort + AllocGlobal), draws: &mut Draws, tally: &mut Tally) {
     let max = draws.among(&[1, 2, 20, 64]);
     let first = draw_config(draws, max);
@@ -200,8 +202,8 @@ fn counts(link: &Link, tally: &mut Tally) {
     }
 }
 
-/// Half of the events at least find the line honest and the run clean, and in the mean a message
-/// of each script is delivered.
+/// At least half of the events find the line honest and the run clean, and on average a message of
+/// each script is delivered.
 #[test]
 fn two_thousand_scripts(rt: HostRuntime) {
     let mut draws = Draws {
@@ -224,8 +226,7 @@ fn two_thousand_scripts(rt: HostRuntime) {
     assert!(rt; tally.repaired > 500, "{tally:?}");
 }
 
-/// One script of this many events with this window at both ends, of which each fiftieth is looked
-/// at.
+/// Runs one script of this many events with this window at both ends, and checks every fiftieth.
 fn plays_long(rt: &(impl Abort + AllocGlobal), draws: &mut Draws, window: u16, events: u32) {
     let sizes = Config {
         window,
@@ -252,7 +253,7 @@ fn plays_long(rt: &(impl Abort + AllocGlobal), draws: &mut Draws, window: u16, e
     }
 }
 
-/// The numbers go round, at every window.
+/// The numbers wrap around, at every window.
 #[test]
 fn numbers_go_round(rt: HostRuntime) {
     let mut draws = Draws {

@@ -25,7 +25,7 @@ abbrev pub default_config : Bool → Config
 default_config restart =
     record { window = 7; inbox = 8; max = 1500; syn = 0; restart = restart }
 
--- a station of these sizes that has started and done nothing more
+-- a station of these sizes that was started and has done nothing else
 pub record HasStarted (restart : Bool) (v : StationView) : Type 0 where
   pub core : v.core
       ≡ record (core_made (default_config restart)) { station = after_start new_station }
@@ -39,23 +39,23 @@ end_text driven state =
     ++ codes " read=" ++ decimal driven.read ++ codes " written=" ++ decimal driven.written
     ++ codes "\n"
 
--- the end of a report: the counters, if they are asked for, and the last line
+-- the end of a report: the counters, if requested, and the last line
 abbrev pub closing_text : Bool → Driven → CoreView → List ℕ
 closing_text counted driven k =
     if counted then counters_line [] k.counters ++ end_text driven k.station.state
     else end_text driven k.station.state
 
--- the line of a report for a call of its user: of a notice, and of a message that came
+-- the line of a report for a call of its user: for a notice, and for a received message
 abbrev pub call_text : UserCall → List ℕ
 call_text (Asked room message) = []
 call_text (Told notice) = notice_line [] notice
 call_text (Handed message) = codes "mail " ++ encode_lower message ++ codes "\n"
 
--- the lines for all calls, in their order
+-- the lines for all calls, in order
 abbrev pub calls_text : List UserCall → List ℕ
 calls_text calls = flat_map call_text calls
 
--- a whole report: after the lines for all calls stands its end, if the turns were over
+-- a whole report: the lines for all calls, and if all turns were done, its end
 abbrev pub report_text : Bool → List UserCall → Result Driven LineFault → CoreView → List ℕ
 report_text counted calls (Ok driven) k = calls_text calls ++ closing_text counted driven k
 report_text counted calls (Err fault) k = calls_text calls
@@ -65,23 +65,23 @@ abbrev pub WritesOut : Bool → Known → Known → List ℕ → Type 0
 WritesOut false old new text = Appends old new text
 WritesOut true old new text = AppendsPart old new text
 
--- A user that is asked for messages gives this one at first, whole, and then none.
+-- A user that is asked for messages first returns this one, whole, and then none.
 abbrev pub OffersOnce : List ℕ → List UserCall → Type 0
 OffersOnce send [] = Unit {0}
 OffersOnce send (Asked room message ∷ calls) = (message ≡ send) × OffersOnce [] calls
 OffersOnce send (Told notice ∷ calls) = OffersOnce send calls
 OffersOnce send (Handed message ∷ calls) = OffersOnce send calls
 
--- What is answered to an answer of `drive`: a fault of the line is reported, and else whether a
--- write of the report has failed.
+-- The result of a served station, by that of `drive`: a fault of the line, or else whether a write
+-- of the report failed.
 abbrev pub served_answer : Result Driven LineFault → Bool → Result (Unit {0}) ServeFault
 served_answer (Ok driven) false = Ok tt
 served_answer (Ok driven) true = Err Report
 served_answer (Err fault) failed = Err (Line fault)
 
--- A station that had just started was driven over these devices. Its user sent the message once
--- and reported each notice and message, and the result says what came of it. `counted` is
--- whether the counters are asked for, and `failed` whether a write of the report has failed.
+-- A station that was just started was driven over these devices. Its user sent the message once and
+-- reported each notice and message, and the result reports how that ended. `counted` is whether
+-- counters are requested, and `failed` whether a write of the report failed.
 pub record Serves (milliseconds turns : ℕ) (restart counted : Bool) (send : List ℕ)
     (devices : Devices) (failed : Bool) (report report_after : Known)
     (answer : Result (Unit {0}) ServeFault)

@@ -1,6 +1,6 @@
-//! Stations over a network: `serve` drives one of the default sizes over a line and reports what
-//! happens to it, `connect` and `accept` open its connection, and `Sockets` is a carrier over a
-//! connection of the program with itself.
+//! Stations over a network: `serve` drives one of the default sizes over a line and reports its
+//! events, `connect` and `accept` open its connection, and `Sockets` is a carrier over a connection
+//! of the program with itself.
 #![tactic(auto)]
 
 mod connection;

@@ -1,4 +1,4 @@
-//! The user of a served station: sends one message, and reports what happens.
+//! The user of a served station: sends one message, and reports events.
 ghost use Rattle.std.specs.Prelude.{◌≡◌, ◌++◌, [], is_err};
 ghost use Rattle.ddcmp_io.specs.Written.{HandsOver, output_of};
 ghost use Rattle.ddcmp_net.specs.Serving.{closing_text, end_text};
@@ -10,12 +10,12 @@ use ddcmp_station::{
     Driven, Notice, State, Station, User, state_name, write_counters, write_notice,
 };
 
-/// Sends one message as soon as it is asked for one, and writes a line of each notice and of each
-/// message that comes. A line goes out whole, before anything else happens.
+/// Sends one message as soon as it is asked for one, and writes a line for each notice and each
+/// received message. A line is written completely before anything else happens.
 #[derive(Drop)]
 pub(crate) struct Reporter<'a, P> {
     report: &'a mut P,
-    /// What is still to be sent; empty if nothing is.
+    /// What is left to send; empty if nothing is.
     send: &'a [u8],
 }
 
@@ -56,7 +56,7 @@ impl<P: Sink> User for Reporter<'_, P> {
     }
 }
 
-/// The parts of the last line of a report.
+/// Writes the parts of the last line of a report.
 fn write_totals<P: Sink>(page: &mut Page, report: &mut P, driven: &Driven, state: State)
     ensures { HandsOver (output_of P.broken P.contents report.old page.old)
         (output_of P.broken P.contents report.new page.new) (end_text driven.now state) }
@@ -72,7 +72,7 @@ fn write_totals<P: Sink>(page: &mut Page, report: &mut P, driven: &Driven, state
     page.write(report, b"\n");
 }
 
-/// The counters, and the last line.
+/// Writes the counters, and the last line.
 fn write_counted_totals<P: Sink>(
     page: &mut Page,
     report: &mut P,
@@ -88,7 +88,7 @@ fn write_counted_totals<P: Sink>(
     write_totals(page, report, driven, station.state());
 }
 
-/// Writes the end of a report: the counters, if they are asked for, and the last line.
+/// Writes the end of a report: the counters, if requested, and the last line.
 fn write_closing<P: Sink>(
     page: &mut Page,
     report: &mut P,
@@ -107,7 +107,7 @@ fn write_closing<P: Sink>(
     }
 }
 
-/// Writes the end of a report; returns whether it and all before it went out.
+/// Writes the end of a report; returns whether all of the report was written.
 pub(crate) fn write_end<P: Sink>(
     report: &mut P,
     driven: &Driven,

@@ -2,14 +2,14 @@
 use ddcmp_station::LineFault;
 use std::fmt;
 
-/// Why a station that was to be driven isn't done.
+/// Why driving a station failed.
 #[derive(Clone, Copy, Debug, PartialEq, Eq)]
 pub enum ServeFault {
     /// An allocation for the station failed.
     Config,
     /// The line failed or ended. This is reported even if the report failed too.
     Line(LineFault),
-    /// A write to the report failed, which is known when the turns are over.
+    /// A write of the report failed; this is returned after all turns.
     Report,
 }
 

@@ -12,7 +12,7 @@ use ddcmp_io::{Sink, Source, Worst};
 use ddcmp_station::{Clock, Config, LineFault, Station, drive};
 use std::alloc::Global;
 
-/// The most bytes of a message that a served station sends or takes.
+/// The maximum length of a message that a served station sends or receives, in bytes.
 pub const SERVED_MAX: u16 = 1500;
 
 /// Returns the sizes of a served station.
@@ -29,9 +29,8 @@ fn default_config(restart: bool) -> Config
 }
 
 /// Makes a station, starts it and drives it over a line for some turns. The report has a line for
-/// each notice and each received message, as they come, and a last one; before that the counters,
-/// if `counted` asks for them. The station sends one message as soon as it runs, if `send` isn't
-/// empty.
+/// each notice and each received message, in order; then the counters, if `counted` is set; and a
+/// last line. The station sends one message as soon as it runs, if `send` isn't empty.
 pub fn serve<R: Source, W: Sink, P: Sink, C: Clock>(
     alloc: Global,
     reader: &mut R,
@@ -53,7 +52,7 @@ pub fn serve<R: Source, W: Sink, P: Sink, C: Clock>(
         writer.old writer.new clock.old clock.new) (P.broken report.new) (P.contents report.old)
         (P.contents report.new) result }
 
-    // When each fault comes.
+    // When each fault is returned.
     ensures read { (result ≡ Err (ServeFault.Line LineFault.Read))
         ↔ (R.state reader.new ≡ Worst.Failed) }
     ensures write { (result ≡ Err (ServeFault.Line LineFault.Write))

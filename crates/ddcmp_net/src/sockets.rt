@@ -7,13 +7,13 @@ use std::io::{self, Read, Write};
 use std::net::{Ipv4Addr, Net, OpenListener, TcpListener, TcpStream};
 use std::time::Duration;
 
-/// How many bytes are written before as many are read: few enough that they have room in between.
+/// How many bytes are written before as many are read: few enough to fit into the socket buffers.
 const PIECE: usize = 1024;
 
-/// How long a write or a read waits, in seconds, before the carrier has failed.
+/// The timeout of a write or a read, in seconds, after which the carrier has failed.
 const WAIT_SECONDS: u64 = 5;
 
-/// Holds both ends of one TCP connection, writes at one and reads as many bytes at the other.
+/// Has both ends of one TCP connection; writes to one and reads as many bytes from the other.
 #[derive(Drop)]
 pub struct Sockets {
     a: TcpStream,
@@ -21,7 +21,7 @@ pub struct Sockets {
     failed: bool,
 }
 
-/// An end of the connection that waits for no more bytes before it sends, and not for ever.
+/// Prepares an end of the connection: TCP_NODELAY and timeouts.
 fn prepared(stream: TcpStream) -> io::Result<TcpStream> {
     let wait = Some(Duration::from_secs(WAIT_SECONDS));
     stream.set_read_timeout(wait)?;
@@ -31,8 +31,8 @@ fn prepared(stream: TcpStream) -> io::Result<TcpStream> {
 }
 
 impl Sockets {
-    /// Connects at a free port of this machine. A connection that another program makes to that
-    /// port first is refused.
+    /// Connects at a free port of this machine. A connection by another program to that port is
+    /// refused.
     pub fn new<N: Net<Stream = TcpStream>>(net: &N) -> io::Result<Sockets>
         ensures { IfOk result (λ sockets. has_failed sockets ≡ false) }
     {
@@ -50,7 +50,7 @@ impl Sockets {
     }
 }
 
-/// Writes bytes at one end and reads as many at the other, piece by piece.
+/// Writes bytes to one end and reads as many from the other, chunk by chunk.
 fn carry_across(
     mut writer: &TcpStream,
     mut reader: &TcpStream,
@@ -79,7 +79,7 @@ impl Carrier for Sockets {
     fn carry(&mut self, from: End, bytes: &[u8], out: &mut [u8]) -> Result<usize, LineFault>
         requires whole { has_failed self.old ≡ false }
         requires room { length out.old ≡ length bytes.now }
-        // As many bytes come out as go in; which ones, no contract can say.
+        // As many bytes come out as go in; no contract can state which.
         ensures all { IfOk result (λ n. n ≡ length bytes.now) }
         ensures broken { has_failed self.new ≡ is_err result }
     {

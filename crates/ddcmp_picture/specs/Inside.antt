@@ -1,2 +1,2 @@
--- Definitions that are cited inside the crate alone: no promise rests on them.
+-- Definitions used inside the crate only; no public contract depends on them.
 pub mod Captions

@@ -1,4 +1,4 @@
--- What labels and notes say.
+-- The texts of labels and notes.
 use Rattle.std.specs.Prelude.{ℕ, Bool, ◌-◌, if◌then◌else◌, nat_lt, ◌&&◌, ◌==◌, List, [], ◌∷◌}
 use Rattle.std.specs.Prelude.{length, take, slice_index, codes, decimal, Option, Some, None}
 use Rattle.ddcmp_core.specs.Table.{StationState, is_on}
@@ -25,12 +25,12 @@ with_number t n = with_text t (decimal n)
 
 -- ---- frames
 
--- what follows the SYN bytes in front
+-- a frame without the SYN bytes before it
 unfoldable pub after_fill : List ℕ → List ℕ
 after_fill [] = []
 after_fill (byte ∷ rest) = if byte == 150 then after_fill rest else byte ∷ rest
 
--- the header that a frame begins with, after its fill
+-- the header of a frame, after its SYN fill
 abbrev pub header_in : List ℕ → Option Header
 header_in bytes =
     if nat_lt (length (after_fill bytes)) 8 then None
@@ -40,7 +40,7 @@ abbrev pub label_by : Option Header → List ℕ → ShortText
 label_by (Some header) bytes = words (frame_label header)
 label_by None bytes = with_text (words (codes "bytes: ")) (bytes_shown bytes)
 
--- the label of a frame is that of its header; of other bytes it is their digits
+-- the label of a frame, by its header; for bytes that have none, their digits
 abbrev pub label_of : List ℕ → ShortText
 label_of bytes = label_by (header_in bytes) bytes
 
@@ -55,7 +55,8 @@ abbrev pub notice_label : Notice → ShortText
 notice_label notice =
     with_count (with_text (words (codes "notice ")) (notice_word notice)) (notice_number notice)
 
--- what an end saw in what arrived, by what it has counted before and now; each fault is named once
+-- Appends the name of a fault, if it is there. Faults are recognised by the counters before and
+-- now, and each is named once.
 unfoldable pub with_fault : Bool → List ℕ → ShortText → ShortText
 with_fault is_there fault t =
     if is_there then with_text (if is_blank t then t else with_text t (codes ", ")) fault else t
@@ -75,7 +76,7 @@ numbers_label s =
     (words (state_text s.state)) (codes " R=")) s.r) (codes " N=")) s.n) (codes " A=")) s.a)
     (codes " T=")) s.t
 
--- what it holds, and whether its timer runs
+-- how many messages it has queued and received, and whether its timer is on
 abbrev pub holding_label : StationState → ShortText
 holding_label s =
     with_text (with_number (with_text (with_number (words (codes "out=")) (length s.out))
@@ -88,7 +89,7 @@ line_of text =
     if nat_lt 0 (length text) && (slice_index text (length text - 1) == 10)
     then take (length text - 1) text else text
 
--- what was replied to an end
+-- the text of a reply
 abbrev pub reply_label : Reply → ShortText
 reply_label (reply.Started dropped) =
     if dropped == 0 then words (codes "start")

@@ -1,4 +1,4 @@
--- The marks that the steps of a run put into a picture.
+-- The marks that the steps of a run add to a picture.
 use Rattle.std.specs.Prelude.{ℕ, Bool, true, false, ◌||◌, ◌&&◌, ◌==◌, if◌then◌else◌, nat_lt}
 use Rattle.std.specs.Prelude.{List, [], ◌∷◌, ◌++◌, length, map, drop, min, codes, decimal, Option}
 use Rattle.std.specs.Prelude.{Some, None}
@@ -50,7 +50,7 @@ same_state Running Running = true
 same_state Maintenance Maintenance = true
 same_state _ _ = false
 
--- a notice says that this is the state now
+-- a notice implies that this is the state now
 abbrev pub names_state : Notice → State → Bool
 names_state notice.Running Running = true
 names_state notice.RunningAndHandedUp Running = true
@@ -63,7 +63,7 @@ unfoldable pub name_state : List Notice → State → Bool
 name_state [] now = false
 name_state (it ∷ rest) now = names_state it now || name_state rest now
 
--- the state of an end, and what it has counted
+-- the state of an end, and its counters
 abbrev pub seen_of : CoreView → Seen
 seen_of c = record { state = c.station.state; counters = c.counters }
 
@@ -86,30 +86,30 @@ state_at e states = (seen_at e states).state
 
 -- ---- notes
 
--- what was replied at an end, and its state if that is another
+-- the text of a reply, with the new state if the state has changed
 abbrev pub answer_label : ShortText → State → State → ShortText
 answer_label text before now =
     if same_state before now then text
     else with_text (with_text text (codes ", now ")) (state_text now)
 
--- the notices of an arrival: the first is in its row
+-- the notices of an arrival: the first is in the row of the arrival
 unfoldable pub notice_marks : End → Bool → List Notice → List Mark
 notice_marks to is_beside [] = []
 notice_marks to is_beside (it ∷ rest) =
     Note to (notice_label it) is_beside ∷ notice_marks to false rest
 
--- what was wrong with what arrived
+-- what was wrong with received bytes
 abbrev pub fault_marks : End → Bool → ShortText → List Mark
 fault_marks to is_beside faults =
     if is_blank faults then [] else Note to faults is_beside ∷ []
 
--- and the state, if it is another and no notice says so
+-- the new state, if it has changed and no notice implies it
 abbrev pub now_marks : End → Bool → List Notice → State → State → List Mark
 now_marks to is_beside notices before now =
     if same_state before now || name_state notices now then []
     else Note to (with_text (words (codes "now ")) (state_text now)) is_beside ∷ []
 
--- what an end made of an arrival: its notices, the faults that it saw, and its state
+-- what an end reports on an arrival: its notices, the faults that it counted, and its state
 abbrev pub told_marks : End → List Notice → Seen → Seen → List Mark
 told_marks to notices before now =
     notice_marks to true notices
@@ -125,7 +125,7 @@ sent_label message r = reply_label r
 
 -- ---- frames
 
--- a frame leaves in this row
+-- a frame that leaves in this row
 abbrev pub trip_of : End → ℕ → List ℕ → Trip
 trip_of from row bytes = record {
   from = from;
@@ -135,7 +135,7 @@ trip_of from row bytes = record {
   is_damaged = false;
 }
 
--- so many bytes of the first frame arrived, of those that hadn't
+-- `part` of the `of` bytes that were left of the first frame arrived
 abbrev pub landed_marks : ℕ → ℕ → List Trip → List Mark
 landed_marks part of [] = []
 landed_marks part of (trip ∷ rest) =
@@ -152,7 +152,7 @@ lost_marks from (trip ∷ rest) = Ends trip Lost ∷ []
 abbrev pub ends_by : Fate → Trip → Mark
 ends_by fate trip = Ends trip fate
 
--- all frames leave the lines, those of A first
+-- all frames are taken off the lines, those of A first
 abbrev pub all_end : Fate → Trips → List Mark
 all_end fate trips = map (ends_by fate) trips.a ++ map (ends_by fate) trips.b
 
@@ -163,7 +163,7 @@ is_settle asked.Event = false
 is_settle (asked.Carry part of) = false
 is_settle asked.Settle = true
 
--- an end wrote a frame, or had none, which isn't drawn of a settle
+-- An end wrote a frame, or had none. In a settle the latter isn't drawn.
 abbrev pub polled_marks : End → ℕ → Bool → Reply → List Mark
 polled_marks from row settles (reply.Wrote bytes) = Departs (trip_of from row bytes) ∷ []
 polled_marks from row settles r = if settles then [] else Note from (reply_label r) false ∷ []
@@ -173,7 +173,7 @@ polled_trips from row (reply.Wrote bytes) trips =
     with_trips from (trips_of from trips ++ trip_of from row bytes ∷ []) trips
 polled_trips from row r trips = trips
 
--- a timer that was off isn't drawn of a settle
+-- A timer that was off isn't drawn in a settle.
 abbrev pub expired_marks : End → Bool → Reply → State → State → List Mark
 expired_marks at settles (reply.Expired false) before now =
     if settles then []
@@ -189,7 +189,7 @@ abbrev pub cleared_trips : Reply → Trips → Trips
 cleared_trips reply.Cleared trips = no_trips
 cleared_trips r trips = trips
 
--- bytes arrived at an end, as a line asked
+-- Bytes arrived at an end, as the command requested.
 abbrev pub arrived_marks : Request → End → List ℕ → Trips → List Mark
 arrived_marks asked.Event to bytes trips = Appears to (label_of bytes) ∷ []
 arrived_marks (asked.Carry part of) to bytes trips =
@@ -209,8 +209,8 @@ abbrev pub notices_in : Reply → List Notice
 notices_in (reply.Notices notices) = notices
 notices_in r = []
 
--- what a picture has before a step: what the line asks for, the row of the next mark, what was seen
--- of both ends, and the frames in flight
+-- What a picture knows before a step: the request of the script's line, the row of the next mark,
+-- what was seen of both ends, and the frames in flight.
 pub record Sight : Type 0 where
   pub asked : Request
   pub row : ℕ
@@ -240,9 +240,9 @@ step_trips event.Clear r s = cleared_trips r s.trips
 step_trips (event.Arrive to bytes) r s = arrived_trips s.asked to s.row bytes s.trips
 step_trips _ r s = s.trips
 
--- ---- a line
+-- ---- a line of the script
 
--- a byte that isn't there is not damaged
+-- A byte that the frame doesn't have can't be damaged.
 abbrev pub has_byte : ℕ → Option ℕ → Bool
 has_byte at None = false
 has_byte at (Some length) = nat_lt at length
@@ -262,15 +262,15 @@ damage_trips from at by front trips =
     if has_byte at front
     then with_trips from (with_first (damaged_by by) (trips_of from trips)) trips else trips
 
--- the two notes of a station
+-- the two notes on a station's state
 abbrev pub look_marks : End → StationState → List Mark
 look_marks e s = Note e (numbers_label s) false ∷ Note e (holding_label s) false ∷ []
 
--- settle and recover lose all frames first
+-- Settle and recover drop all frames first.
 abbrev pub settle_marks : List ℕ → Trips → List Mark
 settle_marks name trips = all_end Lost trips ++ Across (words name) ∷ []
 
--- at most so many bytes of a frame are to arrive, or all
+-- how many bytes of a frame are to arrive: at most `n`, or all
 abbrev pub part_of : Option ℕ → ℕ → ℕ
 part_of None of = of
 part_of (Some n) of = min of n
@@ -283,8 +283,8 @@ abbrev pub carry_asked : Option ℕ → Option ℕ → Request
 carry_asked most None = asked.Event
 carry_asked most (Some of) = asked.Carry (part_of most of) of
 
--- The marks before anything of a line is done. Of the first frame on the line between the ends that
--- it names, `front` is how many bytes haven't arrived.
+-- The marks before a line has any effect. `front` is how many bytes haven't arrived of the first
+-- frame on the line between the ends that the command names.
 abbrev pub line_marks : ScriptCommand → Option ℕ → PairState → Trips → List Mark
 line_marks (Happens happened) front p trips = []
 line_marks (Raw to bytes) front p trips = []
@@ -308,7 +308,7 @@ line_asked Settle front = asked.Settle
 line_asked Recover front = asked.Settle
 line_asked _ front = asked.Event
 
--- how a settle ended, and a recovery
+-- the result of a settle, and (below) of a recovery
 abbrev pub settled_label : ℕ → Bool → ShortText
 settled_label exchanges quiet =
     with_text (with_text (words (codes "settled ")) (decimal exchanges))

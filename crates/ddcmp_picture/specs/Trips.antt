@@ -9,7 +9,7 @@ use Rattle.ddcmp_picture.specs.declared.mark.Trip.{Trip}
 use Rattle.ddcmp_picture.specs.declared.short_text.ShortText.{ShortText}
 use Rattle.ddcmp_picture.specs.ShortTexts.{with_text}
 
--- A byte was changed by exclusive or: a frame that was damaged stays so.
+-- A byte was changed by exclusive or. A frame that was damaged before stays damaged.
 abbrev pub damaged_by : ℕ → Trip → Trip
 damaged_by by t = record {
   from = t.from;
@@ -19,7 +19,7 @@ damaged_by by t = record {
   is_damaged = t.is_damaged || not (by == 0);
 }
 
--- Some bytes have arrived: the rest leaves in this row.
+-- Some bytes have arrived; the rest leaves in this row.
 abbrev pub rest_of : ℕ → Trip → Trip
 rest_of row t = record {
   from = t.from;

@@ -6,18 +6,18 @@ use crate::mark::{Fate, Trip};
 use ddcmp_io::{Page, Sink};
 use ddcmp_pair::End;
 
-/// How far a label may be turned: if a frame was long in flight, it stands level.
+/// The maximum extent of an arrow whose label is turned; along a longer arrow the label is level.
 const STEEPEST: u64 = 640;
 
-/// How far a label is from where an arrow begins, and from its head, at least.
+/// The minimum distance of a label from the tail of its arrow, and from its head.
 const NEAR_TAIL: u64 = 10;
 
 const NEAR_HEAD: u64 = 16;
 
-/// How many places of a label are tried.
+/// How many positions are tried for a label.
 const PLACES: usize = 22;
 
-/// The root of a number, without its fraction, from 1 to 1000.
+/// Returns the integer square root of a number, from 1 to 1000.
 fn root(n: u64) -> u64 {
     let mut root = 1;
     for next in 2..1001u64 {
@@ -39,7 +39,7 @@ pub(crate) struct Stroke {
 }
 
 impl Stroke {
-    /// Returns what a trip becomes that ends in this row.
+    /// Returns the stroke of a trip that ends in this row.
     fn of(trip: &Trip, fate: Fate, row: u64) -> Stroke {
         let x2 = match fate {
             Fate::Arrived | Fate::Cut { .. } => line_of(trip.from.other()),
@@ -54,7 +54,7 @@ impl Stroke {
         }
     }
 
-    /// Returns where it is after this many quarters.
+    /// Returns its point after this many quarters.
     fn place(&self, quarters: u64) -> (u64, u64) {
         let x = (self.x1.saturating_mul(4u64.saturating_sub(quarters))).saturating_add(
             self.x2.saturating_mul(quarters),
@@ -94,7 +94,7 @@ impl Stroke {
         write(page, writer, &parts);
     }
 
-    /// Returns the base line of its label at a distance from where it begins.
+    /// Returns the base line of its label at a distance from its tail.
     fn base_at(&self, distance: u64) -> u64 {
         let down = self.y2.saturating_sub(self.y1);
         let part = down.saturating_mul(distance) / self.across().max(1);
@@ -110,12 +110,12 @@ impl Stroke {
         if self.x2 == MIDDLE { 9 } else { 5 }
     }
 
-    /// Returns whether its label stands level, and not turned as it is: it was long in flight.
+    /// Returns whether its label is level instead of turned, since the frame was long in flight.
     fn is_steep(&self) -> bool {
         self.y2.saturating_sub(self.y1) > STEEPEST || self.across() > STEEPEST
     }
 
-    /// Returns where a text is that begins at a distance from where it does.
+    /// Returns the position of a text at a distance from its tail.
     fn spot_at(&self, near: u64, width: u64) -> Spot {
         let far = near.saturating_add(width);
         let (near_base, far_base) = if self.is_steep() {
@@ -139,8 +139,8 @@ impl Stroke {
         }
     }
 
-    /// Returns how far from where it begins its label is: as near as it lies on no other, and near
-    /// if there is no such place.
+    /// Returns the distance of its label from its tail: the smallest at which it doesn't overlap
+    /// another label, or the minimum if there is none.
     fn label_place(&self, lettering: &Lettering, width: u64) -> u64 {
         if self.is_steep() {
             return NEAR_TAIL;
@@ -160,7 +160,7 @@ impl Stroke {
         NEAR_TAIL
     }
 
-    /// Words above it, turned as it is.
+    /// Writes a label above it, turned as it is.
     fn write_label(&self, lettering: &mut Lettering, text: &[u8]) {
         let width = width_of(text);
         let near = self.label_place(lettering, width);
@@ -176,7 +176,7 @@ impl Stroke {
         self.write_turned_label(lettering, cosine, sine, near, text);
     }
 
-    /// Words that a matrix turns and moves to where it begins.
+    /// Writes a label that a matrix turns and moves to its position.
     fn write_turned_label(
         &self,
         lettering: &mut Lettering,
@@ -241,7 +241,7 @@ impl Stroke {
         }
     }
 
-    /// Words after the cross of a frame that was lost.
+    /// Writes a label after the cross of a lost frame.
     fn write_lost(&self, lettering: &mut Lettering) {
         let y = self.y2.saturating_add(4);
         let width = width_of(b"lost");
@@ -264,7 +264,7 @@ impl Stroke {
         );
     }
 
-    /// A shape at the end.
+    /// Writes a shape at its end.
     fn write_shape<W: Sink>(&self, page: &mut Page, writer: &mut W, x: u64, shape: &[u8]) {
         let parts = [
             Text(b"<path class=\""),
@@ -279,7 +279,7 @@ impl Stroke {
         write(page, writer, &parts);
     }
 
-    /// Writes what marks a frame that was damaged.
+    /// Writes the mark of a damaged frame.
     fn write_damage<W: Sink>(&self, page: &mut Page, writer: &mut W) {
         let (x, y) = self.place(3);
         let parts = [
@@ -293,7 +293,7 @@ impl Stroke {
     }
 }
 
-/// Draws a trip that ends so in this row.
+/// Draws a trip that ends with this fate in this row.
 pub(crate) fn write_trip<W: Sink>(
     page: &mut Page,
     writer: &mut W,

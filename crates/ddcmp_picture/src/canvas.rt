@@ -1,4 +1,4 @@
-//! What is drawn on: a terminal, or the sheet of a document.
+//! The canvas that is drawn on: a terminal, or the sheet of a document.
 ghost use Rattle.std.specs.Prelude.{◌≡◌, false, IsTrue};
 
 use crate::caption::write_caption_text;
@@ -12,10 +12,10 @@ use ddcmp_line::closing::write_closing;
 use ddcmp_pair::Pair;
 use std::alloc::Global;
 
-/// How a run is drawn.
+/// The format of a picture.
 #[derive(Clone, Copy)]
 pub enum Picture {
-    /// Lines of text, a line a step.
+    /// Text, one line a step.
     Ladder,
     /// A document in SVG.
     Svg,
@@ -24,17 +24,17 @@ pub enum Picture {
 /// A picture that is being drawn.
 pub(crate) struct Canvas {
     picture: Picture,
-    /// What goes to the sheet.
+    /// The buffer before the sheet.
     draft: Page,
-    /// What is drawn and hasn't been written.
+    /// What was drawn and isn't written yet.
     sheet: MemorySink,
-    /// What lies over the arrows of a document.
+    /// The texts over the arrows of a document.
     lettering: Lettering,
     /// How many rows there are so far.
     rows: u64,
 }
 
-// Manual, since a derived `Drop` is expanded wherever a canvas is dropped.
+// Manual, since a derived `Drop` would be expanded wherever a value is dropped.
 impl Drop for Canvas {
     fn drop(self) {
         let Canvas {
@@ -56,7 +56,7 @@ fn rows_of(mark: &Mark) -> u64 {
 }
 
 impl Canvas {
-    /// An empty one; above a ladder are the names of both ends.
+    /// Returns an empty canvas; a ladder begins with the names of both ends.
     pub(crate) fn new(alloc: Global, picture: Picture) -> Self {
         let mut canvas = Canvas {
             picture,
@@ -71,8 +71,8 @@ impl Canvas {
         canvas
     }
 
-    /// Ends the picture: whether there was memory for all of it. After it comes what has been done,
-    /// if there is a pair to ask.
+    /// Ends the picture, with a summary of the run below it if `closing` is the pair; returns
+    /// whether no allocation failed.
     pub(crate) fn end<W: Sink>(
         &mut self,
         alloc: Global,
@@ -93,7 +93,8 @@ impl Canvas {
         is_drawn && is_counted && is_said
     }
 
-    /// Writes what has been done, all of it below a ladder; returns whether there was memory.
+    /// Writes the summary of the run, complete below a ladder; returns whether no allocation
+    /// failed.
     fn write_closing(
         &mut self,
         alloc: Global,
@@ -110,7 +111,7 @@ impl Canvas {
         }
     }
 
-    /// Hands over the rest of a ladder, or the whole document, and the caption below it.
+    /// Writes the rest of a ladder, or the whole document, and the caption below it.
     fn write_out<W: Sink>(&self, page: &mut Page, writer: &mut W, caption: &[u8]) {
         let sheet = self.sheet.bytes.as_slice();
         match self.picture {
@@ -144,8 +145,8 @@ impl Paper for Canvas {
         self.rows = self.rows.saturating_add(rows_of(mark));
     }
 
-    /// Writes the lines that were drawn: whether there was memory for them and all went out. A
-    /// document waits for its end.
+    /// Writes the lines that were drawn; returns whether no allocation or write failed. A document
+    /// is written at its end.
     fn show<W: Sink>(&mut self, writer: &mut W) -> bool {
         if self.draft.flush(&mut self.sheet).is_err() {
             return false;

@@ -1,4 +1,4 @@
-//! The caption below a document: the end of the text of a run, in lines that it has room for.
+//! The caption below a document: the end of the text of a run, wrapped into lines that fit.
 ghost use Rattle.std.specs.Prelude.{◌≡◌, ◌≤◌, IsTrue, [], length};
 ghost use Rattle.ddcmp_io.specs.Written.{HandsOver, output_of};
 ghost use Rattle.ddcmp_picture.specs.Inside.Captions.{caption_text, is_gap, is_zero, unless_zero};
@@ -10,10 +10,10 @@ use ddcmp_line::closing::{write_both_counters, write_closing};
 use ddcmp_pair::Pair;
 use std::alloc::Global;
 
-/// The most bytes that a line has; a document is wide enough for as many digits.
+/// The maximum length of a line in bytes; a document is wide enough for as many digits.
 const WIDTH: usize = 125;
 
-/// Returns whether words end at this byte.
+/// Returns whether this byte ends a word.
 fn is_gap(byte: u8) -> bool
     ensures { result ≡ is_gap byte }
 {
@@ -51,7 +51,7 @@ fn write_without_zeros<W: Sink>(page: &mut Page, writer: &mut W, text: &[u8])
     write_unless_zero(page, writer, &text[start..]);
 }
 
-/// Writes the counters that aren't 0; returns whether there was memory for that.
+/// Writes the counters that aren't 0; returns whether no allocation failed.
 fn write_shown_counters<W: Sink>(
     alloc: Global,
     page: &mut Page,
@@ -73,7 +73,7 @@ fn write_shown_counters<W: Sink>(
     true
 }
 
-/// Writes the text of a caption; returns whether there was memory for that.
+/// Writes the text of a caption; returns whether no allocation failed.
 pub(crate) fn write_caption_text<W: Sink>(
     alloc: Global,
     page: &mut Page,
@@ -93,8 +93,8 @@ pub(crate) fn write_caption_text<W: Sink>(
     true
 }
 
-/// Returns where the first line of a caption ends: before its LF, or before the last blank that it
-/// has room for.
+/// Returns where the first line of a caption ends: before its LF, or before the last blank that
+/// fits.
 fn line_end(text: &[u8]) -> usize
     ensures within { result ≤ WIDTH }
     ensures inside { result ≤ length text.now }
@@ -118,7 +118,7 @@ fn line_end(text: &[u8]) -> usize
     text.len()
 }
 
-/// Returns the first line of a caption, and what comes after it.
+/// Returns the first line of a caption, and the rest.
 pub(crate) fn first_line(text: &[u8]) -> (&[u8], &[u8])
     ensures { length result.0.now ≤ WIDTH }
 {

@@ -25,19 +25,19 @@ use ddcmp_line::command::ScriptCommand;
 use ddcmp_pair::{End, Event, Pair, Recovered, Reply, Settled};
 use std::alloc::Global;
 
-/// A drawing of a run on a paper. As the view of a script (`ddcmp_line::script_viewed`) it puts
-/// there what each line and each step gives; after the script call `end_flights`.
+/// A drawing of a run on a paper. As the view of a script (`ddcmp_line::script_viewed`) it adds the
+/// marks of each line and each step; after the script call `end_flights`.
 pub struct Drawing<P> {
     pub(crate) flights: Flights,
     pub paper: P,
-    /// What was seen of both ends before the next step.
+    /// What both ends were like before the next step.
     pub(crate) states: States,
     pub(crate) asked: Request,
-    /// Whether there was memory for all frames in flight.
+    /// Whether no allocation for frames in flight failed.
     pub(crate) is_whole: bool,
 }
 
-// Manual, since a derived `Drop` is expanded wherever a drawing is dropped.
+// Manual, since a derived `Drop` would be expanded wherever a value is dropped.
 impl<P: Drop> Drop for Drawing<P> {
     fn drop(self) {
         let Drawing {
@@ -61,7 +61,7 @@ fn part_of(most: Option<u32>, of: usize) -> usize
 }
 
 impl<P: Paper + Drop> Drawing<P> {
-    /// Makes one of a run that begins with this pair, with nothing drawn yet.
+    /// Makes a drawing for a run that begins with this pair, with nothing drawn yet.
     pub fn new(alloc: Global, paper: P, pair: &Pair) -> Self
         ensures paper { result.paper ≡ paper }
         ensures trips { result.flights ≡ no_trips }
@@ -78,7 +78,7 @@ impl<P: Paper + Drop> Drawing<P> {
         }
     }
 
-    /// An end wrote its next frame, or had none.
+    /// Draws the frame that an end wrote, or that it had none.
     #[tactic(auto, using(crate::proofs::NoteLaws::logs_none))]
     fn polled(&mut self, from: End, reply: &Reply)
         ensures marks { Logs (P.drawn self.old.paper) (P.drawn self.new.paper)
@@ -143,7 +143,7 @@ impl<P: Paper + Drop> Drawing<P> {
         across(&mut self.paper, answer_text(reply));
     }
 
-    /// Bytes arrived at an end: those of a frame of the other, or bytes that no end sent.
+    /// Draws bytes that arrived at an end: those of a frame of the other end, or injected ones.
     fn arrived(&mut self, to: End, bytes: &[u8])
         ensures marks { Logs (P.drawn self.old.paper) (P.drawn self.new.paper)
             (arrived_marks self.old.asked to bytes.now self.old.flights) }
@@ -174,7 +174,7 @@ impl<P: Paper + Drop> Drawing<P> {
         }
     }
 
-    /// Notes what an end made of an arrival.
+    /// Draws what an end reported on an arrival.
     fn noticed(&mut self, pair: &Pair, to: End, reply: &Reply)
         ensures marks { Logs (P.drawn self.old.paper) (P.drawn self.new.paper)
             (told_marks to (notices_in reply.now) (seen_at to self.old.states)
@@ -193,7 +193,7 @@ impl<P: Paper + Drop> Drawing<P> {
         }
     }
 
-    /// Draws a step of the run, which left the pair so.
+    /// Draws a step of the run, after which the pair is `pair`.
     #[tactic(auto, using(crate::proofs::NoteLaws::logs_then))]
     pub fn step(&mut self, pair: &Pair, event: &Event, reply: &Reply)
         ensures marks { Logs (P.drawn self.old.paper) (P.drawn self.new.paper)
@@ -232,7 +232,7 @@ impl<P: Paper + Drop> Drawing<P> {
         self.states = States::of(pair);
     }
 
-    /// All frames are lost, and then both ends settle or the line recovers.
+    /// Drops all frames, before both ends settle or the line recovers.
     #[tactic(auto, using(crate::proofs::NoteLaws::logs_then))]
     fn begin_settle(&mut self, name: &[u8])
         ensures marks { Logs (P.drawn self.old.paper) (P.drawn self.new.paper)
@@ -247,7 +247,7 @@ impl<P: Paper + Drop> Drawing<P> {
         across(&mut self.paper, words(name));
     }
 
-    /// The first bytes of a frame are to arrive, or all of it.
+    /// Prepares for the arrival of the first bytes of a frame, or all of it.
     #[tactic(auto, using(crate::proofs::NoteLaws::logs_none))]
     fn carry(&mut self, from: End, most: Option<u32>, front: Option<usize>)
         ensures marks { Logs (P.drawn self.old.paper) (P.drawn self.new.paper)
@@ -271,7 +271,7 @@ impl<P: Paper + Drop> Drawing<P> {
         }
     }
 
-    /// Draws what a line asks for, before anything of it is done.
+    /// Draws a command of the script before it has any effect.
     #[tactic(auto, using(crate::proofs::NoteLaws::logs_none))]
     pub fn begin(&mut self, pair: &Pair, command: &ScriptCommand, front: Option<usize>)
         ensures marks { Logs (P.drawn self.old.paper) (P.drawn self.new.paper)
@@ -308,7 +308,7 @@ impl<P: Paper + Drop> Drawing<P> {
         end_all(&mut self.paper, &mut self.flights, Fate::OnItsWay);
     }
 
-    /// Draws how both ends settled.
+    /// Draws the result of a settle.
     pub fn put_settled(&mut self, settled: &Settled)
         ensures { Logs (P.drawn self.old.paper) (P.drawn self.new.paper)
             (Mark.Across (settled_label settled.now.exchanges settled.now.quiet) ∷ []) }
@@ -318,7 +318,7 @@ impl<P: Paper + Drop> Drawing<P> {
         across(&mut self.paper, text.with(how));
     }
 
-    /// Draws how the line recovered; `done` is whether nothing was left to be done.
+    /// Draws the result of a recovery; `done` is whether the pair is then done.
     #[tactic(auto, unfolding(crate::specs::Marks::counts_label))]
     pub fn put_recovered(&mut self, recovered: &Recovered, done: bool)
         ensures { Logs (P.drawn self.old.paper) (P.drawn self.new.paper)

@@ -1,21 +1,21 @@
-//! The parts that the elements of a document are made of, and the places that they share.
+//! The parts of the elements of a document, and the positions that these share.
 use ddcmp_io::text::write_number;
 use ddcmp_io::{Page, Sink};
 use ddcmp_pair::End;
 
-/// Where the lines of both ends are, and the middle between them.
+/// The x positions of the lines of both ends, and of the middle between them.
 pub(crate) const LINE_A: u64 = 260;
 
 pub(crate) const LINE_B: u64 = 700;
 
 pub(crate) const MIDDLE: u64 = 480;
 
-/// Where the first row is, and how far apart rows are.
+/// The y position of the first row, and the distance between rows.
 pub(crate) const TOP: u64 = 62;
 
 const STEP: u64 = 24;
 
-/// Returns how high a row is.
+/// Returns the y position of a row.
 pub(crate) fn height_of(row: u64) -> u64 {
     row.saturating_mul(STEP).saturating_add(TOP)
 }
@@ -27,7 +27,7 @@ pub(crate) fn line_of(end: End) -> u64 {
     }
 }
 
-/// The class of what an end sends.
+/// Returns the class of what an end sends.
 pub(crate) fn class_of(end: End) -> &'static [u8] {
     match end {
         End::A => b"a",
@@ -35,7 +35,7 @@ pub(crate) fn class_of(end: End) -> &'static [u8] {
     }
 }
 
-/// A part of an element: a text as it is, a number in digits, or a part of 1 in thousandths.
+/// A part of an element: a text, a number, or a fraction in thousandths.
 #[derive(Clone, Copy)]
 pub(crate) enum Part<'a> {
     Text(&'a [u8]),
@@ -45,7 +45,7 @@ pub(crate) enum Part<'a> {
 
 pub(crate) use Part::{Number, Text, Thousandths};
 
-/// Writes one part after another.
+/// Writes parts, one after another.
 pub(crate) fn write<W: Sink>(page: &mut Page, writer: &mut W, parts: &[Part<'_>]) {
     for part in parts {
         match *part {
@@ -56,7 +56,7 @@ pub(crate) fn write<W: Sink>(page: &mut Page, writer: &mut W, parts: &[Part<'_>]
     }
 }
 
-/// A part of 1 in thousandths.
+/// Writes a fraction in thousandths.
 fn write_thousandths<W: Sink>(page: &mut Page, writer: &mut W, n: u64) {
     if n >= 1000 {
         return page.write(writer, b"1");
@@ -67,7 +67,7 @@ fn write_thousandths<W: Sink>(page: &mut Page, writer: &mut W, n: u64) {
     write_number(page, writer, n % 10);
 }
 
-/// A text at a place, anchored at its start, its middle or its end.
+/// Writes a text at a position, anchored at its start, its middle or its end.
 pub(crate) fn write_text<'a, W: Sink>(
     page: &mut Page,
     writer: &mut W,

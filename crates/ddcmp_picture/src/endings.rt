@@ -1,4 +1,4 @@
-//! How frames in flight end.
+//! The ends of frames in flight.
 ghost use Rattle.std.specs.Prelude.{◌≡◌, ◌++◌, [], ◌∷◌, drop, map, length};
 ghost use Rattle.ddcmp_io.specs.Device.{Logs};
 ghost use Rattle.ddcmp_picture.specs.Marks.{all_end, damage_marks, damage_trips, ends_by};
@@ -14,8 +14,8 @@ use crate::replies::words;
 use ddcmp_line::reply_text::damage_name;
 use ddcmp_pair::End;
 
-/// So many bytes of the first frame of an end arrived, of those that hadn't. The rest begins its
-/// way in the row of this arrival.
+/// Draws that `part` of the `of` bytes that were left of an end's first frame arrived. The rest
+/// leaves in the row of this arrival.
 #[tactic(auto, using(crate::proofs::NoteLaws::logs_none))]
 pub(crate) fn land<P: Paper>(
     paper: &mut P,
@@ -42,7 +42,7 @@ pub(crate) fn land<P: Paper>(
     }
 }
 
-/// The first frame of an end is lost.
+/// Drops the first frame of an end.
 pub(crate) fn lose<P: Paper>(paper: &mut P, flights: &mut Flights, from: End)
     ensures marks { Logs (P.drawn paper.old) (P.drawn paper.new)
         (lost_marks from (trips_of from flights.old)) }
@@ -55,7 +55,7 @@ pub(crate) fn lose<P: Paper>(paper: &mut P, flights: &mut Flights, from: End)
     }
 }
 
-/// A byte of the first frame of an end is changed by exclusive or, if it has that byte.
+/// Changes a byte of the first frame of an end by exclusive or, if the frame has that byte.
 #[tactic(auto, using(crate::proofs::NoteLaws::logs_none))]
 pub(crate) fn damage<P: Paper>(
     paper: &mut P,
@@ -80,7 +80,7 @@ pub(crate) fn damage<P: Paper>(
     }
 }
 
-/// All frames of an end leave its line.
+/// Takes all frames of an end off its line.
 #[tactic(auto, using(crate::proofs::EndLaws::ends_none, crate::proofs::EndLaws::ends_all))]
 fn end_of<P: Paper>(paper: &mut P, flights: &mut Flights, end: End, fate: Fate)
     ensures marks { Logs (P.drawn paper.old) (P.drawn paper.new)
@@ -95,7 +95,7 @@ fn end_of<P: Paper>(paper: &mut P, flights: &mut Flights, end: End, fate: Fate)
     }
 }
 
-/// All frames leave the lines, and each is drawn with this end.
+/// Takes all frames off the lines, and draws each with this end.
 #[tactic(auto, using(crate::proofs::NoteLaws::logs_then))]
 pub(crate) fn end_all<P: Paper>(paper: &mut P, flights: &mut Flights, fate: Fate)
     ensures marks { Logs (P.drawn paper.old) (P.drawn paper.new) (all_end fate flights.old) }

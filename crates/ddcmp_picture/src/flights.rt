@@ -1,4 +1,4 @@
-//! The frames between two ends.
+//! The frames in flight between two ends.
 ghost use Rattle.std.specs.Prelude.{◌≡◌, ◌++◌, ◌∷◌, [], drop, length, IsOk, OnErr};
 ghost use Rattle.ddcmp_picture.specs.Trips.{damaged_by, first_trip, no_trips, rest_of, trips_of};
 ghost use Rattle.ddcmp_picture.specs.Trips.{with_first, with_trips};
@@ -9,7 +9,7 @@ use std::alloc::Global;
 use std::collections::VecDeque;
 use std::marker::Model;
 
-/// The frames of both ends that were sent and haven't arrived, or not with all their bytes.
+/// The frames of both ends that were sent and haven't arrived completely.
 pub(crate) struct Flights {
     a: VecDeque<Trip>,
     b: VecDeque<Trip>,
@@ -23,14 +23,14 @@ impl Model for Flights {
     ghost view = { λ f. record { a = f.a.items; b = f.b.items } };
 }
 
-// Manual, since a derived `Drop` is expanded wherever they are dropped.
+// Manual, since a derived `Drop` would be expanded wherever a value is dropped.
 impl Drop for Flights {
     fn drop(self) {
         let Flights { a: _a, b: _b } = self;
     }
 }
 
-/// Another frame goes last.
+/// Appends a frame.
 fn push(trips: &mut VecDeque<Trip>, trip: Trip) -> Result<(), Memory>
     ensures pushed { IsOk result → trips.new.items ≡ trips.old.items ++ trip ∷ [] }
     ensures memory { OnErr result (trips.new.items ≡ trips.old.items) }
@@ -40,7 +40,7 @@ fn push(trips: &mut VecDeque<Trip>, trip: Trip) -> Result<(), Memory>
     Ok(())
 }
 
-/// A byte of the first frame was changed.
+/// Records that a byte of the first frame was changed.
 fn damage_front(trips: &mut VecDeque<Trip>, by: u8)
     ensures { trips.new.items ≡ with_first (damaged_by by) trips.old.items }
 {
@@ -49,7 +49,7 @@ fn damage_front(trips: &mut VecDeque<Trip>, by: u8)
     }
 }
 
-/// Some bytes of the first frame have arrived.
+/// Records that some bytes of the first frame have arrived.
 fn leave_rest(trips: &mut VecDeque<Trip>, row: u64)
     ensures { trips.new.items ≡ with_first (rest_of row) trips.old.items }
 {
@@ -68,7 +68,7 @@ impl Flights {
         }
     }
 
-    /// Another frame of an end.
+    /// Appends a frame of an end.
     pub(crate) fn push(&mut self, trip: Trip) -> Result<(), Memory>
         ensures pushed { IsOk result → self.new
             ≡ with_trips trip.from (trips_of trip.from self.old ++ trip ∷ []) self.old }
@@ -90,7 +90,7 @@ impl Flights {
         }
     }
 
-    /// The first frame of an end leaves the line.
+    /// Removes the first frame of an end.
     pub(crate) fn pop(&mut self, end: End) -> Option<Trip>
         ensures trips { self.new ≡ with_trips end (drop 1 (trips_of end self.old)) self.old }
         ensures first { result ≡ first_trip (trips_of end self.old) }
@@ -101,7 +101,7 @@ impl Flights {
         }
     }
 
-    /// The first frame of an end.
+    /// Returns the first frame of an end.
     pub(crate) fn front(&self, end: End) -> Option<Trip>
         ensures { result ≡ first_trip (trips_of end self.now) }
     {
@@ -115,7 +115,7 @@ impl Flights {
         }
     }
 
-    /// A byte of the first frame of an end was changed by exclusive or.
+    /// Records that a byte of the first frame of an end was changed by exclusive or.
     pub(crate) fn damage(&mut self, end: End, by: u8)
         ensures { self.new
             ≡ with_trips end (with_first (damaged_by by) (trips_of end self.old)) self.old }
@@ -126,7 +126,7 @@ impl Flights {
         }
     }
 
-    /// Some bytes of the first frame of an end have arrived; the rest begins its way in this row.
+    /// Records that some bytes of an end's first frame have arrived; the rest leaves in this row.
     pub(crate) fn leave_rest(&mut self, end: End, row: u64)
         ensures { self.new
             ≡ with_trips end (with_first (rest_of row) (trips_of end self.old)) self.old }

@@ -1,4 +1,4 @@
-//! The labels of frames, and the words for what ends do.
+//! The labels of frames, and the texts about ends.
 ghost use Rattle.std.specs.Prelude.{◌≡◌, ◌≤◌, ◌<◌, length, take, drop, MatchOption};
 ghost use Rattle.ddcmp_picture.specs.Labels.{after_fill, header_in, label_of as label, line_of};
 ghost use Rattle.ddcmp_picture.specs.Labels.{faults_label, notice_label, numbers_label};
@@ -12,7 +12,7 @@ use ddcmp_pair::{Notice, Station};
 use ddcmp_proto::Counters;
 use ddcmp_station::{notice_name, notice_number, state_name};
 
-/// Returns how many bytes of fill stand in front.
+/// Returns how many SYN bytes there are before a frame.
 #[tactic(auto, using(crate::proofs::LabelLaws::fill_step, crate::proofs::LabelLaws::fill_ends, crate::proofs::LabelLaws::fill_all))]
 fn fill_before(bytes: &[u8]) -> usize
     ensures within { result ≤ length bytes.now }
@@ -26,7 +26,7 @@ fn fill_before(bytes: &[u8]) -> usize
     bytes.len()
 }
 
-/// The eight bytes after the SYN fill.
+/// Returns the eight bytes after the SYN fill.
 fn header_bytes(bytes: &[u8]) -> Option<[u8; 8]>
     ensures { MatchOption result (length (after_fill bytes.now) < 8)
         (λ header. header ≡ take 8 (after_fill bytes.now)) }
@@ -40,7 +40,7 @@ fn header_bytes(bytes: &[u8]) -> Option<[u8; 8]>
     Some(header)
 }
 
-/// Returns what the bytes of a line begin with, if that is a header.
+/// Returns the header that bytes of a line begin with, if they do.
 fn header_of(bytes: &[u8]) -> Option<Header>
     ensures { result ≡ header_in bytes.now }
 {
@@ -51,7 +51,7 @@ fn header_of(bytes: &[u8]) -> Option<Header>
     }
 }
 
-/// The label of a frame, by its header; of other bytes the digits.
+/// Returns the label of a frame, by its header; for other bytes their digits.
 pub(crate) fn label_of(bytes: &[u8]) -> ShortText
     ensures { result ≡ label bytes.now }
 {
@@ -65,7 +65,7 @@ pub(crate) fn label_of(bytes: &[u8]) -> ShortText
     }
 }
 
-/// A notice, as the text of a script has it.
+/// Returns the text of a notice, as in the text of a script.
 pub(crate) fn notice_text(notice: Notice) -> ShortText
     ensures { result ≡ notice_label notice }
 {
@@ -76,7 +76,7 @@ pub(crate) fn notice_text(notice: Notice) -> ShortText
     }
 }
 
-/// The same, followed by a fault if it is there.
+/// Returns the text, with a fault appended if it is there.
 #[tactic(auto, unfolding(crate::specs::Labels::with_fault))]
 fn with_fault_text(text: ShortText, is_there: bool, fault: &[u8]) -> ShortText
     ensures { result ≡ with_fault is_there fault.now text }
@@ -92,7 +92,7 @@ fn with_fault_text(text: ShortText, is_there: bool, fault: &[u8]) -> ShortText
     front.with(fault)
 }
 
-/// Returns what an end saw in what arrived, by what it has counted before and now.
+/// Returns the faults in received bytes, by an end's counters before and now.
 pub(crate) fn faults_text(before: &Counters, now: &Counters) -> ShortText
     ensures { result ≡ faults_label before.now now.now }
 {
@@ -106,7 +106,7 @@ pub(crate) fn faults_text(before: &Counters, now: &Counters) -> ShortText
     with_fault_text(long, is_format, b"header format error")
 }
 
-/// The state of a station and its numbers.
+/// Returns the state of a station and its numbers.
 pub(crate) fn numbers_text(station: &Station) -> ShortText
     ensures { result ≡ numbers_label station.now.core.station }
 {
@@ -123,7 +123,7 @@ pub(crate) fn numbers_text(station: &Station) -> ShortText
         .with_number(numbers.t.0 as u64)
 }
 
-/// Returns what a station holds, and whether its timer runs.
+/// Returns how many messages a station has queued and received, and whether its timer is on.
 pub(crate) fn holding_text(station: &Station) -> ShortText
     ensures { result ≡ holding_label station.now.core.station }
 {
@@ -139,7 +139,7 @@ pub(crate) fn holding_text(station: &Station) -> ShortText
     }
 }
 
-/// A line of the text of a script, without the LF that ends it.
+/// Returns a line without the LF at its end.
 pub(crate) fn without_lf(line: &[u8]) -> &[u8]
     ensures { result.now ≡ line_of line.now }
 {

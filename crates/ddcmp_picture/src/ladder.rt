@@ -3,7 +3,7 @@ use crate::mark::{Fate, Mark, Trip};
 use ddcmp_io::{Page, Sink};
 use ddcmp_pair::End;
 
-/// The columns of a line.
+/// The width of a line.
 const WIDTH: usize = 78;
 
 /// The column between the frames in flight from A and those from B.
@@ -11,19 +11,19 @@ const NEAR_A: usize = 33;
 
 const NEAR_B: usize = 44;
 
-/// Where a lost frame of A ends, and one of B.
+/// The columns where lost frames of A and of B end.
 const HALF_A: usize = 38;
 
 const HALF_B: usize = 39;
 
-/// A line of the ladder that is being drawn.
+/// A line of the ladder.
 #[derive(Drop)]
 struct Row {
     bytes: [u8; WIDTH],
 }
 
 impl Row {
-    /// The lines of both ends, and nothing between them.
+    /// Returns a row with the lines of both ends and nothing between them.
     fn new() -> Self {
         let mut bytes = [b' '; WIDTH];
         bytes[0] = b'|';
@@ -31,7 +31,7 @@ impl Row {
         Row { bytes }
     }
 
-    /// A byte between both lines.
+    /// Sets a byte between both lines.
     fn set(&mut self, at: usize, byte: u8) {
         if 0 < at && at < WIDTH - 1 {
             self.bytes[at] = byte;
@@ -50,8 +50,8 @@ impl Row {
         }
     }
 
-    /// An arrow at the line of A: `outer` is at the line, and `inner` ends it at `reach` or, if the
-    /// label is long, after that.
+    /// Puts an arrow at the line of A: `outer` is at the line; `inner` is its other end, at `reach`
+    /// or, if the label is long, after that.
     fn put_at_a(&mut self, outer: &[u8], label: &[u8], stroke: u8, inner: u8, reach: usize) {
         let start = outer.len().saturating_add(1);
         let behind = start.saturating_add(label.len()).saturating_add(1);
@@ -62,7 +62,7 @@ impl Row {
         self.set(end, inner);
     }
 
-    /// The same at the line of B.
+    /// Puts an arrow at the line of B, likewise.
     fn put_at_b(&mut self, outer: &[u8], label: &[u8], stroke: u8, inner: u8, reach: usize) {
         let end = (WIDTH - 1).saturating_sub(outer.len());
         let start = end.saturating_sub(label.len());
@@ -127,7 +127,7 @@ impl Row {
     }
 }
 
-/// The names of both ends.
+/// Writes the names of both ends.
 pub(crate) fn write_ladder_head<W: Sink>(page: &mut Page, writer: &mut W) {
     let mut head = [b' '; WIDTH];
     head[0] = b'A';
@@ -136,7 +136,7 @@ pub(crate) fn write_ladder_head<W: Sink>(page: &mut Page, writer: &mut W) {
     page.write(writer, b"\n");
 }
 
-/// The line of a step.
+/// Writes the line of a step.
 pub(crate) fn write_ladder<W: Sink>(page: &mut Page, writer: &mut W, mark: &Mark) {
     if let Mark::Ends(_, Fate::OnItsWay) = mark {
         return;

@@ -1,17 +1,17 @@
-//! The texts of a document that lie over its arrows, and where they are.
+//! The texts of a document over its arrows, and their positions.
 use ddcmp_io::{MemorySink, Page};
 use std::alloc::Global;
 
-/// How high a text is.
+/// The height of a text.
 const HEIGHT: u64 = 13;
 
-/// How wide ten characters are.
+/// The width of ten characters.
 const TEN_CHARACTERS: u64 = 66;
 
-/// How many texts are kept in mind: arrows that are further apart don't meet.
+/// How many texts are remembered; arrows that are further apart don't meet.
 const KEPT: usize = 32;
 
-/// Where a text is: its left end and its right end on its base line.
+/// The position of a text: its left end and its right end on its base line.
 #[derive(Clone, Copy, Drop)]
 pub(crate) struct Spot {
     pub(crate) left: u64,
@@ -20,13 +20,13 @@ pub(crate) struct Spot {
     pub(crate) right_base: u64,
 }
 
-/// The width of a text.
+/// Returns the width of a text.
 pub(crate) fn width_of(text: &[u8]) -> u64 {
     (text.len() as u64).saturating_mul(TEN_CHARACTERS) / 10
 }
 
 impl Spot {
-    /// A level text.
+    /// Returns the position of a level text.
     pub(crate) fn level(left: u64, right: u64, base: u64) -> Self {
         Spot {
             left,
@@ -46,13 +46,13 @@ impl Spot {
             .saturating_sub(up.saturating_mul(part) / across)
     }
 
-    /// Returns whether it is above another one from one place to another.
+    /// Returns whether it is above another one, between two x positions.
     fn is_above(&self, other: &Spot, left: u64, right: u64) -> bool {
         self.base_at(left).saturating_add(HEIGHT) <= other.base_at(left)
             && self.base_at(right).saturating_add(HEIGHT) <= other.base_at(right)
     }
 
-    /// Returns whether one of both texts lies on the other.
+    /// Returns whether the two texts overlap.
     fn meets(&self, other: &Spot) -> bool {
         let left = self.left.max(other.left);
         let right = self.right.min(other.right);
@@ -64,12 +64,12 @@ impl Spot {
 pub(crate) struct Lettering {
     pub(crate) draft: Page,
     pub(crate) sheet: MemorySink,
-    /// Where the last of them are.
+    /// The positions of the last of them.
     spots: [Spot; KEPT],
     next: usize,
 }
 
-// Manual, since a derived `Drop` is expanded wherever it is dropped.
+// Manual, since a derived `Drop` would be expanded wherever a value is dropped.
 impl Drop for Lettering {
     fn drop(self) {
         let Lettering {
@@ -91,18 +91,18 @@ impl Lettering {
         }
     }
 
-    /// Ends the texts; returns whether there was memory for all of them.
+    /// Ends the texts; returns whether no allocation failed.
     pub(crate) fn end(&mut self) -> bool {
         self.draft.flush(&mut self.sheet).is_ok()
     }
 
-    /// Keeps in mind that a text is there.
+    /// Remembers the position of a text.
     pub(crate) fn keep(&mut self, spot: Spot) {
         self.spots[self.next % KEPT] = spot;
         self.next = (self.next % KEPT).saturating_add(1);
     }
 
-    /// Returns whether a text at this place would lie on no other.
+    /// Returns whether a text at this position would overlap no other.
     pub(crate) fn is_free(&self, spot: &Spot) -> bool {
         for kept in &self.spots {
             if kept.meets(spot) {

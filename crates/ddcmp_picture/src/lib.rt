@@ -1,5 +1,5 @@
-//! Pictures of a run: what the lines of a script do between two stations is drawn, as a ladder of
-//! text or as a time-sequence diagram in SVG.
+//! Pictures of a run: draws what the lines of a script do between two stations, as a ladder of text
+//! or as a time-sequence diagram in SVG.
 //!
 //! ```text
 //! |-- DATA 1 resp=0 (3 bytes) ----->                                           |

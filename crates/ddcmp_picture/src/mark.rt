@@ -1,4 +1,4 @@
-//! What a step of a run puts into a picture.
+//! The marks of a picture.
 ghost use Rattle.std.specs.Prelude.{◌≡◌};
 ghost use Rattle.ddcmp_picture.specs.Trips.{damaged_by, end_label, rest_of};
 
@@ -18,14 +18,14 @@ pub struct Trip {
 }
 
 impl Trip {
-    /// A byte was changed by exclusive or: a frame that was damaged stays so.
+    /// Records that a byte was changed by exclusive or. A damaged frame stays damaged.
     pub(crate) fn damage(&mut self, by: u8)
         ensures { self.new ≡ damaged_by by self.old }
     {
         self.is_damaged = self.is_damaged || by != 0;
     }
 
-    /// Some bytes have arrived; the rest begins its way in this row.
+    /// Records that some bytes have arrived; the rest leaves in this row.
     pub(crate) fn leave_rest(&mut self, row: u64)
         ensures { self.new ≡ rest_of row self.old }
     {
@@ -42,27 +42,27 @@ impl Trip {
 pub enum Fate {
     /// It arrived, or the last part of it did.
     Arrived,
-    /// Only this many of the bytes that were left have arrived.
+    /// Only this many of the bytes that were left arrived.
     Cut { part: usize, of: usize },
     Lost,
-    /// The run was over before.
+    /// The run ended before.
     OnItsWay,
 }
 
-/// What a step of a run puts into a picture.
+/// A mark of a picture, made by a step of a run.
 #[derive(Clone, Copy, Drop)]
 pub enum Mark {
-    /// Words beside the line of an end; or in the row of what arrived there just before.
+    /// A text beside the line of an end; or in the row of what arrived there just before.
     Note {
         at: End,
         text: ShortText,
         is_beside: bool,
     },
-    /// Words that concern both ends.
+    /// A text about both ends.
     Across(ShortText),
     Departs(Trip),
     Ends(Trip, Fate),
-    /// Bytes that nobody sent arrive at an end.
+    /// Bytes that neither end sent arrive at an end.
     Appears {
         at: End,
         label: ShortText,
@@ -70,7 +70,7 @@ pub enum Mark {
 }
 
 impl Fate {
-    /// Returns the label of a trip with this end.
+    /// Returns the label of a trip that ends like this.
     pub fn label(self, trip: &Trip) -> ShortText
         ensures { result ≡ end_label self trip.now }
     {

@@ -15,7 +15,7 @@ use crate::states::Seen;
 use ddcmp_pair::{End, Notice, Reply, State, Station};
 use ddcmp_station::state_name;
 
-/// Returns whether it is the same state.
+/// Returns whether two states are equal.
 fn is_same(before: State, now: State) -> bool
     ensures { result ≡ same_state before now }
 {
@@ -29,7 +29,7 @@ fn is_same(before: State, now: State) -> bool
     }
 }
 
-/// Returns whether a notice says what state it is now.
+/// Returns whether a notice implies that this is the state now.
 fn names(notice: Notice, now: State) -> bool
     ensures { result ≡ names_state notice now }
 {
@@ -54,7 +54,7 @@ fn name(notices: &[Notice], now: State) -> bool
     false
 }
 
-/// Words beside the line of an end.
+/// Draws a text beside the line of an end.
 pub(crate) fn note<P: Paper>(paper: &mut P, at: End, text: ShortText, is_beside: bool)
     ensures { Logs (P.drawn paper.old) (P.drawn paper.new) (Mark.Note at text is_beside ∷ []) }
 {
@@ -65,14 +65,14 @@ pub(crate) fn note<P: Paper>(paper: &mut P, at: End, text: ShortText, is_beside:
     });
 }
 
-/// Words that concern both ends.
+/// Draws a text about both ends.
 pub(crate) fn across<P: Paper>(paper: &mut P, text: ShortText)
     ensures { Logs (P.drawn paper.old) (P.drawn paper.new) (Mark.Across text ∷ []) }
 {
     paper.put(&Mark::Across(text));
 }
 
-/// Draws the reply at an end, and its state if that is another.
+/// Draws the reply at an end, with the new state if it has changed.
 pub(crate) fn answer<P: Paper>(paper: &mut P, at: End, reply: &Reply, before: State, now: State)
     ensures { Logs (P.drawn paper.old) (P.drawn paper.new)
         (Mark.Note at (answer_label (reply_label reply.now) before now) false ∷ []) }
@@ -85,7 +85,7 @@ pub(crate) fn answer<P: Paper>(paper: &mut P, at: End, reply: &Reply, before: St
     }
 }
 
-/// A message was passed to an end.
+/// Draws the reply to a message that was passed to an end.
 pub(crate) fn sent<P: Paper>(paper: &mut P, at: End, message: &[u8], reply: &Reply)
     ensures { Logs (P.drawn paper.old) (P.drawn paper.new)
         (Mark.Note at (sent_label message.now reply.now) false ∷ []) }
@@ -105,7 +105,7 @@ fn draw_notices<P: Paper>(paper: &mut P, to: End, notices: &[Notice])
     }
 }
 
-/// Writes what was wrong with an arrival, if anything was.
+/// Draws what was wrong with an arrival, if anything was.
 #[tactic(auto, using(crate::proofs::NoteLaws::logs_none))]
 fn draw_faults<P: Paper>(paper: &mut P, to: End, is_beside: bool, faults: ShortText)
     ensures { Logs (P.drawn paper.old) (P.drawn paper.new) (fault_marks to is_beside faults) }
@@ -115,7 +115,7 @@ fn draw_faults<P: Paper>(paper: &mut P, to: End, is_beside: bool, faults: ShortT
     }
 }
 
-/// The state after an arrival, if it is another and no notice says so.
+/// Draws the new state after an arrival, if it has changed and no notice implies it.
 #[tactic(auto, using(crate::proofs::NoteLaws::logs_none))]
 fn draw_state<P: Paper>(
     paper: &mut P,
@@ -134,8 +134,8 @@ fn draw_state<P: Paper>(
     }
 }
 
-/// Draws what an end made of an arrival, in its row and below: its notices, the faults that it saw,
-/// and the state if no notice says it.
+/// Draws what an end reported on an arrival, in its row and below: its notices, the faults that it
+/// counted, and the new state if no notice implies it.
 #[tactic(auto, using(crate::proofs::NoteLaws::logs_then))]
 pub(crate) fn report<P: Paper>(
     paper: &mut P,
@@ -154,7 +154,7 @@ pub(crate) fn report<P: Paper>(
     draw_state(paper, to, is_beside, notices, before.state, now.state);
 }
 
-/// The state of a station and its numbers, and what it holds.
+/// Draws the state and the numbers of a station, and what it has queued.
 #[tactic(auto, using(crate::proofs::NoteLaws::logs_then))]
 pub(crate) fn look<P: Paper>(paper: &mut P, at: End, station: &Station)
     ensures { Logs (P.drawn paper.old) (P.drawn paper.new)

@@ -12,8 +12,8 @@ use ddcmp_line::{ScriptFault, script_viewed};
 use ddcmp_pair::{Carrier, Pair};
 use std::alloc::Global;
 
-/// Returns the result for a picture whose script ended so, unless it wasn't drawn whole or the
-/// writer failed.
+/// Returns the result for a picture of a script with the result `done`, unless the picture is
+/// incomplete or the writer failed.
 fn answer_of(
     done: Result<(), ScriptFault>,
     is_whole: bool,
@@ -36,10 +36,10 @@ fn answer_of(
     }
 }
 
-/// Runs a script, as `ddcmp_line::script` does, and draws what comes of each line. Below the
-/// picture is what `script` writes at its end. If a line is no command or an allocation fails, what
-/// was drawn stays, and a document is ended. A document is written at the end of the script, since
-/// its height is at its front, and not at all if the script can't be read.
+/// Runs a script, as `ddcmp_line::script` does, and draws the effect of each line, with the last
+/// lines of `script` below the picture. If a line isn't a command or an allocation fails, what was
+/// drawn is kept, and a document is ended. A document is written at the end of the script, since it
+/// begins with its height; it isn't written if the script can't be read.
 pub fn draw<R: Source, W: Sink, C: Carrier>(
     alloc: Global,
     pair: &mut Pair,
@@ -61,7 +61,7 @@ pub fn draw<R: Source, W: Sink, C: Carrier>(
         → (R.state reader.new ≢ Worst.Fine) ⊎ GaveMost (R.left reader.old) (R.left reader.new) }
     ensures write { (result ≡ Err ScriptFault.Write) ↔ IsTrue (W.broken writer.new) }
     ensures carried { result ≡ Err ScriptFault.Carrier → IsTrue (C.broken carrier.new) }
-    // Whatever is returned, messages are in order.
+    // Whatever the result, messages are in order.
     ensures order { IsInOrder pair.new }
 {
     let mut drawing = Drawing::new(alloc, Canvas::new(alloc, picture), pair);

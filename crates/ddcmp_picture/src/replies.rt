@@ -1,4 +1,4 @@
-//! What was replied, beside the line of an end.
+//! The texts of replies, beside the line of an end.
 ghost use Rattle.std.specs.Prelude.{◌≡◌};
 ghost use Rattle.ddcmp_picture.specs.Labels.{reply_label, words as words_of};
 
@@ -9,14 +9,14 @@ use ddcmp_line::reply_text::{
 };
 use ddcmp_pair::Reply;
 
-/// A short text of these words.
+/// Returns a short text.
 pub(crate) fn words(text: &[u8]) -> ShortText
     ensures { result ≡ words_of text.now }
 {
     ShortText::new().with(text)
 }
 
-/// Returns what was replied, beside the line of an end.
+/// Returns the text of a reply, beside the line of an end.
 pub(crate) fn answer_text(reply: &Reply) -> ShortText
     ensures { result ≡ reply_label reply.now }
 {

@@ -1,15 +1,15 @@
-//! What a line of a script asks for.
+//! The request of a line of a script.
 ghost use Rattle.std.specs.Prelude.{◌≡◌};
 ghost use Rattle.ddcmp_picture.specs.Marks.{is_settle};
 
-/// What a line of a script asks for, as far as it says how a step is drawn.
+/// The request of a line of a script, as far as it affects how a step is drawn.
 #[derive(Clone, Copy, Drop)]
 pub(crate) enum Request {
     /// An event, or bytes that no end sent.
     Event,
-    /// So many bytes of the first frame of an end arrive, of those that haven't.
+    /// The first `part` of the `of` bytes that are left of an end's first frame arrive.
     Carry { part: usize, of: usize },
-    /// A settle or a recovery: frames arrive whole, and what an end has not isn't drawn.
+    /// A settle or a recovery: frames arrive whole, and an end without a frame isn't drawn.
     Settle,
 }
 

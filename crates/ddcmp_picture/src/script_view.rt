@@ -33,8 +33,8 @@ impl<P: Paper + Drop> View for Drawing<P> {
 }
 
 impl Drawing<Canvas> {
-    /// Ends the picture: whether there was memory for all of it. After it comes what has been done,
-    /// if there is a pair to ask.
+    /// Ends the picture, with a summary of the run below it if `closing` is the pair; returns
+    /// whether no allocation failed.
     pub(crate) fn end<W: Sink>(
         &mut self,
         alloc: Global,

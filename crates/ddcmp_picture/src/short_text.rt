@@ -7,13 +7,13 @@ ghost use Rattle.ddcmp_picture.specs.ShortTexts.{bytes_shown, is_blank};
 
 use itoa::Buffer;
 
-/// The most bytes that a short text has; what comes after them is left out.
+/// The maximum length of a short text in bytes; longer texts are truncated.
 const ROOM: usize = 96;
 
-/// The most bytes that are shown whole.
+/// The maximum number of bytes that are all shown.
 const SHOWN: usize = 10;
 
-/// A text of ASCII that is short.
+/// A short text in ASCII.
 #[derive(Clone, Copy, Drop)]
 pub struct ShortText {
     bytes: [u8; ROOM],
@@ -51,7 +51,7 @@ impl ShortText {
         }
     }
 
-    /// The same, followed by this text.
+    /// Appends a text.
     #[tactic(auto, using(crate::proofs::TextLaws::with_step, crate::proofs::TextLaws::with_none))]
     pub(crate) fn with(mut self, text: &[u8]) -> Self
         ensures { result ≡ with_text self text.now }
@@ -62,7 +62,7 @@ impl ShortText {
         self
     }
 
-    /// The same, followed by a number.
+    /// Appends a number.
     pub(crate) fn with_number(self, number: u64) -> Self
         ensures { result ≡ with_text self (decimal number) }
     {
@@ -70,7 +70,7 @@ impl ShortText {
         self.with(buffer.format(number).as_bytes())
     }
 
-    /// The same, followed by a few bytes in hexadecimal digits.
+    /// Appends a few bytes as hexadecimal digits.
     fn with_hex(self, bytes: &[u8]) -> Self
         requires { length bytes.now ≤ SHOWN }
         ensures { result ≡ with_text self (encode_lower bytes.now) }
@@ -83,7 +83,7 @@ impl ShortText {
         }
     }
 
-    /// The same, followed by bytes in hexadecimal digits; of many the first alone.
+    /// Appends bytes as hexadecimal digits; of many only the first.
     #[tactic(auto, using(crate::proofs::TextLaws::with_append))]
     pub(crate) fn with_bytes(self, bytes: &[u8]) -> Self
         ensures { result ≡ with_text self (bytes_shown bytes.now) }

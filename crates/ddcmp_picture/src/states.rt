@@ -1,11 +1,11 @@
-//! What is seen of both ends.
+//! What is known of both ends.
 ghost use Rattle.std.specs.Prelude.{◌≡◌};
 ghost use Rattle.ddcmp_picture.specs.Marks.{seen_at, seen_now, states_in};
 
 use ddcmp_pair::{End, Pair, State};
 use ddcmp_proto::Counters;
 
-/// The state of an end, and what it has counted.
+/// The state of an end, and its counters.
 #[derive(Clone, Copy, Drop)]
 pub(crate) struct Seen {
     pub(crate) state: State,
@@ -24,7 +24,7 @@ impl Seen {
     }
 }
 
-/// What is seen of both ends.
+/// What is known of both ends.
 #[derive(Clone, Copy, Drop)]
 pub(crate) struct States {
     pub(crate) a: Seen,

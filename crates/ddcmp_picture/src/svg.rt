@@ -1,4 +1,4 @@
-//! A time-sequence diagram in SVG: two upright lines, and time goes down, a row a step.
+//! A time-sequence diagram in SVG: two vertical lines; time goes down, one row a step.
 use crate::arrow::{Stroke, write_trip};
 use crate::caption::{caption_lines, first_line};
 use crate::elements::Part::{Number, Text};
@@ -22,7 +22,7 @@ markerHeight=\"7\" orient=\"auto\"><path d=\"M0 0L10 5L0 10z\" fill=\"#003f7a\"/
 markerHeight=\"7\" orient=\"auto\"><path d=\"M0 0L10 5L0 10z\" fill=\"#c76a00\"/></marker>\
 </defs>\n";
 
-/// How a document is shown and named, up to its caption.
+/// The title and description of a document, up to its caption.
 const TITLE: &[u8] = b"\" role=\"img\" aria-labelledby=\"title desc\" \
 font-family=\"DejaVu Sans,Verdana,Arial,sans-serif\" font-size=\"12\">\n\
 <title id=\"title\">DDCMP: a run between the stations A and B</title>\n\
@@ -30,7 +30,7 @@ font-family=\"DejaVu Sans,Verdana,Arial,sans-serif\" font-size=\"12\">\n\
 arrived. A lost one ends in a cross, a damaged one is dashed and has a diamond, and of one \
 that ends in a bar only a part arrived. ";
 
-/// A dot on the line of an end.
+/// Draws a dot on the line of an end.
 fn write_dot<W: Sink>(page: &mut Page, writer: &mut W, at: End, y: u64) {
     let parts = [
         Text(b"<circle cx=\""),
@@ -42,7 +42,7 @@ fn write_dot<W: Sink>(page: &mut Page, writer: &mut W, at: End, y: u64) {
     write(page, writer, &parts);
 }
 
-/// Words beside the line of an end.
+/// Writes a text beside the line of an end.
 fn write_note<W: Sink>(page: &mut Page, writer: &mut W, at: End, y: u64, text: &[u8]) {
     let base = y.saturating_add(4);
     match at {
@@ -65,7 +65,7 @@ fn write_note<W: Sink>(page: &mut Page, writer: &mut W, at: End, y: u64, text: &
     }
 }
 
-/// Bytes that nobody sent.
+/// Draws bytes that neither end sent.
 fn write_appearance<W: Sink>(
     page: &mut Page,
     writer: &mut W,
@@ -104,7 +104,7 @@ fn write_appearance<W: Sink>(
     );
 }
 
-/// Words that concern both ends.
+/// Writes a text about both ends.
 fn write_across(lettering: &mut Lettering, row: u64, text: &[u8]) {
     let y = height_of(row).saturating_add(4);
     let how = b"text-anchor=\"middle\" class=\"across\"";
@@ -120,7 +120,7 @@ fn write_across(lettering: &mut Lettering, row: u64, text: &[u8]) {
     );
 }
 
-/// Draws a mark in the rows of a document; the texts between both ends go to the lettering.
+/// Draws a mark in the rows of a document; texts between both ends are added to the lettering.
 pub(crate) fn write_element<W: Sink>(
     page: &mut Page,
     writer: &mut W,
@@ -167,7 +167,7 @@ fn write_caption<W: Sink>(page: &mut Page, writer: &mut W, top: u64, text: &[u8]
     }
 }
 
-/// The line of an end.
+/// Draws the line of an end.
 fn write_end_line<W: Sink>(page: &mut Page, writer: &mut W, x: u64, foot: u64) {
     let parts = [
         Text(b"<line class=\"end\" x1=\""),
@@ -204,8 +204,8 @@ fn write_head<W: Sink>(page: &mut Page, writer: &mut W, foot: u64, height: u64, 
     write_text(page, writer, LINE_B, TOP - 32, how, b"B");
 }
 
-/// Writes a whole document: these elements in this many rows, the texts that lie over them, and a
-/// caption below them.
+/// Writes a whole document: these elements in this many rows, the texts over them, and a caption
+/// below them.
 pub(crate) fn write_document<W: Sink>(
     page: &mut Page,
     writer: &mut W,

@@ -1,4 +1,4 @@
-// The time that a station, a tap and a link are reported, over a clock of the test's own.
+// The time that is passed to a station, a tap and a link, over a clock of the test's own.
 use crate::same::is;
 use ddcmp_station::{Clock, Elapsed};
 use std::cell::Cell;
@@ -25,14 +25,14 @@ impl time::Clock for SetClock {
     }
 }
 
-/// A clock that is set to seven seconds.
+/// Returns a clock that is set to seven seconds.
 fn clock_at_seven() -> SetClock {
     SetClock {
         at: Cell::new(Some(Duration::from_secs(7))),
     }
 }
 
-/// So much after the clock was set to seven seconds, this many milliseconds are reported.
+/// Checks how many milliseconds are returned, this long after the clock was set to seven seconds.
 fn tells(
     rt: &impl Abort,
     clock: &SetClock,
@@ -46,7 +46,7 @@ fn tells(
     is(rt, elapsed.now(), milliseconds);
 }
 
-/// Milliseconds are whole ones, and count from the making.
+/// Milliseconds are whole, and count from when the value was made.
 #[test]
 fn milliseconds_since_the_making(rt: HostRuntime) {
     let clock = clock_at_seven();
@@ -61,7 +61,7 @@ fn milliseconds_since_the_making(rt: HostRuntime) {
     tells(&rt, &clock, &mut elapsed, 86_400_123_456_789, 86_400_123);
 }
 
-/// If the clock fails the time stands, and goes on with it.
+/// If the clock fails the time doesn't advance, and continues with the clock.
 #[test]
 fn a_clock_that_fails(rt: HostRuntime) {
     let clock = clock_at_seven();
@@ -72,7 +72,7 @@ fn a_clock_that_fails(rt: HostRuntime) {
     tells(&rt, &clock, &mut elapsed, 32_000_000, 32);
 }
 
-/// If it failed at the making, no time passes.
+/// If it failed when the value was made, no time passes.
 #[test]
 fn a_clock_that_failed_at_first(rt: HostRuntime) {
     let clock = SetClock {

@@ -1,6 +1,6 @@
 //! Tests of the protocol from outside: of frames, windows and a core, and of a station by its
 //! calls, driven, served, and as a link; of the sockets of `ddcmp_net` over the network of this
-//! machine, and of the time that a station is reported.
+//! machine, and of the time that is passed to a station.
 #![tactic(auto)]
 
 #[cfg(test)]

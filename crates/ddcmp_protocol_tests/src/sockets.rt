@@ -1,5 +1,6 @@
-// A connection of the program with itself, on systems that are crowded, that listen at one address
-// alone, that hand over the stream of another, or that keep a handle of each stream.
+// A connection of the program with itself, on systems on which others connect first, or which
+// listen at one address only, pass the stream of another connection, or keep a handle of each
+// stream.
 
 use crate::same::is;
 use ddcmp_net::Sockets;
@@ -33,7 +34,7 @@ impl<S: Net<Stream = TcpStream, Listener = TcpListener>> Net for Crowded<'_, S> 
     }
 }
 
-/// A system on which one may listen at the machine's own address alone, at any port.
+/// A system on which listening is possible only at the machine's own address, at any port.
 #[derive(Drop)]
 struct Own<'a, S> {
     system: &'a S,
@@ -56,7 +57,7 @@ impl<S: Net<Stream = TcpStream, Listener = TcpListener>> Net for Own<'_, S> {
     }
 }
 
-/// A listener that reports who has come, and passes their stream to another one.
+/// A listener that reports the peer of its connection, but returns another stream.
 #[derive(Drop)]
 struct SwappingListener<'a> {
     own: TcpListener,
@@ -68,7 +69,7 @@ impl OpenListener for SwappingListener<'_> {
 
     fn accept(&self) -> io::Result<(TcpStream, SocketAddr)> {
         let (own, peer) = self.own.accept()?;
-        // It stays open, so that what is written to it is no fault.
+        // It isn't closed, so that writing to it is no fault.
         std::mem::forget(own);
         let (stream, _peer) = self.other.accept()?;
         Ok((stream, peer))
@@ -109,7 +110,7 @@ impl<'a, S: Net<Stream = TcpStream, Listener = TcpListener>> Net for Swapping<'a
     }
 }
 
-/// A listener that keeps a handle of the stream that it passes on.
+/// A listener that keeps a handle of the stream that it returns.
 #[derive(Drop)]
 struct KeepingListener<'a> {
     own: TcpListener,
@@ -179,7 +180,7 @@ fn a_connection_is_of_this_machine(rt: HostRuntime) {
     assert!(rt; Sockets::new(&system).is_ok());
 }
 
-/// An end waits five seconds for bytes or for room, and not to fill a packet.
+/// Checks that an end has timeouts of five seconds, and TCP_NODELAY.
 fn is_prepared(rt: &impl Abort, kept: &Cell<Option<TcpStream>>) -> Result<(), Fail> {
     let wait = Some(Duration::from_secs(5));
     let stream = kept.take();
@@ -212,13 +213,13 @@ fn both_ends_send_at_once(rt: HostRuntime) -> Result<(), Fail> {
     let connected = Cell::new(None);
     let accepted = Cell::new(None);
     let ended = are_prepared(&rt, &connected, &accepted);
-    // They were emptied, and no proof can let a cell with a stream go.
+    // They are empty, but no proof can show that a cell with a stream may be dropped.
     std::mem::forget(connected);
     std::mem::forget(accepted);
     ended
 }
 
-/// Bytes that differ from place to place, also a page apart.
+/// Returns bytes that differ from index to index, also 256 apart.
 fn differing<const N: usize>() -> [u8; N] {
     let mut bytes = [0; N];
     for i in 0..N {
@@ -228,7 +229,7 @@ fn differing<const N: usize>() -> [u8; N] {
     bytes
 }
 
-/// This many bytes of an end come out at the other as they went in.
+/// Checks that this many bytes of an end arrive at the other unchanged.
 fn cross(
     rt: &(impl Abort + Net<Stream = TcpStream>),
     from: End,
@@ -261,7 +262,7 @@ fn pieces_cross(rt: HostRuntime) -> Result<(), Fail> {
     cross(&rt, End::B, 16393)
 }
 
-/// What comes out is what came over the connection, and not what went in.
+/// What is returned is what was received over the connection, not what was passed in.
 #[test]
 fn nothing_is_copied(rt: HostRuntime) -> Result<(), Fail> {
     let other = TcpListener::bind(&rt, "127.0.0.1:0")?;
@@ -283,7 +284,7 @@ fn nothing_is_copied(rt: HostRuntime) -> Result<(), Fail> {
     Ok(())
 }
 
-/// If the other end was shut, the connection has ended.
+/// If the other end was shut down, the connection has ended.
 #[test]
 fn a_shut_end_is_an_end(rt: HostRuntime) -> Result<(), Fail> {
     let other = TcpListener::bind(&rt, "127.0.0.1:0")?;
@@ -302,7 +303,7 @@ fn a_shut_end_is_an_end(rt: HostRuntime) -> Result<(), Fail> {
     Ok(())
 }
 
-/// If nothing comes, a read gives up after five seconds.
+/// If nothing is received, a read fails after five seconds.
 #[test]
 fn silence_is_a_failed_read(rt: HostRuntime) -> Result<(), Fail> {
     let other = TcpListener::bind(&rt, "127.0.0.1:0")?;

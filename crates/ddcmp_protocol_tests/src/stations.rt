@@ -1,4 +1,4 @@
-//! Tests of the calls of `ddcmp_station`, but `drive`, on bytes.
+//! Tests of the calls of `ddcmp_station`, apart from `drive`, on bytes.
 
 mod bench;
 mod calls;

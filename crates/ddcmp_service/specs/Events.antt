@@ -1,4 +1,4 @@
--- What a service reports of its line on standard error, without the line feed.
+-- What a service reports about its line on standard error, without the line feed.
 use Rattle.std.specs.Prelude.{◌≡◌, ℕ, List, ◌++◌, codes, decimal, Option, Some, None}
 use Rattle.std.specs.Fmt.Cut.{IsTextOrCut}
 use Rattle.std.specs.Net.Text.{socket_text}
@@ -43,7 +43,7 @@ event_text (event.Retry fault seconds) =
     codes "ddcmp: "
     ++ (not_opened_text fault ++ (codes "; retry in " ++ (decimal seconds ++ codes " s")))
 
--- The event was reported, if there is one: its text, whole or cut to end in dots.
+-- The event was reported, if there is one: its text, whole or truncated with dots at the end.
 abbrev pub Reports : Option Event → ErrorsView → ErrorsView → Type 0
 Reports None old new = new ≡ old
 Reports (Some event) old new =

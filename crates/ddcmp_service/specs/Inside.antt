@@ -1,4 +1,4 @@
--- Definitions that are cited inside the crate alone: no promise rests on them.
+-- Definitions used inside the crate only; no public contract depends on them.
 pub mod Lines
 pub mod Opening
 pub mod Outlets

@@ -1,4 +1,4 @@
--- The words that name lines.
+-- The names of lines on the command line.
 use Rattle.std.specs.Prelude.{ℕ, List, ◌++◌, ◌≢◌, codes, get_or, length, ◌<◌, ⊤}
 use Rattle.std.specs.Prelude.{Bool, if◌then◌else◌}
 use Rattle.std.specs.Borrow.{Bor}
@@ -12,14 +12,14 @@ use Rattle.ddcmp_service.specs.declared.opener.OpenRefusal.{OpenRefusal}
 use Rattle.ddcmp_session.specs.declared.options.LineKind.{LineKind}
 use Rattle.ddcmp_session.specs.declared.options.LineKind.TheVariants as kind
 
--- what a line is called by
+-- the name of a line
 unfoldable pub word_of : LineName → List ℕ
 word_of (Connect at) = codes "connect:" ++ at.now
 word_of (Listen at) = codes "listen:" ++ at.now
 word_of (Udp local remote) = codes "udp:" ++ (local.now ++ (codes "," ++ remote.now))
 word_of (Device path) = codes "device:" ++ path.now
 
--- the first address of two has no comma in it, so that no word names two lines
+-- The first of two addresses has no comma in it, so that no name stands for two lines.
 unfoldable pub IsPlain : LineName → Type 0
 IsPlain (Udp local remote) = (k : ℕ) → k < length local.now → get_or local.now k 0 ≢ 44
 IsPlain _ = ⊤
@@ -32,21 +32,21 @@ line_kind (Device path) = kind.Device
 
 -- ---- a line that couldn't be opened
 
--- what was tried
+-- what was attempted
 abbrev pub attempt_of : LineKind → Attempt
 attempt_of kind.Connect = attempt.Connect
 attempt_of kind.Listen = attempt.Listen
 attempt_of kind.Datagrams = attempt.Open
 attempt_of kind.Device = attempt.Open
 
--- which name is to blame: of two addresses the remote one, or else the local one
+-- the address or path to be reported: of two addresses the remote one if that failed
 abbrev pub blamed : Bool → LineName → Bor (List ℕ)
 blamed is_remote (Connect at) = at
 blamed is_remote (Listen at) = at
 blamed is_remote (Udp local remote) = if is_remote then remote else local
 blamed is_remote (Device path) = path
 
--- what is reported of it
+-- what is reported
 abbrev pub not_opened_of : LineName → OpenRefusal → NotOpened
 not_opened_of name refused = record {
   attempt = attempt_of (line_kind name);

@@ -22,42 +22,42 @@ use std::io::{Eprint, ErrorKind};
 use std::net::{self, Net};
 use std::time;
 
-/// What a bridge has counted, and how it ended.
+/// The counters of a bridge, and how it ended.
 #[derive(Clone, Copy)]
 pub struct BridgeEnd {
-    /// What was counted from the first line to the second.
+    /// The counters from the first line to the second.
     pub there: Counts,
     pub back: Counts,
-    /// Whether a line failed, and wasn't just closed, or what came couldn't be saved.
+    /// Whether a line failed, and wasn't just closed, or received bytes couldn't be saved.
     pub has_failed: bool,
 }
 
 /// Why there was no bridge.
 #[derive(Clone, Copy)]
 pub enum BridgeFault<'a> {
-    /// A line couldn't be opened, or a file made.
+    /// A line couldn't be opened, or a file created.
     Open(NotOpened<'a>),
     /// An allocation failed, before anything was done.
     Memory,
 }
 
-/// How a bridge runs.
+/// The options of a bridge.
 #[derive(Clone, Copy)]
 pub struct BridgeOptions<'a> {
     /// After how many seconds it ends, if no line has ended before.
     pub seconds: u32,
     pub faults: Faults,
-    /// How many milliseconds each frame is held back.
+    /// By how many milliseconds each frame is delayed.
     pub delay_ms: u32,
-    /// How the frames that come are printed on standard error, if they are.
+    /// The notation in which received frames are printed on standard error, if they are.
     pub trace: Option<Notation>,
-    /// The files that what comes over each line is saved in, if it is. They must not be there yet.
+    /// The files to save the bytes received over each line in, if any. They must not exist.
     pub save_first: Option<&'a str>,
     pub save_second: Option<&'a str>,
 }
 
-/// Passes the good frames that come over each line on to the other, but for the faults that it is
-/// to make, until one of them ends, or its time is over.
+/// Passes the good frames received over each line on to the other, with the faults that are set,
+/// until a line ends or the time is over.
 pub fn bridge_lines<'a, S>(
     system: &S,
     alloc: Global,
@@ -90,7 +90,7 @@ where
     ended
 }
 
-/// Makes the file of this name, if one is asked for.
+/// Creates the file of this name, if one is requested.
 fn save_in<'a, S: Files<File = File>>(
     files: &S,
     name: Option<&'a str>,
@@ -108,7 +108,7 @@ fn save_in<'a, S: Files<File = File>>(
     }
 }
 
-/// Returns why it can't wait for several lines.
+/// Returns the fault if it can't wait for several lines.
 fn no_poller<'a>(kind: ErrorKind) -> BridgeFault<'a> {
     match kind {
         ErrorKind::OutOfMemory => BridgeFault::Memory,
@@ -120,7 +120,7 @@ fn no_poller<'a>(kind: ErrorKind) -> BridgeFault<'a> {
     }
 }
 
-/// Prints how far a line is opened, if that is reported.
+/// Prints the state of an opening, if that is reported.
 fn report<E: Eprint>(system: &E, opened: &Opened) {
     if let Some(event) = opened.event() {
         let _ = eprintln!(system; "{event}");
@@ -133,7 +133,7 @@ struct Opening<'a> {
     poller: Poller,
 }
 
-// Manual, since a derived `Drop` is expanded wherever it is dropped.
+// Manual, since a derived `Drop` would be expanded wherever a value is dropped.
 impl Drop for Opening<'_> {
     fn drop(self) {
         let Opening {
@@ -162,7 +162,7 @@ impl<'a> Opening<'a> {
         BridgeFault::Open(self.opener.fault(refused))
     }
 
-    /// Listens if the line is one of whoever comes, and reports at which address.
+    /// Listens, if the line is one for callers, and prints the address.
     fn listen<S: System>(&mut self, system: &S) -> Result<(), BridgeFault<'a>> {
         match self.opener.listen(system, &mut self.poller) {
             Ok(opened) => {
@@ -173,7 +173,7 @@ impl<'a> Opening<'a> {
         }
     }
 
-    /// Opens the line: none if the time was over first.
+    /// Opens the line; returns none if the time was over first.
     fn open<S: System, C: Clock>(
         &mut self,
         system: &S,
@@ -198,7 +198,7 @@ impl<'a> Opening<'a> {
     }
 }
 
-/// All that a bridge needs but its lines.
+/// All that a bridge needs apart from its lines.
 #[derive(Drop)]
 struct Ways {
     bridge: Bridge,
@@ -206,7 +206,7 @@ struct Ways {
     back: Intake,
 }
 
-/// Makes a log of what comes from a side, if one is asked for.
+/// Makes the log of a side's bytes, if one is requested.
 fn trace_of(
     alloc: Global,
     options: &BridgeOptions<'_>,
@@ -219,7 +219,7 @@ fn trace_of(
 }
 
 impl Ways {
-    /// Takes all memory that both directions will need; none if an allocation failed.
+    /// Allocates all memory that both directions will need; returns none if an allocation failed.
     fn new(
         alloc: Global,
         options: &BridgeOptions<'_>,
@@ -262,8 +262,7 @@ impl Ways {
         }
     }
 
-    /// Passes frames on both ways, and prints which line is down then, and which file can't be
-    /// written.
+    /// Passes frames on both ways; then prints which line is down, and which file can't be written.
     fn run<E: Eprint, C: Clock + Drop>(
         self,
         system: &E,
@@ -317,7 +316,7 @@ fn has_failed(down: Option<Down>) -> bool {
     matches!(down, Some(Down::Failed(_)))
 }
 
-/// Prints that a file can't be written, if it can't.
+/// Prints that a file couldn't be written, if that failed.
 fn report_unsaved<E: Eprint>(system: &E, name: Option<&str>, failed: Option<Cause>) {
     let (Some(name), Some(cause)) = (name, failed) else {
         return;

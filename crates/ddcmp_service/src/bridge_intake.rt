@@ -1,4 +1,4 @@
-//! What is done with the bytes that come over a line of a bridge, but for passing them on.
+//! What is done with the bytes received over a line of a bridge, apart from passing them on.
 ghost use Rattle.std.specs.Prelude.{◌≡◌, ◌≤◌, ◌+◌, ◌-◌, ◌^◌, false, length, min};
 
 use crate::bridge_save::Save;
@@ -9,19 +9,19 @@ use ddcmp_bridge::{Counts, Fate};
 use std::alloc::Global;
 use std::io::Eprint;
 
-/// Saves what comes over a line, drops the beginning of a frame at the end of a datagram, and logs
-/// the frames.
+/// Saves the bytes received over a line, drops an incomplete frame at the end of a datagram, and
+/// logs the frames.
 pub(crate) struct Intake {
-    /// Finds what a datagram has only the beginning of.
+    /// Finds the incomplete frame at the end of a datagram.
     framing: Framing,
-    /// How many bytes were dropped for that.
+    /// How many bytes of such frames were dropped.
     cut: u64,
     trace: Option<Trace>,
-    /// The file that all that comes is saved in, if there is one.
+    /// The file that all received bytes are saved in, if there is one.
     save: Option<Save>,
 }
 
-// Manual, since a derived `Drop` is expanded wherever it is dropped.
+// Manual, since a derived `Drop` would be expanded wherever a value is dropped.
 impl Drop for Intake {
     fn drop(self) {
         let Intake {
@@ -34,7 +34,7 @@ impl Drop for Intake {
 }
 
 impl Intake {
-    /// Takes all memory that it will need; none if an allocation failed.
+    /// Allocates all memory that it will need; returns none if an allocation failed.
     pub(crate) fn new(alloc: Global, trace: Option<Trace>, save: Option<Save>) -> Option<Intake> {
         Some(Intake {
             framing: Framing::new(alloc, ddcmp_frame::MAX_COUNT).ok()?,
@@ -44,7 +44,7 @@ impl Intake {
         })
     }
 
-    /// Saves bytes that came; returns how many of them are to be passed on.
+    /// Saves received bytes; returns how many of them are to be passed on.
     pub(crate) fn take(&mut self, bytes: &[u8], are_datagram: bool) -> usize
         ensures fits { result ≤ length bytes.now }
         ensures stream { are_datagram ≡ false → result ≡ length bytes.now }
@@ -55,7 +55,7 @@ impl Intake {
         if !are_datagram {
             return bytes.len();
         }
-        // No frame goes on in the next datagram.
+        // No frame continues in the next datagram.
         let unfinished = self.framing.unfinished(bytes);
         self.cut = self.cut.saturating_add(unfinished as u64);
         bytes.len().saturating_sub(unfinished)
@@ -74,7 +74,7 @@ impl Intake {
         }
     }
 
-    /// Returns why what came can't be saved any more, if it can't.
+    /// Returns why received bytes couldn't be saved, if that failed.
     pub(crate) fn unsaved(&self) -> Option<Cause> {
         match &self.save {
             Some(save) => save.failed(),
@@ -82,7 +82,7 @@ impl Intake {
         }
     }
 
-    /// Returns what was counted of what came, with what was dropped.
+    /// Returns the counters, with the bytes dropped here counted as skipped.
     pub(crate) fn counts(&self, counts: Counts) -> Counts
         ensures { result ≡ record counts {
           skipped = min (counts.skipped + self.now.cut) (2 ^ 64 - 1);

@@ -1,4 +1,4 @@
-//! The lines of a bridge, as the system has them.
+//! The lines of a bridge, on the system's devices.
 ghost use Rattle.std.specs.Prelude.{◌≤◌, length};
 ghost use Rattle.ddcmp_bridge.specs.Joining.{count_of};
 
@@ -8,7 +8,7 @@ use ddcmp_bridge::{Fate, Lines, Needs, Way};
 use ddcmp_station::Clock;
 use std::io::Eprint;
 
-/// Two lines, what is done with what comes over each, and a clock.
+/// Two lines, the intake of each, and a clock.
 #[derive(Drop)]
 pub(crate) struct LiveLines<'a, E, C> {
     pub(crate) system: &'a E,
@@ -20,7 +20,7 @@ pub(crate) struct LiveLines<'a, E, C> {
     pub(crate) back: Intake,
 }
 
-/// Reads a side, as far as that doesn't wait.
+/// Reads a side without blocking.
 fn read_from(side: &mut Side, intake: &mut Intake, space: &mut [u8]) -> Option<usize>
     ensures { count_of result ≤ length space.new }
 {
@@ -28,7 +28,7 @@ fn read_from(side: &mut Side, intake: &mut Intake, space: &mut [u8]) -> Option<u
     Some(intake.take(&space[..n], side.has_datagrams()))
 }
 
-/// Returns what is needed of a side that a direction reads and the other one writes.
+/// Returns what is needed of a side that one direction reads and the other one writes.
 fn needs_of(side: &Side, reading: Needs, writing: Needs) -> Needs {
     Needs {
         to_read: reading.to_read && side.down.is_none(),

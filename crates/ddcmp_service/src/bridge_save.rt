@@ -1,16 +1,16 @@
-//! What came over a line of a bridge, saved in a file.
+//! The bytes received over a line of a bridge, saved in a file.
 use crate::fault::Cause;
 use std::fs::{self, File, Files};
 use std::io::{ErrorKind, Write};
 
-/// A file that has the bytes that came over a line.
+/// A file for the bytes received over a line.
 pub(crate) struct Save {
     file: File,
     /// Why a write failed, if one did.
     failed: Option<Cause>,
 }
 
-// Manual, since a derived `Drop` is expanded wherever it is dropped.
+// Manual, since a derived `Drop` would be expanded wherever a value is dropped.
 impl Drop for Save {
     fn drop(self) {
         let Save {
@@ -21,7 +21,7 @@ impl Drop for Save {
 }
 
 impl Save {
-    /// Makes the file. It must not be there yet.
+    /// Creates the file, which must not exist.
     pub(crate) fn new<S: Files<File = File>>(files: &S, path: &str) -> Result<Save, Cause> {
         match File::create_new(files, path) {
             Ok(file) => Ok(Save { file, failed: None }),
@@ -51,7 +51,7 @@ impl Save {
     }
 }
 
-/// Removes a file that nothing was written to.
+/// Removes a file to which nothing was written.
 pub(crate) fn remove<S: Files<File = File>>(files: &S, path: Option<&str>) {
     if let Some(path) = path {
         let _ = fs::remove_file(files, path);

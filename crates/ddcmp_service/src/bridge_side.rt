@@ -18,20 +18,20 @@ const FIRST: Token = Token(0);
 
 const SECOND: Token = Token(1);
 
-/// The longest wait at once, in milliseconds.
+/// The longest single wait, in milliseconds.
 const HOUR_MS: u64 = 3_600_000;
 
 /// A line of a bridge.
 pub(crate) struct Side {
     line: Line,
     pub(crate) ready: Descriptor,
-    /// Why it takes nothing any more, if it doesn't. What it has given is still read.
+    /// Why it takes no more bytes, if so. What its peer has sent is still read.
     refuses: Option<Down>,
     /// Why it is down, if it is.
     pub(crate) down: Option<Down>,
 }
 
-// Manual, since a derived `Drop` is expanded wherever it is dropped.
+// Manual, since a derived `Drop` would be expanded wherever a value is dropped.
 impl Drop for Side {
     fn drop(self) {
         let Side {
@@ -44,7 +44,7 @@ impl Drop for Side {
 }
 
 impl Side {
-    /// Reads what has come; none if nothing has, or the line is down.
+    /// Reads received bytes; returns none if there are none, or the line is down.
     pub(crate) fn read(&mut self, space: &mut [u8]) -> Option<usize>
         ensures { count_of result ≤ length space.new }
     {
@@ -66,14 +66,15 @@ impl Side {
         }
     }
 
-    /// Returns whether it takes bytes, as far as it has room.
+    /// Returns whether it takes bytes, if it has room.
     pub(crate) fn takes_bytes(&self) -> bool
         ensures { result ≡ is_none self.now.down && is_none self.now.refuses }
     {
         self.down.is_none() && self.refuses.is_none()
     }
 
-    /// Writes bytes from the front of `bytes`; none if there is no room, or the line is down.
+    /// Writes bytes from the front of `bytes`; returns none if there is no room, or the line is
+    /// down.
     pub(crate) fn write(&mut self, bytes: &[u8]) -> Option<usize>
         ensures { count_of result ≤ length bytes.now }
     {
@@ -89,7 +90,7 @@ impl Side {
             }
             Transfer::Ended(why) => {
                 self.refuses = Some(why);
-                // A read finds at once whether it has something left.
+                // The next read finds out whether there is anything left.
                 self.ready.ready.to_read = true;
                 None
             }
@@ -113,7 +114,7 @@ impl Side {
         line.close(clock);
     }
 
-    /// Returns whether it is one of datagrams.
+    /// Returns whether its line is one of datagrams.
     pub(crate) fn has_datagrams(&self) -> bool
         ensures { result ≡ has_datagrams self.now.line }
     {
@@ -129,7 +130,7 @@ pub(crate) struct Sides {
     pub(crate) second: Side,
 }
 
-// Manual, since a derived `Drop` is expanded wherever they are dropped.
+// Manual, since a derived `Drop` would be expanded wherever a value is dropped.
 impl Drop for Sides {
     fn drop(self) {
         let Sides {
@@ -141,7 +142,7 @@ impl Drop for Sides {
     }
 }
 
-/// A line that is waited for from now on.
+/// Registers a line, so that it can be waited for.
 fn side_of(poll: &Poll, line: Line, token: Token) -> Side {
     let both = Interest::READABLE | Interest::WRITABLE;
     let mut ready = Descriptor::new(poll, line.number(), token, both);
@@ -181,14 +182,14 @@ impl Sides {
             first,
             second,
         } = self;
-        // Both peers learn of it before one of them is waited for.
+        // Both peers are notified before one of them is waited for.
         let _is_up = first.line.shut();
         let _is_up = second.line.shut();
         first.close(clock);
         second.close(clock);
     }
 
-    /// If neither line takes anything any more, nothing can be passed on: both are down.
+    /// Sets both lines down if neither takes bytes any more, since then nothing can be passed on.
     pub(crate) fn settle(&mut self) {
         if !self.first.takes_bytes() && !self.second.takes_bytes() {
             self.first.down = self.first.down.or(self.first.refuses);
@@ -196,8 +197,8 @@ impl Sides {
         }
     }
 
-    /// Waits until something that is needed of a side is ready, at most this many milliseconds:
-    /// whether it could wait.
+    /// Waits until something that is needed of a side is ready, at most this many milliseconds;
+    /// returns whether it could wait.
     pub(crate) fn wait(&mut self, first: Needs, second: Needs, most_ms: u64) -> bool {
         self.first
             .ready

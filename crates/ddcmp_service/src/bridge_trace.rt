@@ -1,4 +1,4 @@
-//! What a bridge logs of the frames that come over its lines.
+//! The log of the frames that a bridge receives.
 use ddcmp_bridge::Fate;
 use ddcmp_frame::MAX_COUNT;
 use ddcmp_tap::{Direction, NoMemory, Notation, Side};
@@ -13,7 +13,7 @@ pub(crate) struct Trace {
     side: Side,
 }
 
-// Manual, since a derived `Drop` is expanded wherever it is dropped.
+// Manual, since a derived `Drop` would be expanded wherever a value is dropped.
 impl Drop for Trace {
     fn drop(self) {
         let Trace {
@@ -25,7 +25,7 @@ impl Drop for Trace {
 }
 
 impl Trace {
-    /// Takes all memory but that of its lines.
+    /// Allocates all memory apart from that of its lines.
     pub(crate) fn new(alloc: Global, notation: Notation, side: Side) -> Result<Trace, NoMemory> {
         let direction = Direction::new(alloc, side, notation, MAX_COUNT)?;
         Ok(Trace {
@@ -35,8 +35,8 @@ impl Trace {
         })
     }
 
-    /// Prints the lines of bytes that came, and the fate of the frame that they completed. What
-    /// there is no memory for isn't printed.
+    /// Prints the lines of received bytes, and the fate of the frame that they completed. Lines for
+    /// which an allocation failed aren't printed.
     pub(crate) fn log<E: Eprint>(
         &mut self,
         system: &E,
@@ -76,7 +76,7 @@ fn log_line<E: Eprint>(system: &E, now: u64, mark: &str, fate: Fate) {
     };
 }
 
-/// Prints that as an object of JSON.
+/// Prints the same as a JSON object.
 fn log_object<E: Eprint>(system: &E, now: u64, mark: &str, fate: Fate) {
     let _ = match fate {
         Fate::Lost => eprintln!(system; "{{\"from\":\"{mark}\",\"ms\":{now},\"item\":\"lost\"}}"),

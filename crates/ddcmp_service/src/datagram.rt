@@ -2,12 +2,12 @@
 use ddcmp_frame::{Reader, ReaderRefusal};
 use std::alloc::Global;
 
-/// Finds the frame that a datagram has only the beginning of.
+/// Finds the incomplete frame at the end of a datagram.
 pub(crate) struct Framing {
     frames: Reader,
 }
 
-// Manual, since a derived `Drop` is expanded wherever it is dropped.
+// Manual, since a derived `Drop` would be expanded wherever a value is dropped.
 impl Drop for Framing {
     fn drop(self) {
         let Framing { frames: _frames } = self;
@@ -15,19 +15,19 @@ impl Drop for Framing {
 }
 
 impl Framing {
-    /// Makes one for messages of at most `max` bytes.
+    /// Makes a value for messages of at most `max` bytes.
     pub(crate) fn new(alloc: Global, max: u16) -> Result<Framing, ReaderRefusal> {
         Ok(Framing {
             frames: Reader::new(alloc, max)?,
         })
     }
 
-    /// Returns how many bytes at the end of a datagram begin a frame whose end isn't there.
+    /// Returns how many bytes at the end of a datagram belong to an incomplete frame.
     pub(crate) fn unfinished(&mut self, datagram: &[u8]) -> usize {
         let mut at = 0;
         for _item in 0..u64::MAX {
             let rest = datagram.get(at..).unwrap_or(&[]);
-            // It counts from the datagram's beginning, so its next byte always has a number.
+            // Offsets count from the datagram's beginning, so they don't overflow.
             let countable = u64::MAX - self.frames.offset();
             if rest.is_empty() || countable <= rest.len() as u64 {
                 break;

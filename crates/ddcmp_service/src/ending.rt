@@ -1,4 +1,4 @@
-//! How the run of a link ends before all is delivered.
+//! Why the run of a link ends before all is delivered.
 ghost use Rattle.std.specs.Prelude.{◌≡◌, ◌≢◌, ℕ};
 ghost use Rattle.ddcmp_service.specs.LineNames.{not_opened_of};
 ghost use Rattle.ddcmp_service.specs.declared.opener.OpenRefusal.{OpenRefusal as RefusalValue};
@@ -9,10 +9,10 @@ use crate::opener::OpenRefusal;
 use ddcmp_session::{Fault, Stop};
 use std::io::ErrorKind;
 
-/// Why a run ended before all was delivered. The name of the line is added at last.
+/// Why a run ended before all was delivered. The name of the line is added last.
 #[derive(Clone, Copy)]
 pub(crate) enum Ended {
-    /// The system can't wait for several devices, for this reason.
+    /// It can't wait for several devices: the system's error.
     CannotWait(ErrorKind),
     Stopped(Stop<OpenRefusal>),
     /// An allocation failed.
@@ -20,7 +20,7 @@ pub(crate) enum Ended {
 }
 
 impl Ended {
-    /// Returns the fault of a service over a line of this name whose output is whole.
+    /// Returns the fault of a service over a line of this name whose output hasn't failed.
     pub(crate) fn fault(self, line: LineName<'_>) -> ServiceFault<'_>
         ensures whole { result ≢ ServiceFault.Write }
         ensures read { self ≡ Ended.Stopped (Stop.Device Fault.Input)

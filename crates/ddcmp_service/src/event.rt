@@ -1,4 +1,4 @@
-//! What a service reports of its line on standard error as it happens.
+//! What a service reports about its line on standard error while it runs.
 use crate::fault::NotOpened;
 use std::fmt;
 use std::net::SocketAddr;
@@ -9,7 +9,7 @@ pub(crate) enum Event<'a> {
     Listening(SocketAddr),
     Connecting(SocketAddr),
     Connected(SocketAddr),
-    /// The line couldn't be opened, and is tried again after this many seconds.
+    /// The line couldn't be opened; the next attempt is after this many seconds.
     Retry(NotOpened<'a>, u64),
 }
 

@@ -1,4 +1,4 @@
-//! What goes wrong with a line, and why a service ended.
+//! Why a line or a service failed.
 ghost use Rattle.std.specs.Prelude.{◌≡◌};
 ghost use Rattle.ddcmp_service.specs.Events.{attempt_text, cause_text};
 
@@ -6,7 +6,7 @@ use ddcmp_io::cause::words_of;
 use std::fmt;
 use std::io::ErrorKind;
 
-/// What was tried with the name of a line or file.
+/// What was attempted with a line or file.
 #[derive(Clone, Copy)]
 pub enum Attempt {
     Connect,
@@ -17,7 +17,7 @@ pub enum Attempt {
 }
 
 impl Attempt {
-    /// The attempt in words.
+    /// Returns the attempt in words.
     fn words(self) -> &'static str
         ensures { result.now ≡ attempt_text self }
     {
@@ -31,29 +31,29 @@ impl Attempt {
     }
 }
 
-/// Why a line can't be opened, or a file not made or written.
+/// Why a line can't be opened, or a file not created or written.
 #[derive(Clone, Copy)]
 pub enum Cause {
-    /// The system refused it.
+    /// The system refused it, with this error.
     System(ErrorKind),
     /// No host has this name.
     UnknownHost,
-    /// Of the two addresses of a line of datagrams one is of IPv4 and one of IPv6.
+    /// One of the two addresses of a line of datagrams is IPv4, and the other IPv6.
     OtherFamily,
     /// The file isn't a character device.
     NotDevice,
     /// The device is locked: by another program, or as the other line of a bridge.
     InUse,
-    /// The file is there already.
+    /// The file exists already.
     Exists,
-    /// There is no more room for the file.
+    /// There is no space left for the file.
     Full,
     /// A write failed for another reason.
     Failed,
 }
 
 impl Cause {
-    /// The cause in words.
+    /// Returns the cause in words.
     fn words(self) -> &'static str
         ensures { result.now ≡ cause_text self }
     {
@@ -70,7 +70,7 @@ impl Cause {
     }
 }
 
-/// A line or file that couldn't be opened: what was tried, with which name, and why it failed.
+/// A line or file that couldn't be opened: what was attempted, with which name, and why it failed.
 #[derive(Clone, Copy)]
 pub struct NotOpened<'a> {
     pub attempt: Attempt,
@@ -92,7 +92,7 @@ impl fmt::Display for NotOpened<'_> {
     }
 }
 
-/// Why a service ended before it had delivered all.
+/// Why a service ended before all was delivered.
 #[derive(Clone, Copy)]
 pub enum ServiceFault<'a> {
     /// The line couldn't be opened.
@@ -101,9 +101,9 @@ pub enum ServiceFault<'a> {
     Ended,
     /// The number of messages that were read and never acknowledged.
     Lost(u64),
-    /// Standard input, or waiting for it, failed.
+    /// Reading standard input, or waiting for it, failed.
     Read,
-    /// Standard output failed.
+    /// Writing to standard output failed.
     Write,
     /// An allocation failed, before anything was done.
     Memory,

@@ -1,4 +1,4 @@
-//! The line of a service: a socket or a device that is read and written without waiting.
+//! The line of a service: a socket or a device, read and written without blocking.
 ghost use Rattle.std.specs.Prelude.{◌≡◌, ◌≢◌, ℕ, IfErr, IfOk, MatchResult, Ok};
 ghost use Rattle.std.specs.IoError.{error_kind};
 ghost use Rattle.ddcmp_service.specs.Inside.Lines.{has_datagrams, moved_by_error};
@@ -14,24 +14,24 @@ use std::net::{self, Shutdown, SocketAddr};
 use std::os::fd::{AsRawFd, RawFd};
 use std::time::Duration;
 
-/// For how long a peer is read at most, once its line is closed here, in milliseconds.
+/// For how long at most a peer is still read after its line was closed here, in milliseconds.
 const CLOSING_MS: u64 = 500;
 
-/// How long such a peer may be silent, in milliseconds.
+/// How long such a peer may send nothing, in milliseconds.
 const SILENT_MS: u64 = 100;
 
-/// How often such a peer is read at most, so that a clock that has stopped ends it, too.
+/// How many times such a peer is read at most, in case the clock has stopped.
 const CLOSING_READS: u32 = 1 << 16;
 
-/// A line that is open.
+/// An open line.
 pub(crate) enum Line {
     Stream(TcpStream),
-    /// A socket of datagrams, and whom it speaks to.
+    /// A socket of datagrams, and its peer's address.
     Datagrams(UdpSocket, SocketAddr),
     Device(File),
 }
 
-// Manual, since a derived `Drop` is expanded wherever a line is dropped.
+// Manual, since a derived `Drop` would be expanded wherever a value is dropped.
 impl Drop for Line {
     fn drop(self) {
         match self {
@@ -42,7 +42,7 @@ impl Drop for Line {
     }
 }
 
-/// Returns what a call of the system returned.
+/// Converts the result of a system call.
 pub(crate) fn moved_by(answer: io::Result<usize>) -> Transfer
     ensures { MatchResult answer (λ n. result ≡ Transfer.Bytes n)
         (λ error. result ≡ moved_by_error (error_kind error)) }
@@ -57,7 +57,7 @@ pub(crate) fn moved_by(answer: io::Result<usize>) -> Transfer
     }
 }
 
-/// Returns what the receiving of a datagram returned. No error ends a line of datagrams.
+/// Converts the result of receiving a datagram. No error ends a line of datagrams.
 fn received_by(answer: io::Result<(usize, SocketAddr)>, remote: SocketAddr) -> Transfer
     ensures peer { (n : ℕ) → answer ≡ Ok (n, remote) → result ≡ Transfer.Bytes n }
     ensures stranger { IfOk answer (λ got. got.1 ≢ remote → result ≡ Transfer.Bytes 0) }
@@ -67,7 +67,7 @@ fn received_by(answer: io::Result<(usize, SocketAddr)>, remote: SocketAddr) -> T
     match answer {
         Ok((n, sender)) => Transfer::Bytes(if sender == remote { n } else { 0 }),
         Err(error) => match error.kind() {
-            // The peer isn't there yet, as an earlier datagram has found.
+            // The peer isn't there yet: the error of an earlier datagram.
             ErrorKind::ConnectionRefused => Transfer::Bytes(0),
             ErrorKind::Interrupted => Transfer::Interrupted,
             _ => Transfer::Nothing,
@@ -75,8 +75,7 @@ fn received_by(answer: io::Result<(usize, SocketAddr)>, remote: SocketAddr) -> T
     }
 }
 
-/// Returns what became of a datagram that was to be sent: what an error takes is lost, as on a
-/// line.
+/// Converts the result of sending a datagram. If it failed the datagram is lost, as on a line.
 fn sent_by(answer: io::Result<usize>, length: usize) -> Transfer
     ensures sent { IfOk answer (λ n. result ≡ Transfer.Bytes length) }
     ensures error { IfErr answer (λ error. result ≡ sent_by_error length (error_kind error)) }
@@ -92,7 +91,7 @@ fn sent_by(answer: io::Result<usize>, length: usize) -> Transfer
     }
 }
 
-/// Reads a stream, of which no bytes are the end.
+/// Converts the result of reading a stream, whose end is a read of no bytes.
 fn read_by(answer: io::Result<usize>) -> Transfer
     ensures end { answer ≡ Ok 0 → result ≡ Transfer.Ended Down.Closed }
     ensures bytes { IfOk answer (λ n. n ≢ 0 → result ≡ Transfer.Bytes n) }
@@ -104,14 +103,14 @@ fn read_by(answer: io::Result<usize>) -> Transfer
     }
 }
 
-/// Reads and drops what a peer still sends, until it closes the connection, too, falls silent, or
-/// its time is over.
+/// Reads and drops what a peer still sends, until it closes the connection too, sends nothing for a
+/// while, or its time is over.
 fn drain<C: Clock>(mut stream: net::TcpStream, clock: &mut C) {
     let ends_at = clock.now().saturating_add(CLOSING_MS);
     let mut space = [0; 16384];
     for _read in 0..CLOSING_READS {
         let left = Duration::from_millis(ends_at.saturating_sub(clock.now()).min(SILENT_MS));
-        // No time at all is refused.
+        // A timeout of zero would be refused.
         if stream.set_read_timeout(Some(left)).is_err() {
             return;
         }
@@ -123,7 +122,7 @@ fn drain<C: Clock>(mut stream: net::TcpStream, clock: &mut C) {
 }
 
 impl Line {
-    /// Ends what is written to the line: the peer learns of that at once. Returns whether it is a
+    /// Ends the writing to the line, of which the peer is notified. Returns whether it is a
     /// connection that was up.
     pub(crate) fn shut(&self) -> bool {
         match self {
@@ -132,8 +131,8 @@ impl Line {
         }
     }
 
-    /// Closes the line. A connection that is closed while bytes still come is reset, and what was
-    /// written last may be lost; so those are read first.
+    /// Closes the line. If a connection were closed with unread bytes it would be reset, and what
+    /// was written last might be lost; so those bytes are read first.
     pub(crate) fn close<C: Clock>(self, clock: &mut C) {
         let is_up = self.shut();
         match self {
@@ -148,7 +147,7 @@ impl Line {
         }
     }
 
-    /// Reads what has come.
+    /// Reads received bytes.
     pub(crate) fn read(&mut self, space: &mut [u8]) -> Transfer {
         match self {
             Line::Stream(stream) => read_by(stream.read(space)),
@@ -168,7 +167,7 @@ impl Line {
         }
     }
 
-    /// The descriptor that the system knows it by.
+    /// Returns the line's file descriptor.
     pub(crate) fn number(&self) -> RawFd {
         match self {
             Line::Stream(stream) => stream.as_raw_fd(),
@@ -177,7 +176,7 @@ impl Line {
         }
     }
 
-    /// Returns whether what is written at once arrives at once, or not at all.
+    /// Returns whether each write arrives as a whole, or not at all.
     pub(crate) fn has_datagrams(&self) -> bool
         ensures { result ≡ has_datagrams self.now }
     {

@@ -6,21 +6,21 @@ use crate::fault::{Attempt, NotOpened};
 use crate::opener::OpenRefusal;
 use ddcmp_session::LineKind;
 
-/// A line, as a word names it.
+/// The name of a line.
 #[derive(Clone, Copy)]
 pub enum LineName<'a> {
-    /// `connect:HOST:PORT`: one TCP connection to there.
+    /// `connect:HOST:PORT`: one TCP connection to this address.
     Connect(&'a str),
-    /// `listen:HOST:PORT`: one TCP connection, from who calls there and starts.
+    /// `listen:HOST:PORT`: one TCP connection, from a caller to this address.
     Listen(&'a str),
-    /// `udp:LOCAL,REMOTE`: each frame is a datagram from the one address to the other.
+    /// `udp:LOCAL,REMOTE`: each frame is a datagram from the local address to the remote one.
     Udp { local: &'a str, remote: &'a str },
-    /// `device:PATH`: a serial device that is set up already, as by stty.
+    /// `device:PATH`: a serial device that is configured already, for instance by stty.
     Device(&'a str),
 }
 
 impl<'a> LineName<'a> {
-    /// The line that a word names; none if it names no line.
+    /// Returns the line that a text names, if it names one.
     pub fn read(word: &'a str) -> Option<LineName<'a>>
         ensures names { MatchOption result ((name : LineName) → word_of name ≢ word.now)
             (λ name. (word_of name ≡ word.now) × IsPlain name) }
@@ -38,7 +38,7 @@ impl<'a> LineName<'a> {
         }
     }
 
-    /// Returns what kind of line it names.
+    /// Returns the kind of the line.
     pub(crate) fn kind(self) -> LineKind
         ensures { result ≡ line_kind self.entry }
     {
@@ -50,8 +50,8 @@ impl<'a> LineName<'a> {
         }
     }
 
-    /// Returns what is reported of a line that couldn't be opened. Of the two addresses of a line
-    /// of datagrams it names the one that is to blame.
+    /// Returns what is reported if the line couldn't be opened. Of the two addresses of a line of
+    /// datagrams it has the one that failed.
     pub(crate) fn not_opened(self, refused: OpenRefusal) -> NotOpened<'a>
         ensures { result ≡ not_opened_of self.entry refused }
     {

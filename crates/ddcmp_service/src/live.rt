@@ -1,4 +1,4 @@
-//! The devices of a link: what the system gives a session.
+//! The devices of a link, on the system.
 ghost use Rattle.std.specs.Prelude.{◌≡◌, ◌≤◌, ◌↔◌, length};
 ghost use Rattle.ddcmp_service.specs.Events.{Reports};
 ghost use Rattle.ddcmp_service.specs.Inside.Outlets.{at_once};
@@ -32,11 +32,11 @@ pub(crate) struct Live<'a, S, C, R, W> {
     writer: &'a mut W,
     output: Outlet,
     errors: Outlet,
-    /// Finds where the last whole frame of a datagram ends, if the line is of these.
+    /// Finds the end of the last whole frame in a datagram, if the line is one of datagrams.
     framing: Option<Framing>,
 }
 
-// Manual, since a derived `Drop` is expanded wherever they are dropped.
+// Manual, since a derived `Drop` would be expanded wherever a value is dropped.
 impl<S, C: Drop, R, W> Drop for Live<'_, S, C, R, W> {
     fn drop(self) {
         let Live {
@@ -55,7 +55,7 @@ impl<S, C: Drop, R, W> Drop for Live<'_, S, C, R, W> {
     }
 }
 
-/// How a session's devices are made.
+/// The parts that a session's devices are made of.
 pub(crate) struct Parts<'a, S, C, R, W> {
     pub(crate) system: &'a S,
     pub(crate) poller: Poller,
@@ -66,8 +66,8 @@ pub(crate) struct Parts<'a, S, C, R, W> {
 }
 
 impl<'a, S: System, C: Clock + Drop, R: Source, W: Sink> Live<'a, S, C, R, W> {
-    /// Has no line yet. It takes all the memory that it will need; lines of datagrams, if they are
-    /// that, have messages of at most this many bytes.
+    /// Makes the devices, without a line. It allocates all memory that it will need. If the line is
+    /// one of datagrams, `datagrams` is the maximum length of a message.
     pub(crate) fn new(
         parts: Parts<'a, S, C, R, W>,
         alloc: Global,
@@ -100,7 +100,7 @@ impl<'a, S: System, C: Clock + Drop, R: Source, W: Sink> Live<'a, S, C, R, W> {
         })
     }
 
-    /// Has the owner of standard output write some of what waits.
+    /// Has the owner of standard output write some of the pending bytes.
     fn write_by_owner(&mut self, bytes: &[u8]) -> Transfer
         ensures { count_moved result ≤ length (at_once self.old.output bytes.now) }
     {
@@ -117,7 +117,7 @@ impl<'a, S: System, C: Clock + Drop, R: Source, W: Sink> Live<'a, S, C, R, W> {
         }
     }
 
-    /// Prints some of what waits: whatever becomes of that, it was taken.
+    /// Prints some of the pending bytes. They count as written even if that fails.
     fn print_some(&mut self, bytes: &[u8]) -> Transfer
         ensures { result ≡ Transfer.Bytes (length (at_once self.old.errors bytes.now)) }
     {
@@ -132,7 +132,7 @@ impl<'a, S: System, C: Clock + Drop, R: Source, W: Sink> Live<'a, S, C, R, W> {
 /// A write by the owner of an output failed.
 const FAILED: Transfer = Transfer::Ended(Down::Failed(ErrorKind::Other));
 
-/// Reads an input, if it has something. One that has failed stays so.
+/// Reads an input, if it is ready. An input that has failed stays failed.
 fn read_ready<R: Source>(reader: &mut R, there: &mut Descriptor, space: &mut [u8]) -> Got
     ensures failed { (result ≡ Got.Failed) ↔ (R.state reader.new ≡ Worst.Failed) }
     ensures fits { count_read result ≤ length space.new }
@@ -147,8 +147,8 @@ fn read_ready<R: Source>(reader: &mut R, there: &mut Descriptor, space: &mut [u8
     reader.read(space)
 }
 
-/// Writes to an outlet that was opened again; none if its owner is to write, who learns of a
-/// failure.
+/// Writes to an outlet that was opened again; returns none if its owner is to write, who then gets
+/// the error.
 fn written(outlet: &mut Outlet, there: &mut Descriptor, bytes: &[u8]) -> Option<Transfer> {
     let moved = outlet.write(bytes);
     match moved {
@@ -239,7 +239,7 @@ impl<S: System, C: Clock + Drop, R: Source, W: Sink> Devices for Live<'_, S, C, 
         let got = line.read(space);
         self.poller.line_was_read(got == Transfer::Nothing);
         match (got, &mut self.framing) {
-            // No frame goes on in the next datagram, so an unfinished one is dropped.
+            // No frame continues in the next datagram, so an incomplete one is dropped.
             (Transfer::Bytes(n), Some(framing)) => {
                 let n = n.min(space.len());
                 let unfinished = framing.unfinished(&space[..n]);

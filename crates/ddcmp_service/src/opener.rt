@@ -1,4 +1,4 @@
-//! Opens the line that a name names.
+//! Opens a line by its name.
 ghost use Rattle.std.specs.Prelude.{◌≡◌, ◌+◌, ◌-◌, ◌^◌, IfErr, IfOk, None, Some, false, min};
 ghost use Rattle.ddcmp_service.specs.LineNames.{line_kind, not_opened_of};
 ghost use Rattle.ddcmp_service.specs.Inside.Opening.{Begins, SameIfNotYet, Opens, event_of};
@@ -18,20 +18,20 @@ use std::net::{self, Net, OpenListener, SocketAddr, ToSocketAddrs};
 use std::os::fd::AsRawFd;
 use std::os::unix::fs::FileTypeExt;
 
-/// Opens a line, once or again and again.
+/// Opens a line, once or repeatedly.
 pub(crate) struct Opener<'a> {
     name: LineName<'a>,
-    /// Who comes is taken here, once it listens.
+    /// The listener, once it listens.
     listener: Option<TcpListener>,
-    /// A connection that isn't there yet.
+    /// A connection that isn't made yet.
     connecting: Option<TcpStream>,
-    /// Which of the addresses of its name it is to.
+    /// The index of its address among those of the name.
     which: usize,
-    /// Why that before it failed.
+    /// Why the connection before it failed.
     failed: Option<ErrorKind>,
 }
 
-// Manual, since a derived `Drop` is expanded wherever it is dropped.
+// Manual, since a derived `Drop` would be expanded wherever a value is dropped.
 impl Drop for Opener<'_> {
     fn drop(self) {
         let Opener {
@@ -44,22 +44,22 @@ impl Drop for Opener<'_> {
     }
 }
 
-/// A line, or whom to wait for.
+/// A line, or the state of its opening.
 #[derive(Drop)]
 pub(crate) enum Opened {
     Line(Line),
-    /// A connection, and to whom.
+    /// A connection, and its peer.
     Connected(Line, SocketAddr),
-    /// A connection to there has been begun.
+    /// A connection to this address was begun.
     Connecting(SocketAddr),
-    /// Callers are waited for at this address.
+    /// It listens for callers at this address.
     Listening(SocketAddr),
-    /// Nobody has connected yet, the connection isn't made yet, or nothing is listened for.
+    /// Nobody has connected yet, the connection isn't made yet, or the line isn't one that listens.
     NotYet,
 }
 
 impl Opened {
-    /// Returns what is reported of it, if anything is.
+    /// Returns the event to be reported, if there is one.
     pub(crate) fn event(&self) -> Option<Event<'static>>
         ensures { result ≡ event_of self.now }
     {
@@ -82,14 +82,14 @@ impl Opened {
     }
 }
 
-/// Why a line can't be opened, and whether that is the remote one of two addresses.
+/// Why a line can't be opened, and whether the remote one of its two addresses is the cause.
 #[derive(Clone, Copy)]
 pub(crate) struct OpenRefusal {
     pub(crate) cause: Cause,
     pub(crate) is_remote: bool,
 }
 
-/// The system refused it.
+/// Returns the refusal for an error of the system.
 fn refused_by(error: &io::Error) -> OpenRefusal {
     refused(Cause::System(error.kind()))
 }
@@ -121,7 +121,7 @@ impl<'a> Opener<'a> {
         self.name.not_opened(refused)
     }
 
-    /// Listens if the line is one of whoever comes; else returns `NotYet`.
+    /// Listens if the line is one for callers; else returns `NotYet`.
     pub(crate) fn listen<N: Net<Stream = net::TcpStream, Listener = net::TcpListener>>(
         &mut self,
         net: &N,
@@ -141,8 +141,8 @@ impl<'a> Opener<'a> {
         }
     }
 
-    /// Opens the line, takes who has come, or sees whether a connection is there; listens first, if
-    /// the line is one of whoever comes and that hasn't been done.
+    /// Opens the line, accepts a caller, or checks whether a connection is made. Listens first, if
+    /// the line is one for callers and doesn't listen yet.
     pub(crate) fn open<S>(&mut self, system: &S, poller: &mut Poller) -> Result<Opened, OpenRefusal>
     where
         S: Net<Stream = net::TcpStream, Listener = net::TcpListener> + Files<File = File>,
@@ -164,7 +164,7 @@ impl<'a> Opener<'a> {
         }
     }
 
-    /// Connects to the addresses of a name, one after the other, without waiting for a result.
+    /// Connects to the addresses of a name, one after the other, without blocking.
     fn connect<N: Net>(
         &mut self,
         net: &N,
@@ -210,7 +210,7 @@ impl<'a> Opener<'a> {
         Err(refused(Cause::System(kind)))
     }
 
-    /// An address failed so: the next one is tried.
+    /// Records that an address failed, so that the next one is tried.
     fn fails(&mut self, kind: ErrorKind)
         ensures { self.new ≡ record self.old {
           failed = Some kind;
@@ -221,7 +221,7 @@ impl<'a> Opener<'a> {
         self.which = self.which.saturating_add(1);
     }
 
-    /// The next connection is to the first address of its name.
+    /// Has the next connection begin with the first address of its name.
     fn restart(&mut self)
         ensures { self.new ≡ record self.old { failed = None; which = 0 } }
     {
@@ -230,7 +230,7 @@ impl<'a> Opener<'a> {
     }
 }
 
-/// Returns to whom a connection is, once it is there, or why it failed.
+/// Returns the peer of a connection, once it is made, or why it failed.
 fn peer_of(stream: &TcpStream) -> Result<Option<SocketAddr>, ErrorKind> {
     match stream.take_error() {
         Ok(Some(error)) | Err(error) => return Err(error.kind()),
@@ -257,7 +257,7 @@ fn begin_connecting<N: Net>(
     Ok(stream)
 }
 
-/// A listener at the first address of a name that can be listened at, and which address it has.
+/// Returns a listener at the first address of a name that can be listened at, and that address.
 fn listening<N: Net<Stream = net::TcpStream, Listener = net::TcpListener>>(
     net: &N,
     poller: &mut Poller,
@@ -289,7 +289,7 @@ fn listening_at<N: Net<Stream = net::TcpStream, Listener = net::TcpListener>>(
     Ok((listener, addr))
 }
 
-/// Takes who has come first and hasn't gone since.
+/// Accepts the first caller who hasn't disconnected since.
 fn accepted(listener: &TcpListener, poller: &mut Poller) -> io::Result<Opened>
     ensures { IfOk result (Opens kind.Listen) }
 {
@@ -301,7 +301,7 @@ fn accepted(listener: &TcpListener, poller: &mut Poller) -> io::Result<Opened>
                 return Ok(Opened::Connected(Line::Stream(stream), peer));
             }
             Err(error) => match error.kind() {
-                // Others may wait after it, and the next wait doesn't report them again.
+                // More callers may be pending, and the next wait wouldn't report them again.
                 ErrorKind::Interrupted | ErrorKind::ConnectionAborted => {}
                 ErrorKind::WouldBlock => return Ok(Opened::NotYet),
                 _ => return Err(error),
@@ -311,7 +311,7 @@ fn accepted(listener: &TcpListener, poller: &mut Poller) -> io::Result<Opened>
     Ok(Opened::NotYet)
 }
 
-/// The address of this index among those that a text names.
+/// Returns the address of this index among those of a name.
 fn address<N: Net>(net: &N, name: &str, index: usize) -> Result<Option<SocketAddr>, Cause> {
     match name.to_socket_addrs(net) {
         Ok(mut found) => Ok(found.nth(index)),
@@ -322,7 +322,8 @@ fn address<N: Net>(net: &N, name: &str, index: usize) -> Result<Option<SocketAdd
     }
 }
 
-/// The address of this index of one end of a line of datagrams; its name has a first one.
+/// Returns the address of this index of one end of a line of datagrams; an error if there is none
+/// at all.
 fn address_of_end<N: Net>(
     net: &N,
     name: &str,
@@ -346,7 +347,7 @@ fn address_of_end<N: Net>(
     }
 }
 
-/// The first address of the remote end that is of the family of a local one.
+/// Returns the first address of the remote end that has the family of a local one.
 fn address_like<N: Net>(
     net: &N,
     remote: &str,
@@ -361,7 +362,8 @@ fn address_like<N: Net>(
     Ok(None)
 }
 
-/// The first address of the local end of whose family the remote end has one, and that.
+/// Returns the first address of the local end whose family the remote end has too, and that of the
+/// remote end.
 fn addresses<N: Net>(
     net: &N,
     local: &str,
@@ -403,8 +405,8 @@ fn bind<N: Net>(net: &N, poller: &mut Poller, local: SocketAddr) -> io::Result<U
     Ok(socket)
 }
 
-/// Opens a character device, whose reads and writes don't wait, and locks it; nothing else is
-/// opened for writing.
+/// Opens a character device for nonblocking reads and writes, and locks it; nothing else is opened
+/// for writing.
 fn device<S: Files<File = File>>(
     files: &S,
     poller: &mut Poller,

@@ -1,4 +1,4 @@
-//! Standard output and standard error, written without waiting.
+//! Standard output and standard error, written without blocking.
 ghost use Rattle.std.specs.Prelude.{◌≡◌, take};
 ghost use Rattle.ddcmp_service.specs.Inside.Outlets.{at_once};
 
@@ -9,24 +9,24 @@ use std::io::{IsTerminal, Write};
 use std::os::fd::AsRawFd;
 use std::os::unix::fs::FileTypeExt;
 
-/// The most bytes of a write that might wait for room for more: a pipe or a socket that is ready
-/// has room for them.
+/// The maximum size of a write that might block for lack of room: a pipe or a socket that is ready
+/// has room for it.
 const SMALL: usize = 4096;
 
-/// Where a text goes.
+/// Where an output goes.
 #[derive(Drop)]
 pub(crate) enum Outlet {
-    /// A pipe or a terminal, opened again so that no write to it waits. Who shares the old one sees
-    /// no change.
+    /// A pipe or a terminal, opened again so that writes to it don't block. Processes that share
+    /// the old descriptor see no change.
     Again(File),
     /// A file, which is always ready.
     File,
-    /// A socket or what can't be opened again.
+    /// A socket, or something that can't be opened again.
     Other,
 }
 
 impl Outlet {
-    /// The outlet of this name, as /dev/stdout.
+    /// Returns the outlet of this name, such as /dev/stdout.
     pub(crate) fn new<F: Files<File = File>>(files: &F, name: &str) -> Outlet {
         let Ok(metadata) = fs::metadata(files, name) else {
             return Outlet::Other;
@@ -44,7 +44,7 @@ impl Outlet {
         Outlet::Other
     }
 
-    /// Writes bytes if the outlet was opened again; else none, and whoever owns it writes.
+    /// Writes bytes if the outlet was opened again; else returns none, and its owner writes.
     pub(crate) fn write(&mut self, bytes: &[u8]) -> Option<Transfer> {
         match self {
             Outlet::Again(file) => Some(moved_by(file.write(bytes))),
@@ -52,7 +52,7 @@ impl Outlet {
         }
     }
 
-    /// Returns those of these bytes that its owner writes at once.
+    /// Returns those of these bytes that its owner writes in one call.
     pub(crate) fn piece<'b>(&self, bytes: &'b [u8]) -> &'b [u8]
         ensures { result.now ≡ at_once self.now bytes.now }
     {
@@ -63,15 +63,15 @@ impl Outlet {
     }
 }
 
-/// The front of some bytes, so small that a write of it doesn't wait.
+/// Returns a prefix of some bytes, so short that writing it doesn't block.
 fn front(bytes: &[u8]) -> &[u8]
     ensures { result.now ≡ take 4096 bytes.now }
 {
     &bytes[..SMALL.min(bytes.len())]
 }
 
-/// Opens a pipe or a terminal for writing, as one whose writes don't wait. The opening of a pipe
-/// would wait if nobody reads any more, but for a reader of our own, which is closed then.
+/// Opens a pipe or a terminal for nonblocking writes. Opening a pipe would block if it had no
+/// reader any more; so it is first opened for reading too, which is closed then.
 fn open_again<F: Files<File = File>>(files: &F, name: &str) -> Option<File> {
     let mut opening = OpenOptions::new();
     let _reader = opening.read(true).write(true).open(files, name).ok()?;

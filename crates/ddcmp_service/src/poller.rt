@@ -1,4 +1,4 @@
-//! Waits for whichever comes first: standard input, standard output, the line, or a moment.
+//! Waits for standard input, standard output, standard error, the line, or a moment.
 ghost use Rattle.std.specs.Prelude.{◌≡◌, ◌||◌, MatchOption, false, not};
 ghost use Rattle.mio.specs.Interest.{is_readable, is_writable};
 ghost use Rattle.ddcmp_service.specs.Inside.Readiness.{is_any_ready, line_ready};
@@ -13,7 +13,7 @@ use std::net::Net;
 use std::os::fd::RawFd;
 use std::time::Duration;
 
-/// The longest wait at once, in milliseconds.
+/// The longest single wait, in milliseconds.
 const HOUR_MS: u64 = 3_600_000;
 
 const INPUT: Token = Token(0);
@@ -26,7 +26,7 @@ const LINE: Token = Token(3);
 
 const CALLERS: Token = Token(4);
 
-/// What is known of a device: whether a read gives something now, and a write takes something.
+/// Whether a device is known to be readable, and writable.
 #[derive(Clone, Copy)]
 pub(crate) struct Ready {
     pub(crate) to_read: bool,
@@ -44,7 +44,7 @@ impl Ready {
         to_write: true,
     };
 
-    /// It is ready for this, too.
+    /// Adds what was reported.
     pub(crate) fn add(&mut self, reported: Ready)
         ensures reads { self.new.to_read ≡ (self.old.to_read || reported.to_read) }
         ensures writes { self.new.to_write ≡ (self.old.to_write || reported.to_write) }
@@ -54,18 +54,18 @@ impl Ready {
     }
 }
 
-/// A descriptor that waits if it isn't ready, and so is asked for again before each wait.
+/// A descriptor that is armed again before each wait, if it isn't ready.
 #[derive(Clone, Copy)]
 pub(crate) struct Descriptor {
     number: RawFd,
     token: Token,
-    /// Whether the system reports it; not of a file, which is always ready.
+    /// Whether the system reports its readiness; it doesn't for a file, which is always ready.
     is_reported: bool,
     pub(crate) ready: Ready,
 }
 
 impl Descriptor {
-    /// Has it reported from now on, if the system reports such a descriptor.
+    /// Registers a descriptor, if the system reports the readiness of such a one.
     pub(crate) fn new(poll: &Poll, number: RawFd, token: Token, interest: Interest) -> Descriptor {
         let is_reported = poll
             .registry()
@@ -79,7 +79,7 @@ impl Descriptor {
         }
     }
 
-    /// A read returned what there was.
+    /// Notes that a read returned all that there was.
     pub(crate) fn has_read(&mut self)
         ensures { self.new ≡ record self.old {
           ready = record self.old.ready { to_read = not self.old.is_reported };
@@ -88,7 +88,7 @@ impl Descriptor {
         self.ready.to_read = !self.is_reported;
     }
 
-    /// A write took what there was room for.
+    /// Notes that a write filled the room that there was.
     pub(crate) fn has_written(&mut self)
         ensures { self.new ≡ record self.old {
           ready = record self.old.ready { to_write = not self.old.is_reported };
@@ -116,7 +116,7 @@ impl Descriptor {
     }
 }
 
-/// Returns what to wait for at a device; none if nothing is needed of it.
+/// Returns what to wait for on a device; none if nothing is needed of it.
 fn interest_in(to_read: bool, to_write: bool) -> Option<Interest>
     ensures { MatchOption result ((to_read ≡ false) × (to_write ≡ false))
         (λ interest. (is_readable interest ≡ to_read) × (is_writable interest ≡ to_write)) }
@@ -142,7 +142,7 @@ pub(crate) struct Poller {
     pub(crate) socket: Ready,
 }
 
-// Manual, since a derived `Drop` is expanded wherever it is dropped.
+// Manual, since a derived `Drop` would be expanded wherever a value is dropped.
 impl Drop for Poller {
     fn drop(self) {
         let Poller {
@@ -158,7 +158,7 @@ impl Drop for Poller {
 }
 
 impl Poller {
-    /// Waits for standard input, output and error from now on.
+    /// Makes a poller for standard input, output and error.
     pub(crate) fn new<N: Net>(net: &N, alloc: Global) -> io::Result<Poller> {
         let poll = Poll::new(net)?;
         let events = Events::with_capacity(alloc, 5)?;
@@ -176,32 +176,32 @@ impl Poller {
         })
     }
 
-    /// Waits for a socket as the line, too.
+    /// Adds a socket, which is the line.
     pub(crate) fn add_socket<S: Source>(&mut self, socket: &mut S) -> io::Result<()> {
         self.socket = Ready::BOTH;
         let both = Interest::READABLE | Interest::WRITABLE;
         self.poll.registry().register(socket, LINE, both)
     }
 
-    /// Waits for a serial device as the line, too.
+    /// Adds a serial device, which is the line.
     pub(crate) fn add_device(&mut self, number: RawFd) {
         let both = Interest::READABLE | Interest::WRITABLE;
         self.device = Some(Descriptor::new(&self.poll, number, LINE, both));
     }
 
-    /// Waits for callers of a listener, too.
+    /// Adds a listener, to wait for callers.
     pub(crate) fn add_listener<S: Source>(&mut self, listener: &mut S) -> io::Result<()> {
         let registry = self.poll.registry();
         registry.register(listener, CALLERS, Interest::READABLE)
     }
 
-    /// The line is no more.
+    /// Forgets the line, which was closed.
     pub(crate) fn forget_line(&mut self) {
         self.socket = Ready::NOT;
         self.device = None;
     }
 
-    /// Returns whether a read from the line may give something.
+    /// Returns whether a read from the line may return something.
     pub(crate) fn may_read_line(&self) -> bool
         ensures { result ≡ (line_ready self.now).to_read }
     {
@@ -211,7 +211,7 @@ impl Poller {
         }
     }
 
-    /// Returns whether a write to the line may take something.
+    /// Returns whether a write to the line may succeed.
     pub(crate) fn may_write_line(&self) -> bool
         ensures { result ≡ (line_ready self.now).to_write }
     {
@@ -221,7 +221,7 @@ impl Poller {
         }
     }
 
-    /// A read from the line returned something, or nothing, and then `is_dry`.
+    /// Notes a read from the line; `is_dry` if it returned nothing.
     pub(crate) fn line_was_read(&mut self, is_dry: bool) {
         match &mut self.device {
             Some(device) => device.has_read(),
@@ -229,7 +229,7 @@ impl Poller {
         }
     }
 
-    /// A write to the line took something, or nothing, and then `is_full`.
+    /// Notes a write to the line; `is_full` if it took nothing.
     pub(crate) fn line_was_written(&mut self, is_full: bool) {
         match &mut self.device {
             Some(device) => device.has_written(),
@@ -237,8 +237,8 @@ impl Poller {
         }
     }
 
-    /// Waits until something that is needed is ready, or `most_ms` milliseconds have passed, or an
-    /// hour: whether it could wait.
+    /// Waits until something that is needed is ready, or `most_ms` milliseconds or an hour have
+    /// passed; returns whether it could wait.
     pub(crate) fn wait(&mut self, wanted: Wanted, most_ms: u64) -> bool {
         self.input.ask(&self.poll, wanted.input, false);
         self.output.ask(&self.poll, false, wanted.output);
@@ -259,8 +259,7 @@ impl Poller {
         true
     }
 
-    /// Returns whether something that is wanted is known to be ready, so that nothing is to be
-    /// waited for.
+    /// Returns whether something requested is known to be ready, so that there is no need to wait.
     fn is_any_ready(&self, wanted: Wanted) -> bool
         ensures { result ≡ is_any_ready wanted self.now }
     {
@@ -271,7 +270,7 @@ impl Poller {
             || wanted.to_line && self.may_write_line()
     }
 
-    /// Takes over what the wait reported.
+    /// Notes what the wait reported.
     fn note(&mut self) {
         for event in self.events.iter() {
             let reported = Ready {
@@ -289,12 +288,12 @@ impl Poller {
     }
 }
 
-/// Returns whether standard error takes something, now or within a second.
+/// Returns whether standard error can be written, now or within a second.
 pub fn errors_take<N: Net>(net: &N, alloc: Global) -> bool {
     let Ok(mut poller) = Poller::new(net, alloc) else {
         return true;
     };
-    // What comes of standard input may end a wait.
+    // Readiness of standard input may end a wait.
     for _try in 0..4u8 {
         if poller.errors.ready.to_write || !poller.wait(Wanted::ERRORS, 250) {
             return true;
@@ -303,7 +302,7 @@ pub fn errors_take<N: Net>(net: &N, alloc: Global) -> bool {
     poller.errors.ready.to_write
 }
 
-/// Takes over what the wait reported of the line.
+/// Notes what the wait reported about the line.
 fn add_to_line(device: &mut Option<Descriptor>, socket: &mut Ready, reported: Ready) {
     match device {
         Some(device) => device.ready.add(reported),

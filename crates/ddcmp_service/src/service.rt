@@ -39,8 +39,8 @@ where
     ending_of(ended, line, reader, writer)
 }
 
-/// Returns how a service ends over a line of this name: by a fault of the output first, then of the
-/// input.
+/// Returns how a service over a line of this name ends: with a fault of the output if there is one,
+/// or else of the input.
 fn ending_of<'a, R: Source, W: Sink>(
     ended: Result<LinkOutcome, Ended>,
     line: LineName<'a>,
@@ -63,7 +63,7 @@ fn ending_of<'a, R: Source, W: Sink>(
     }
 }
 
-/// Takes the devices of a link, and runs it over them.
+/// Makes the devices of a link, and runs it over them.
 fn serve<S: System, R: Source, W: Sink>(
     system: &S,
     alloc: Global,
@@ -102,7 +102,7 @@ fn serve<S: System, R: Source, W: Sink>(
     }
 }
 
-/// Returns why it can't wait for several devices.
+/// Returns the fault if it can't wait for several devices.
 fn no_poller(kind: ErrorKind) -> Ended
     ensures memory { kind ≡ ErrorKind.OutOfMemory → result ≡ Ended.Memory }
     ensures other { kind ≢ ErrorKind.OutOfMemory → result ≡ Ended.CannotWait kind }

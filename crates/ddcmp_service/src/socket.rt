@@ -1,20 +1,21 @@
-//! Options of the sockets of links and bridges.
+//! Socket options of links and bridges.
 use ddcmp_tap::{keep_alive, set_option};
 use libc::net as c;
 use mio::net::{TcpStream, UdpSocket};
 use std::os::fd::AsRawFd;
 
-/// The room for what a peer sends before it waits for an acknowledgement, in bytes: 255 of the
-/// longest frames, and what the system needs for each.
+/// The receive buffer for what a peer sends before it waits for an acknowledgement, in bytes: 255
+/// of the longest frames, and the system's overhead for each.
 const RECEIVE_ROOM: i32 = 255 * (16384 + 1024);
 
-/// Has a connection send each frame at once, and end if its peer has gone without a word.
+/// Turns on TCP_NODELAY and keepalive: each frame is sent at once, and a connection ends if its
+/// peer is gone.
 pub(crate) fn prepare_stream(stream: &TcpStream) {
     let _is_set = stream.set_nodelay(true);
     keep_alive(stream.as_raw_fd());
 }
 
-/// Has a socket keep all datagrams that a peer sends at once, as far as the system lets it.
+/// Has a socket buffer all datagrams that a peer sends at once, as far as the system allows.
 pub(crate) fn prepare_datagrams(socket: &UdpSocket) {
     set_option(
         socket.as_raw_fd(),

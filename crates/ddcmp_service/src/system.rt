@@ -1,11 +1,10 @@
-//! What a link asks of the system.
+//! What a link needs of the system.
 use std::fs::{File, Files};
 use std::io::Eprint;
 use std::net::{Net, TcpListener, TcpStream};
 use std::time::Clock;
 
-/// All that a link asks of the system: connections, devices, a place for what it reports, and the
-/// time.
+/// All that a link needs of the system: connections, devices, standard error and the time.
 pub(crate) trait System: Net<Stream = TcpStream, Listener = TcpListener>
     + Files<File = File>
     + Eprint

@@ -1,4 +1,4 @@
--- What a tap writes that carries one caller after another.
+-- What a tap writes that serves one caller after another.
 use Rattle.std.specs.Prelude.{◌≡◌, ◌≢◌, ⊤, ℕ, Bool, List, [], ◌∷◌, ◌++◌, All, is_some, Option}
 use Rattle.std.specs.Prelude.{Result, Ok, Err}
 use Rattle.std.specs.Io.KnownBytes.{Appends}
@@ -10,20 +10,20 @@ use Rattle.ddcmp_tap.specs.declared.tap_fault.TapFault.TheVariants.{Carrier, Rea
 use Rattle.ddcmp_tap.specs.declared.tap_fault.TapFault.TheVariants.{Memory}
 use Rattle.ddcmp_tap.specs.Pumping.{AreStamped, Piece, Says, head_of, tap_text}
 
--- what both sides said over one connection, and the moment of its end, if it is logged
+-- what both sides sent over one connection, and the time stamp of its end, if there is one
 pub record Carried : Type 0 where
   pub pieces : List Piece
   pub stamp : Option ℕ
 
--- the logs of connections, each with its head and its last lines; of these the last comes first
+-- the logs of connections, each with its head and its last lines; the last connection is first
 unfoldable pub carried_text : Notation → ℕ → List Carried → List ℕ
 carried_text notation max [] = []
 carried_text notation max (c ∷ before) =
     carried_text notation max before
     ++ (head_of notation ++ tap_text notation max c.stamp c.pieces)
 
--- What a tap wrote of callers in turn until a fault: the whole log of each, and then what it wrote
--- of the last.
+-- What a tap wrote for several callers in turn, until a fault: the whole log of each connection,
+-- and then what it wrote for the last one.
 pub record SaysInTurn (notation : Notation) (timed : Bool) (max : ℕ) (old new : Known)
     (fault : TapFault) : Type 0 where
   pub carried : List Carried
@@ -32,7 +32,7 @@ pub record SaysInTurn (notation : Notation) (timed : Bool) (max : ℕ) (old new 
   pub wrote : Appends old middle (carried_text notation max carried)
   pub last : Says (head_of notation) notation timed max middle new (Err fault)
 
--- a fault that isn't of one side: the output or an allocation failed, or listening or waiting
+-- a fault that ends the tap: the log, an allocation, listening or waiting failed
 abbrev pub Lasts : TapFault → Type 0
 Lasts (Carrier why) = why.stage ≢ Connect
 Lasts Read = ⊥
@@ -40,7 +40,7 @@ Lasts Write = ⊥
 Lasts Report = ⊤
 Lasts Memory = ⊤
 
--- a connection after which the next caller is carried
+-- a result after which the next caller is served
 abbrev pub PassesOver : Result (Unit {0}) TapFault → Type 0
 PassesOver (Ok u) = ⊤
 PassesOver (Err (Carrier why)) = why.stage ≡ Connect

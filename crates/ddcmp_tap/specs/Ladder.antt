@@ -1,5 +1,5 @@
--- The ladder of a tap: a line for each item, an arrow from the side that it comes from to the
--- other. The caller stands on the left.
+-- The ladder of a tap: a line for each item, with an arrow from the side that it comes from to the
+-- other. The caller is on the left.
 use Rattle.std.specs.Prelude.{[], ℕ, ◌-◌, List, ◌++◌, codes, decimal, length, replicate, Option}
 use Rattle.std.specs.Prelude.{Some, None}
 use Rattle.ddcmp_frame.specs.declared.item.Item.{Item}
@@ -9,12 +9,12 @@ use Rattle.ddcmp_explain.specs.Label.{item_label}
 use Rattle.ddcmp_tap.specs.declared.side.Side.{Side}
 use Rattle.ddcmp_tap.specs.declared.side.Side.TheVariants.{Caller, Called}
 
--- the milliseconds, if they are asked for
+-- the milliseconds, if requested
 abbrev pub ladder_front : Option ℕ → List ℕ
 ladder_front None = []
 ladder_front (Some ms) = decimal ms ++ codes " "
 
--- strokes for a frame that is good, and waves for all else
+-- hyphens for a good frame, tildes for anything else
 abbrev pub stroke_of : Item → ℕ
 stroke_of (Good offset h) = 45
 stroke_of (HeaderCheck offset) = 126

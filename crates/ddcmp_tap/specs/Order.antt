@@ -1,5 +1,5 @@
--- In which order the items of two captured directions are drawn, which have no time stamps: in
--- turn, but an item that answers one of the other side waits until that is drawn.
+-- The order in which the items of two captured directions are drawn, which have no time stamps: in
+-- turn, but an item that replies to one of the other side waits until that is drawn.
 use Rattle.std.specs.Prelude.{ℕ, ◌+◌, ◌%◌, ◌==◌, ◌&&◌, ◌||◌, not, nat_lt, Bool, true, false}
 use Rattle.std.specs.Prelude.{if◌then◌else◌, Option, Some, None}
 use Rattle.ddcmp_num.specs.Sequence.{distance}
@@ -18,7 +18,7 @@ use Rattle.ddcmp_tap.specs.declared.order.Word.TheVariants.{Stack}
 use Rattle.ddcmp_tap.specs.declared.side.Side.{Side}
 use Rattle.ddcmp_tap.specs.declared.side.Side.TheVariants.{Caller, Called}
 
--- ---- what the order needs of an item
+-- ---- what the order needs to know about an item
 
 -- a NAK of reason 3 is the reply to a REP
 abbrev pub control_word : ControlType → ShortFields → Word
@@ -42,11 +42,11 @@ word_of (item.Format offset fault) = Bad
 
 -- ---- what an item waits for
 
--- the other side's data of this number aren't drawn at all
+-- whether the other side's data of this number weren't drawn at all
 abbrev pub is_undrawn : SideSummary → SideSummary → ℕ → Bool
 is_undrawn own other resp = nat_lt (distance own.resp other.top) (distance own.resp resp)
 
--- An acknowledgement waits until its data were drawn once.
+-- An acknowledgement must wait until its data were drawn once.
 unfoldable pub must_wait : SideSummary → SideSummary → Word → Bool
 must_wait own other Bad = false
 must_wait own other Maint = false
@@ -57,21 +57,21 @@ must_wait own other Rep = false
 must_wait own other Strt = false
 must_wait own other Stack = false
 
--- a number beyond the data that the other side has in sequence, after a NAK again
+-- whether `resp` is beyond the other side's last data in sequence, which a NAK sets back
 abbrev pub is_ahead : SideSummary → SideSummary → ℕ → Bool
 is_ahead own other resp = nat_lt (distance own.resp other.num) (distance own.resp resp)
 
--- an ACK of no new number is for something that was repeated, or is no data
+-- whether an ACK acknowledges nothing new, and nothing was drawn that may get such an ACK
 abbrev pub is_unasked : SideSummary → SideSummary → ℕ → Bool
 is_unasked own other resp = (resp == own.resp) && not other.repeats
 
--- a NAK is for a REP, or for something after the number that it acknowledges
+-- whether a NAK is before the REP that it replies to, or before anything that it may refuse
 abbrev pub is_early : SideSummary → ℕ → Bool → Bool
 is_early other resp is_reply =
     if is_reply then not other.asks else (resp == other.num) && not other.repeats
 
--- It waits too until what it is likely to answer is drawn. After a STRT or STACK all but these wait
--- for an answer to that.
+-- An item also waits for the item that it probably replies to. After its STRT or STACK a side's
+-- data, ACKs, NAKs and REPs wait for a reply to that.
 unfoldable pub waits : SideSummary → SideSummary → Word → Bool
 waits own other Bad = false
 waits own other Maint = false
@@ -86,14 +86,14 @@ waits own other Stack = not other.starts
 
 -- ---- what is drawn of both sides after an item
 
--- A number comes after another, counted from the last acknowledgement. One that lies half of all
--- numbers ahead of that is an old one, which is sent again.
+-- Whether `num` comes after `last`, both counted from the other side's last acknowledgement. A
+-- number 128 or more ahead of that is an old one, which is retransmitted.
 abbrev pub is_after : SideSummary → ℕ → ℕ → Bool
 is_after other last num =
     nat_lt (distance other.resp num) 128
     && nat_lt (distance other.resp last) (distance other.resp num)
 
--- A message is new if it comes after the others; after a NAK the next one alone is.
+-- A message is new if its number comes after the others; after a NAK only the next number is.
 abbrev pub is_new : SideSummary → SideSummary → ℕ → Bool
 is_new own other num =
     if own.goes_back then num == (own.num + 1) % 256 else is_after other own.num num
@@ -103,11 +103,11 @@ after_data own other num =
     if is_new own other num then record own { num = num; goes_back = false }
     else record own { repeats = true }
 
--- the highest number so far
+-- the highest number drawn, that of a data message included
 abbrev pub higher : SideSummary → SideSummary → ℕ → ℕ
 higher own other num = if is_after other own.top num then num else own.top
 
--- the side that it is of
+-- the summary of the side that the item is from
 unfoldable pub after_own : SideSummary → SideSummary → Word → SideSummary
 after_own own other Bad = record own { repeats = true }
 after_own own other Maint = own
@@ -121,7 +121,7 @@ after_own own other Strt =
 after_own own other Stack =
     record own { num = 0; top = 0; resp = 0; starts = true; repeats = true; goes_back = false }
 
--- what it acknowledges was sent, if it isn't drawn
+-- Data that are acknowledged were sent, even if they weren't drawn.
 abbrev pub acknowledged : SideSummary → SideSummary → ℕ → SideSummary
 acknowledged own other resp =
     if is_ahead own other resp then record other { num = resp; goes_back = false } else other
@@ -129,7 +129,7 @@ acknowledged own other resp =
 abbrev pub raised : SideSummary → SideSummary → ℕ → ℕ
 raised own other resp = if is_undrawn own other resp then resp else other.top
 
--- and the other
+-- the summary of the other side
 unfoldable pub after_other : SideSummary → SideSummary → Word → SideSummary
 after_other own other Bad = other
 after_other own other Maint = other
@@ -187,7 +187,7 @@ nothing_drawn = record { turn = Caller; caller = no_side_drawn; called = no_side
 
 -- ---- which comes next
 
--- data of this number, or data after that, are acknowledged
+-- whether `resp` acknowledges these data, or data after them
 abbrev pub is_for : ℕ → Word → Bool
 is_for resp (Data its_resp num) = nat_lt (distance num resp) 128
 is_for resp Bad = false
@@ -198,7 +198,7 @@ is_for resp Rep = false
 is_for resp Strt = false
 is_for resp Stack = false
 
--- whether one item acknowledges the other, or one after that
+-- whether one item acknowledges the data of the other, or data after them
 abbrev pub refers : Word → Word → Bool
 refers (Data resp num) theirs = is_for resp theirs
 refers (Ack resp) theirs = is_for resp theirs
@@ -209,9 +209,9 @@ refers Rep theirs = false
 refers Strt theirs = false
 refers Stack theirs = false
 
--- The side whose turn it is goes first if it doesn't wait. If both wait, one that doesn't wait for
--- data goes first; if both are for data, these may be missing, and then the turn counts, unless its
--- item refers to the other.
+-- The side whose turn it is goes first if its item doesn't wait. If both items wait, one that
+-- doesn't wait for data goes first. If both wait for data, these may be missing; then the side
+-- whose turn it is goes first, unless its item acknowledges the other.
 abbrev pub goes_first : SideSummary → SideSummary → Word → Word → Bool
 goes_first own other mine theirs =
     if must_wait own other mine then must_wait other own theirs && not (refers mine theirs)
@@ -224,7 +224,7 @@ next_of_both Caller o up down =
 next_of_both Called o up down =
     if goes_first o.called o.caller down up then Called else Caller
 
--- the side whose item is drawn next: of what the caller has next, and the called
+-- the side whose item is drawn next, from the next items of the caller and of the called
 abbrev pub next_side : Order → Option Word → Option Word → Option Side
 next_side o None None = None
 next_side o (Some up) None = Some Caller

@@ -1,5 +1,5 @@
--- What a tap writes of each direction: the lines that `explain` writes of its bytes, and in front
--- of each the milliseconds, if they are asked for, and from which side it is.
+-- What a tap writes for each direction: the lines that `explain` writes for its bytes, each after
+-- the milliseconds, if requested, and the mark of the side.
 use Rattle.std.specs.Prelude.{ℕ, List, ◌++◌, codes, decimal, drop, Option, Some, None}
 use Rattle.std.specs.List.{flat_map}
 use Rattle.ddcmp_frame.specs.Reading.{ReadItem}
@@ -26,25 +26,25 @@ json_front None side = codes "{\"from\":\"" ++ mark_of side ++ codes "\""
 json_front (Some ms) side =
     codes "{\"from\":\"" ++ mark_of side ++ codes "\",\"ms\":" ++ decimal ms
 
--- a line with what stands in front of it; an object of JSON has it as its first members
+-- a line with its prefix; in JSON the prefix is the first members of the object
 abbrev pub fronted : Notation → Option ℕ → Side → List ℕ → List ℕ
 fronted Plain stamp side line = plain_front stamp side ++ line
 fronted Json stamp side line = json_front stamp side ++ (codes "," ++ drop 1 line)
 fronted Ladder stamp side line = plain_front stamp side ++ line
 
--- the notation in which `explain` says it; a ladder has words at its end
+-- the notation that `explain` uses; a ladder has its last lines in plain text
 abbrev pub wording_of : Notation → Wording
 wording_of Plain = wording.Plain
 wording_of Json = wording.Json
 wording_of Ladder = wording.Plain
 
--- the line of an item with the data that it lends; in a ladder its arrow
+-- the line of an item with its data; in a ladder its arrow
 abbrev pub tapped_line : Notation → Option ℕ → Side → ReadItem → List ℕ
 tapped_line Plain stamp side given = fronted Plain stamp side (line_in wording.Plain given)
 tapped_line Json stamp side given = fronted Json stamp side (line_in wording.Json given)
 tapped_line Ladder stamp side given = rung_of stamp side given.0
 
--- the lines of items that were reported at the same time
+-- the lines of items that were logged at the same time
 unfoldable pub tapped_lines : Notation → Option ℕ → Side → List ReadItem → List ℕ
 tapped_lines notation stamp side given = flat_map (tapped_line notation stamp side) given
 

@@ -21,14 +21,14 @@ pub struct Capture<R> {
     discarded: bool,
     spelled: InputBytes<R>,
     frames: Reader,
-    // Bytes that were read, of which those from `at` up to `end` weren't taken.
+    // Bytes that were read; those from `at` up to `end` weren't taken yet.
     bytes: [u8; PIECE],
     at: usize,
     end: usize,
     items: u64,
-    /// The next item, if it is read and not drawn.
+    /// The next item, if it was read but not drawn.
     next: Option<Item>,
-    /// How far the items that were drawn reach.
+    /// Where the last drawn item ends.
     reached: Reached,
     ended: bool,
     fault: Option<DetectedFault>,
@@ -36,7 +36,7 @@ pub struct Capture<R> {
     ghost fits: { end ≤ 16384 },
 }
 
-// Manual, since a derived `Drop` is expanded wherever it is dropped.
+// Manual, since a derived `Drop` would be expanded wherever a value is dropped.
 impl<R: Drop> Drop for Capture<R> {
     fn drop(self) {
         let Capture {
@@ -68,13 +68,13 @@ fn push_some(frames: &mut Reader, bytes: &[u8; PIECE], at: usize, end: usize) ->
 /// Why two captures weren't drawn to their ends.
 #[derive(Debug, Drop, PartialEq, Eq)]
 pub enum DrawFault {
-    /// The capture of this side can't be read on.
+    /// The capture of this side can't be read further.
     Capture(Side, DetectedFault),
     Write,
 }
 
 impl<R: Source + Drop> Capture<R> {
-    /// Makes a capture of what came from a side, of which nothing was read. It takes frames with
+    /// Makes a capture of the bytes from a side, of which nothing was read. It accepts frames with
     /// data of up to `max` bytes, and reports skipped bytes if `discarded` is set.
     pub fn new(
         alloc: Global,
@@ -106,7 +106,7 @@ impl<R: Source + Drop> Capture<R> {
         })
     }
 
-    /// Reads the next item, unless it is read or there is none.
+    /// Reads the next item, unless it was read already or there is none.
     fn fill(&mut self, piece: &mut [u8; PIECE]) {
         for _turn in 0..u64::MAX {
             if self.next.is_some() || self.ended {
@@ -147,13 +147,13 @@ impl<R: Source + Drop> Capture<R> {
         }
     }
 
-    /// Nothing more is read.
+    /// Ends the reading with a fault.
     fn fail(&mut self, fault: DetectedFault) {
         self.fault = Some(fault);
         self.ended = true;
     }
 
-    /// Returns what the order needs of the next item, if there is one.
+    /// Returns what the order needs to know about the next item, if there is one.
     fn word(&self) -> Option<Word> {
         match &self.next {
             Some(item) => Some(Word::of(item)),
@@ -161,7 +161,7 @@ impl<R: Source + Drop> Capture<R> {
         }
     }
 
-    /// Draws the next item, and before it what was skipped if that is reported.
+    /// Draws the next item, and before it the skipped bytes, if these are reported.
     fn draw<W: Sink>(&mut self, page: &mut Page, writer: &mut W) {
         match &self.next {
             Some(item) => {
@@ -190,7 +190,7 @@ impl<R: Source + Drop> Capture<R> {
     }
 }
 
-/// Writes the line of what was skipped after an item of a side, up to an offset.
+/// Writes the line of the bytes skipped after an item of a side, up to an offset.
 fn write_skipped_to<W: Sink>(
     page: &mut Page,
     writer: &mut W,
@@ -207,8 +207,8 @@ fn write_skipped_to<W: Sink>(
     }
 }
 
-/// Draws what two captures have: an arrow for each item, in the order of `Order`, and the totals of
-/// both. Of one that can't be read on what comes before that is drawn, and no totals.
+/// Draws two captures: an arrow for each item, in the order of `Order`, and the totals of both. If
+/// one can't be read further, draws the items before that, and no totals.
 pub fn draw_captures<R: Source + Drop, W: Sink>(
     caller: &mut Capture<R>,
     called: &mut Capture<R>,

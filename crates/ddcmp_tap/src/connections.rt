@@ -24,11 +24,11 @@ use std::net::{self, Net, OpenListener, SocketAddr, TcpListener, ToSocketAddrs};
 use std::os::fd::AsRawFd;
 use std::time;
 
-/// The head of a ladder, with who is on which side.
+/// The heading of a ladder: which side is which.
 const LADDER_HEAD: &[u8] =
     b"> who connected to the tap                         whom the tap connected to <\n";
 
-/// Writes what is above all that passes.
+/// Writes the heading of the log.
 fn write_head<W: Sink>(writer: &mut W, notation: Notation) -> Result<(), WriteFailed>
     requires whole { W.broken writer.old ≡ false }
     ensures written { Writes (W.contents writer.old) (W.contents writer.new) result
@@ -41,8 +41,7 @@ fn write_head<W: Sink>(writer: &mut W, notation: Notation) -> Result<(), WriteFa
     }
 }
 
-/// Makes a connection that neither blocks nor holds bytes back to fill a packet, and that ends if
-/// its peer has gone without a word.
+/// Makes a connection nonblocking, with TCP_NODELAY and keepalive.
 fn prompt(stream: net::TcpStream) -> io::Result<TcpStream> {
     stream.set_nodelay(true)?;
     stream.set_nonblocking(true)?;
@@ -66,7 +65,7 @@ fn accept_next<L: OpenListener<Stream = net::TcpStream>>(listener: &L) -> io::Re
                 let stream = prompt(stream)?;
                 return Ok(Caller { stream, peer });
             }
-            // Who called has left again.
+            // The caller may have disconnected already.
             Err(error) => match error.kind() {
                 ErrorKind::ConnectionAborted | ErrorKind::Interrupted => {}
                 _ => return Err(error),
@@ -76,7 +75,7 @@ fn accept_next<L: OpenListener<Stream = net::TcpStream>>(listener: &L) -> io::Re
     Err(io::Error::from(ErrorKind::Interrupted))
 }
 
-/// Prints the address of a listener whose port the system has chosen.
+/// Prints the address of a listener whose port was chosen by the system.
 fn report_port<E: Eprint, L: OpenListener>(system: &E, listener: &L, name: &str) {
     if !name.ends_with(":0") {
         return;
@@ -115,7 +114,7 @@ fn not_made<N: Net>(net: &N, stage: Stage, name: &str, error: &io::Error) -> Not
     }
 }
 
-/// The fault of a tap that can't wait for both sides.
+/// Returns the fault of a tap that can't wait for both sides.
 fn no_waiting(error: &io::Error) -> TapFault
     ensures { (result ≡ TapFault.Memory)
         ⊎ ((why : NotMade) × (result ≡ TapFault.Carrier why)) }
@@ -130,8 +129,8 @@ fn no_waiting(error: &io::Error) -> TapFault
 }
 
 /// Waits at one address until someone connects, connects to the other, and forwards between the two
-/// until both have ended. The log goes to the writer, line by line, as bytes come; why a side
-/// failed goes to standard error.
+/// until both have ended. Writes the log line by line as bytes are received; prints why a side
+/// failed on standard error.
 pub fn tap<S: Net<Stream = net::TcpStream> + Eprint + time::Clock, W: Sink>(
     system: &S,
     alloc: Global,
@@ -209,8 +208,8 @@ fn carry<S: Net<Stream = net::TcpStream> + Eprint + time::Clock, W: Sink>(
     ended
 }
 
-/// Returns the fault that ends the tap too, and not only the connection of one caller: none if both
-/// sides ended or one failed, or the other address can't be reached, which goes to standard error.
+/// Returns the fault if it ends the tap, and not just the connection of one caller. None if both
+/// sides ended, one failed, or the other address can't be reached, which is printed.
 fn lasting<S: Eprint>(system: &S, connect: &str, ended: Result<(), TapFault>) -> Option<TapFault>
     ensures lasts { IfSome result (λ fault. (ended ≡ Err fault) × Lasts fault) }
     ensures passes { result ≡ None → PassesOver ended }
@@ -230,8 +229,8 @@ fn lasting<S: Eprint>(system: &S, connect: &str, ended: Result<(), TapFault>) ->
     }
 }
 
-/// Listens at one address, and carries one caller after another to the other, as `tap` carries one;
-/// who calls meanwhile waits. A fault of a side ends only its connection. Returns why it ends.
+/// Listens at one address, and serves one caller after another as `tap` serves one; others wait
+/// meanwhile. A fault of a side ends only its connection. Returns why the tap ends.
 pub fn tap_again<S: Net<Stream = net::TcpStream> + Eprint + time::Clock, W: Sink>(
     system: &S,
     alloc: Global,

@@ -1,4 +1,4 @@
-//! One direction of a tap: bytes that came from a side, to be forwarded as they are and explained.
+//! One direction of a tap: bytes received from a side, to be forwarded unchanged and explained.
 ghost use Rattle.std.specs.Prelude.{◌≡◌, ◌+◌, ◌<◌, ◌≤◌, ◌++◌, [], ℕ, List, IfOk, IsOk, drop, false};
 ghost use Rattle.std.specs.Prelude.{length, take, true};
 ghost use Rattle.ddcmp_frame.specs.Limits.{MAX_COUNT};
@@ -14,11 +14,11 @@ use ddcmp_io::{ByteQueue, MemorySink};
 use std::alloc::Global;
 use std::marker::Model;
 
-/// The most bytes of a direction that wait.
+/// The maximum number of bytes that a direction queues.
 pub const ROOM: usize = 65536;
 
-/// What came from one side. Bytes wait here until they were forwarded to the other side, and until
-/// they were explained: in two queues, so that neither waits for the other.
+/// The bytes received from one side. They are queued until they were forwarded to the other side,
+/// and until they were explained: in two queues, so that neither waits for the other.
 pub struct Direction {
     waiting: ByteQueue,
     unlogged: ByteQueue,
@@ -27,7 +27,7 @@ pub struct Direction {
     ended: bool,
 }
 
-// Manual, since a derived `Drop` is expanded wherever it is dropped.
+// Manual, since a derived `Drop` would be expanded wherever a value is dropped.
 impl Drop for Direction {
     fn drop(self) {
         let Direction {
@@ -66,8 +66,7 @@ impl Model for Direction {
 }
 
 impl Direction {
-    /// Makes a direction that no bytes have come from. Of its memory only that for text isn't taken
-    /// yet.
+    /// Makes a direction without bytes. Only the memory for its text is allocated later.
     pub fn new(
         alloc: Global,
         side: Side,
@@ -105,8 +104,8 @@ impl Direction {
         })
     }
 
-    /// Returns how many bytes may come now. A direction whose bytes were all forwarded and
-    /// explained takes 65,536, and one that has had 2^64 - 1 bytes none.
+    /// Returns how many bytes may be received now: 65,536 if all were forwarded and explained, none
+    /// after 2^64 - 1 bytes.
     pub fn room(&self) -> usize
         ensures value { result ≡ room_of self.now }
         ensures most { result + length self.now.queue.waiting ≤ 65536 }
@@ -123,7 +122,7 @@ impl Direction {
         }
     }
 
-    /// Bytes came from the side.
+    /// Appends bytes received from the side.
     pub fn push(&mut self, bytes: &[u8])
         requires { length bytes.now ≤ room_of self.old }
         ensures passes { (came handed told : List ℕ) → Passes self.old came handed told
@@ -137,14 +136,14 @@ impl Direction {
         self.unlogged.push(bytes);
     }
 
-    /// Returns what is to be forwarded to the other side.
+    /// Returns the bytes to be forwarded to the other side.
     pub fn waiting(&self) -> &[u8]
         ensures { result.now ≡ self.now.queue.waiting }
     {
         self.waiting.waiting()
     }
 
-    /// The other side took the first `n` of what waited.
+    /// Removes the first `n` waiting bytes, which the other side took.
     pub fn took(&mut self, n: usize)
         requires { n ≤ length self.old.queue.waiting }
         ensures passes { (came handed told : List ℕ) → Passes self.old came handed told
@@ -157,7 +156,7 @@ impl Direction {
         self.waiting.took(n);
     }
 
-    /// The side sends no more.
+    /// Notes that the side sends no more.
     pub fn end(&mut self)
         ensures { self.new ≡ record self.old { ended = true } }
     {
@@ -171,7 +170,8 @@ impl Direction {
         self.ended
     }
 
-    /// Makes the text of what came since the last call: the lines of the items that it completes.
+    /// Makes the text of the bytes received since the last call: the lines of the items that they
+    /// complete.
     pub fn explain(&mut self, stamp: Option<u64>) -> Result<(), NoMemory>
         ensures passes { IsOk result → (came handed told : List ℕ)
             → Passes self.old came handed told → Passes self.new came handed came
@@ -179,7 +179,7 @@ impl Direction {
             self.old.queue.unlogged [] self.new.text }
         ensures waiting { self.new.queue.waiting ≡ self.old.queue.waiting }
 
-        // If an allocation failed too: no byte is read twice.
+        // Even if an allocation failed: no byte is read twice.
         ensures unlogged { self.new.queue.unlogged ≡ [] }
         ensures room { self.old.queue.room ≤ self.new.queue.room }
         ensures side { self.new.side ≡ self.old.side }
@@ -193,7 +193,7 @@ impl Direction {
         told
     }
 
-    /// Makes the text of the last line, of all that was explained.
+    /// Makes the text of the last line, for all bytes that were explained.
     pub fn finish(&mut self, stamp: Option<u64>) -> Result<(), NoMemory>
         ensures last { IsOk result → (told : List ℕ)
             → HasTold self.old.frames self.old.items told

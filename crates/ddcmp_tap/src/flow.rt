@@ -1,4 +1,4 @@
-//! One direction of a tap with the devices that it goes between.
+//! One direction of a tap with its devices.
 ghost use Rattle.std.specs.Prelude.{◌≡◌, ◌≢◌, ◌<◌, ◌⊎◌, ◌↔◌, [], Err, IsOk, IsTrue, List, ℕ};
 ghost use Rattle.std.specs.Prelude.{false, length};
 ghost use Rattle.ddcmp_tap.specs.Passing.{HasTold, Passes};
@@ -13,14 +13,14 @@ use crate::tap_fault::TapFault;
 use ddcmp_io::input::read_within;
 use ddcmp_io::{Got, Sink, Source, Worst, write_all};
 
-/// The bytes received from one side, and the way to the other.
+/// The bytes received from one side, with their reader and the outlet to the other side.
 pub struct Flow<R, O> {
     direction: Direction,
     reader: R,
     outlet: O,
 }
 
-// Manual, since a derived `Drop` is expanded wherever it is dropped.
+// Manual, since a derived `Drop` would be expanded wherever a value is dropped.
 impl<R: Drop, O: Drop> Drop for Flow<R, O> {
     fn drop(self) {
         let Flow {
@@ -44,15 +44,15 @@ impl<R: Source, O: Outlet> Flow<R, O> {
         }
     }
 
-    /// Returns whether the side has ended, and all and the end were forwarded to the other.
+    /// Returns whether the side has ended, and all its bytes and its end were forwarded.
     pub(crate) fn is_over(&self) -> bool
         ensures { result ≡ O.closed self.now.outlet }
     {
         self.outlet.is_closed()
     }
 
-    /// Reads what has come, as far as there is room; returns whether anything came, an end
-    /// included. More bytes than can be counted are a read that failed.
+    /// Reads what was received, as far as there is room; returns whether there was anything, an end
+    /// included. More bytes than can be counted are a failed read.
     fn take_in(&mut self, buffer: &mut [u8]) -> Result<bool, TapFault>
         requires fine { R.state self.old.reader ≢ Worst.Failed }
         requires buffer { 0 < length buffer.old }
@@ -86,7 +86,7 @@ impl<R: Source, O: Outlet> Flow<R, O> {
         Ok(true)
     }
 
-    /// Hands on what the other side has room for; returns whether it took anything.
+    /// Forwards what the other side has room for; returns whether it took anything.
     fn forward(&mut self) -> Result<bool, TapFault>
         requires open { O.closed self.old.outlet ≡ false }
         requires ends { Ends (flow_of R.left O.contents O.closed self.old) }
@@ -111,7 +111,7 @@ impl<R: Source, O: Outlet> Flow<R, O> {
         }
     }
 
-    /// Forwards the end to the other side, once all was forwarded.
+    /// Forwards the end to the other side, once all bytes were forwarded.
     fn forward_end(&mut self)
         requires open { O.closed self.old.outlet ≡ false }
         requires ends { Ends (flow_of R.left O.contents O.closed self.old) }
@@ -125,7 +125,7 @@ impl<R: Source, O: Outlet> Flow<R, O> {
         }
     }
 
-    /// Reads once and forwards at once, as far as neither blocks; returns whether anything moved.
+    /// Reads once and forwards once, without blocking; returns whether anything moved.
     pub(crate) fn pass(&mut self, buffer: &mut [u8]) -> Result<bool, TapFault>
         requires fine { R.state self.old.reader ≢ Worst.Failed }
         requires buffer { 0 < length buffer.old }
@@ -146,7 +146,7 @@ impl<R: Source, O: Outlet> Flow<R, O> {
         Ok(came || went)
     }
 
-    /// Writes the lines of what has come since the last call.
+    /// Writes the lines of the bytes received since the last call.
     pub(crate) fn log<W: Sink>(
         &mut self,
         writer: &mut W,

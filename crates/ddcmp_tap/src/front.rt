@@ -1,4 +1,4 @@
-//! What comes before a line of a tap.
+//! The beginning of a line of a tap.
 ghost use Rattle.ddcmp_io.specs.Written.{HandsOver, output_of};
 ghost use Rattle.ddcmp_tap.specs.Tapped.{json_front, plain_front};
 
@@ -6,7 +6,7 @@ use crate::side::Side;
 use ddcmp_io::text::write_number;
 use ddcmp_io::{Page, Sink};
 
-/// Writes the milliseconds, if they are asked for, and the mark of the side.
+/// Writes the milliseconds, if requested, and the mark of the side.
 pub(crate) fn write_plain_front<W: Sink>(
     page: &mut Page,
     writer: &mut W,

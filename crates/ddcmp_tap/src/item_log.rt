@@ -1,4 +1,4 @@
-//! The log of one direction: a line for each item, as its bytes come.
+//! The log of one direction: a line for each item, as its bytes are received.
 ghost use Rattle.std.specs.Prelude.{◌≡◌, ◌+◌, ◌<◌, ◌≤◌, ◌^◌, ◌++◌, List, ℕ, IfOk, IsOk, [], false};
 ghost use Rattle.std.specs.Prelude.{is_err, length, take};
 ghost use Rattle.ddcmp_explain.specs.Output.{totals_in};
@@ -15,7 +15,7 @@ use ddcmp_explain::{self as explain, write_item, write_last};
 use ddcmp_frame::{Item, Pushed, Reader};
 use ddcmp_io::{MemorySink, Page};
 
-/// What was read of the bytes of one direction, and how it is logged.
+/// The reader of the bytes of one direction, and how these are logged.
 #[derive(Drop)]
 pub(crate) struct ItemLog {
     pub(crate) side: Side,
@@ -123,7 +123,7 @@ fn put_last(
 impl ItemLog {
     ghost use Rattle.ddcmp_tap.specs.Passing.{HasTold, Tells};
 
-    /// Takes bytes up to the first that completes an item, and puts its line. Returns how many.
+    /// Takes bytes up to the first that completes an item, and appends its line. Returns how many.
     fn push(
         &mut self,
         page: &mut Page,

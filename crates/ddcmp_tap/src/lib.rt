@@ -1,5 +1,5 @@
 //! A tap between the two ends of a line over TCP. `Direction` takes the bytes received from one
-//! side, forwards them as they are, and explains them as `explain` does; `pump` does so both ways
+//! side, forwards them unchanged, and explains them as `explain` does; `pump` does so both ways
 //! between two connections; `tap` listens at one address, connects to another, and pumps;
 //! `tap_again` does so for one caller after another.
 #![tactic(auto)]

@@ -1,4 +1,4 @@
-//! Why a text is not complete.
+//! Why a text is incomplete.
 
 /// The allocation for a text failed.
 #[derive(Clone, Copy)]

@@ -1,12 +1,12 @@
-//! How a tap logs what passes.
+//! The notation of a tap's log.
 
-/// How a tap logs what passes.
+/// The notation of a tap's log.
 #[derive(Clone, Copy, Debug)]
 pub enum Notation {
-    /// Words for people, as `explain` has them.
+    /// Plain text for people, as `explain` writes it.
     Plain,
-    /// An object of JSON a line, for programs.
+    /// A JSON object a line, for programs.
     Json,
-    /// A ladder: an arrow from the side that an item comes from to the other.
+    /// A ladder: an arrow for each item, from its side to the other.
     Ladder,
 }

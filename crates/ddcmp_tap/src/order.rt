@@ -1,4 +1,4 @@
-//! In which order the items of two captured directions are drawn, which have no time stamps.
+//! The order in which the items of two captured directions are drawn, which have no time stamps.
 ghost use Rattle.std.specs.Prelude.{◌≡◌, false, true};
 ghost use Rattle.ddcmp_num.specs.Sequence.{distance as distance_of};
 ghost use Rattle.ddcmp_tap.specs.Order.{acknowledged as acknowledged_by, after_data};
@@ -14,10 +14,10 @@ use crate::side::Side;
 use ddcmp_frame::{ControlType, Header, Item, Short};
 use ddcmp_num::Seq;
 
-/// What the order needs of an item: what it acknowledges, and its own number.
+/// What the order needs to know about an item: what it acknowledges, and its own number.
 #[derive(Clone, Copy)]
 pub enum Word {
-    /// An item that is no good frame.
+    /// An item that isn't a good frame.
     Bad,
     Maint,
     /// A data message: RESP and NUM.
@@ -32,7 +32,7 @@ pub enum Word {
 }
 
 impl Word {
-    /// Returns what the order needs of an item.
+    /// Returns what the order needs to know about an item.
     pub fn of(item: &Item) -> Word
         ensures { result ≡ word_of item.now }
     {
@@ -45,7 +45,7 @@ impl Word {
         }
     }
 
-    /// Returns whether it acknowledges data of the other side's next item, or data after those.
+    /// Returns whether it acknowledges the data of the other side's next item, or data after them.
     fn refers(self, theirs: Word) -> bool
         ensures { result ≡ refers_to_other self theirs }
     {
@@ -55,7 +55,7 @@ impl Word {
         }
     }
 
-    /// Returns whether an acknowledgement of this number is for these data, or for data after them.
+    /// Returns whether this number acknowledges these data, or data after them.
     fn is_met(self, resp: u8) -> bool
         ensures { result ≡ is_for_data resp self }
     {
@@ -94,34 +94,34 @@ fn of_control(h: &Short) -> Word
     }
 }
 
-/// Returns how far a number lies ahead of another.
+/// Returns how far a number is ahead of another, modulo 256.
 fn distance(from: u8, to: u8) -> u8
     ensures { result ≡ distance_of from to }
 {
     Seq::distance(Seq(from), Seq(to))
 }
 
-/// What was drawn of a side, as far as items of the other refer to it.
+/// A summary of what was drawn of a side, as far as items of the other side depend on it.
 #[derive(Clone, Copy)]
 pub struct SideSummary {
-    /// The number of its last data message in sequence, after a NAK again.
+    /// The number of its last data message in sequence; a NAK sets it back.
     pub num: u8,
     /// The highest number of its data messages.
     pub top: u8,
     /// The number that it acknowledged last.
     pub resp: u8,
-    /// Whether it had a STRT or STACK, and the other side nothing but STRTs since.
+    /// Whether it had a STRT or STACK, and the other side only STRTs since.
     pub starts: bool,
     /// Whether it had a REP since the other's last ACK or NAK.
     pub asks: bool,
-    /// Whether it had anything since then that may get a reply and is no new data message.
+    /// Whether it had anything else since then that may get a reply, new data messages apart.
     pub repeats: bool,
-    /// Whether the message after `num` is to come again, since the other side sent a NAK.
+    /// Whether the message after `num` is to be retransmitted, since the other side sent a NAK.
     pub goes_back: bool,
 }
 
 impl SideSummary {
-    /// Nothing was drawn.
+    /// The summary at the start.
     const NOTHING: SideSummary = SideSummary {
         num: 0,
         top: 0,
@@ -132,14 +132,14 @@ impl SideSummary {
         goes_back: false,
     };
 
-    /// Returns whether the other side's data of this number aren't drawn at all.
+    /// Returns whether the other side's data of this number weren't drawn at all.
     fn is_undrawn(&self, other: &SideSummary, resp: u8) -> bool
         ensures { result ≡ is_undrawn self.now other.now resp }
     {
         distance(self.resp, other.top) < distance(self.resp, resp)
     }
 
-    /// Returns whether an item acknowledges data that aren't drawn at all.
+    /// Returns whether an item acknowledges data that weren't drawn at all.
     #[tactic(auto, unfolding(crate::specs::Order::must_wait))]
     fn must_wait(&self, other: &SideSummary, word: Word) -> bool
         ensures { result ≡ must_wait self.now other.now word }
@@ -152,7 +152,7 @@ impl SideSummary {
         }
     }
 
-    /// Returns whether the other side's data of this number aren't drawn in sequence yet.
+    /// Returns whether the other side's data of this number weren't drawn in sequence yet.
     fn is_ahead(&self, other: &SideSummary, resp: u8) -> bool
         ensures { result ≡ is_ahead_of self.now other.now resp }
     {
@@ -166,7 +166,7 @@ impl SideSummary {
         resp == self.resp && !other.repeats
     }
 
-    /// Returns whether a NAK of the other side comes before what it may be for.
+    /// Returns whether a NAK of the other side is before anything that it may refer to.
     fn is_early(&self, resp: u8, is_reply: bool) -> bool
         ensures { result ≡ is_early self.now resp is_reply }
     {
@@ -177,7 +177,7 @@ impl SideSummary {
         }
     }
 
-    /// Returns whether an item waits for one of the other side that it is likely to answer.
+    /// Returns whether an item waits for one of the other side that it probably replies to.
     #[tactic(auto, unfolding(crate::specs::Order::waits))]
     fn waits(&self, other: &SideSummary, word: Word) -> bool
         ensures { result ≡ waits_for_other self.now other.now word }
@@ -203,7 +203,7 @@ impl SideSummary {
         distance(self.resp, num) < 128 && distance(self.resp, last) < distance(self.resp, num)
     }
 
-    /// Returns whether a data message is one after those that were drawn.
+    /// Returns whether a data message is a new one, which comes after those that were drawn.
     fn is_new(&self, other: &SideSummary, num: u8) -> bool
         ensures { result ≡ is_new_data self.now other.now num }
     {
@@ -214,7 +214,7 @@ impl SideSummary {
         }
     }
 
-    /// Returns the highest number with that of a data message.
+    /// Returns the highest number, that of a data message included.
     fn higher(&self, other: &SideSummary, num: u8) -> u8
         ensures { result ≡ higher self.now other.now num }
     {
@@ -225,7 +225,7 @@ impl SideSummary {
         }
     }
 
-    /// Returns the highest number of the other side, of whose data this number is acknowledged.
+    /// Returns the highest number of the other side, after data of it were acknowledged.
     fn raised(&self, other: &SideSummary, resp: u8) -> u8
         ensures { result ≡ raised self.now other.now resp }
     {
@@ -236,7 +236,7 @@ impl SideSummary {
         }
     }
 
-    /// A data message of this side is drawn.
+    /// Updates the summary for a data message of this side.
     fn take_data(&mut self, other: &SideSummary, num: u8)
         ensures { self.new ≡ after_data self.old other.now num }
     {
@@ -248,7 +248,7 @@ impl SideSummary {
         }
     }
 
-    /// An item of this side is drawn.
+    /// Updates the summary for an item of this side.
     #[tactic(auto, unfolding(crate::specs::Order::after_own))]
     fn take_own(&mut self, other: &SideSummary, word: Word)
         ensures { self.new ≡ after_of_own self.old other.now word }
@@ -292,7 +292,7 @@ impl SideSummary {
         self.goes_back = false;
     }
 
-    /// The other side acknowledges data of this one, which was `own` before.
+    /// Updates the summary for an acknowledgement by the other side, whose summary was `own`.
     fn acknowledge(&mut self, own: &SideSummary, resp: u8)
         ensures { self.new ≡ acknowledged_by own.now self.old resp }
     {
@@ -302,7 +302,7 @@ impl SideSummary {
         }
     }
 
-    /// An item of the other side is drawn, which was `own` before.
+    /// Updates the summary for an item of the other side, whose summary was `own`.
     #[tactic(auto, unfolding(crate::specs::Order::after_other))]
     fn take_other(&mut self, own: &SideSummary, word: Word)
         ensures { self.new ≡ after_of_other own.now self.old word }
@@ -338,7 +338,7 @@ impl SideSummary {
         }
     }
 
-    /// Returns whether its item goes before the other's if it is its turn.
+    /// Returns whether its item goes before the other side's, if it is its turn.
     fn goes_first(&self, other: &SideSummary, mine: Word, theirs: Word) -> bool
         ensures { result ≡ goes_first self.now other.now mine theirs }
     {
@@ -352,7 +352,7 @@ impl SideSummary {
     }
 }
 
-/// What was drawn of both sides, and whose turn it is.
+/// The summaries of both sides, and whose turn it is.
 #[derive(Clone, Copy)]
 pub struct Order {
     turn: Side,
@@ -361,7 +361,7 @@ pub struct Order {
 }
 
 impl Order {
-    /// Nothing was drawn.
+    /// Returns the order before anything was drawn.
     pub fn new() -> Order
         ensures { result ≡ nothing_drawn }
     {
@@ -372,7 +372,7 @@ impl Order {
         }
     }
 
-    /// Returns the side whose item is drawn next, of what both have next, if they have more.
+    /// Returns the side whose item is drawn next, from the next item of each, if there is one.
     pub fn next(&self, caller: Option<Word>, called: Option<Word>) -> Option<Side>
         ensures { result ≡ next_side self.now caller called }
     {
@@ -398,7 +398,7 @@ impl Order {
         }
     }
 
-    /// An item of a side is drawn.
+    /// Updates the order for an item of a side.
     pub fn draw(&mut self, side: Side, word: Word)
         ensures { self.new ≡ after_drawn self.old side word }
     {

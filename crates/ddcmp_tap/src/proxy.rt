@@ -17,13 +17,13 @@ use crate::tap_fault::{NotMade, TapFault};
 use ddcmp_io::{Sink, Source, Worst};
 use ddcmp_station::Clock;
 
-/// Waits until it is worth trying again.
+/// Waits until a read or write may succeed.
 pub trait Readiness {
-    /// Waits until a side may have bytes or room; returns whether it could.
+    /// Waits until a side may have bytes or room; returns whether it could wait.
     fn wait(&mut self) -> bool;
 }
 
-/// The milliseconds, if they are asked for.
+/// Returns the milliseconds, if requested.
 fn stamp<C: Clock>(clock: &mut C, timed: bool) -> Option<u64>
     ensures { is_some result ≡ timed }
 {
@@ -53,8 +53,8 @@ fn pass_both<R: Source, O: Outlet>(
     Ok(went_up || went_down)
 }
 
-/// Moves bytes in both directions, and then logs what came; returns whether any moved. A side that
-/// failed is reported after that.
+/// Moves bytes in both directions, and then logs the bytes received; returns whether any moved. A
+/// failed side is reported after that.
 fn turn<R: Source, O: Outlet, W: Sink>(
     up: &mut Flow<R, O>,
     down: &mut Flow<R, O>,
@@ -90,7 +90,7 @@ fn turn<R: Source, O: Outlet, W: Sink>(
     }
 }
 
-/// Moves bytes and logs what came, until both directions have ended.
+/// Moves bytes and logs those received, until both directions have ended.
 fn until_over<R: Source, O: Outlet, K: Readiness, C: Clock, W: Sink>(
     up: &mut Flow<R, O>,
     down: &mut Flow<R, O>,
@@ -131,7 +131,7 @@ fn until_over<R: Source, O: Outlet, K: Readiness, C: Clock, W: Sink>(
     Err(TapFault::Read)
 }
 
-/// Returns whether a tap went on until both sides had ended or one had failed.
+/// Returns whether a tap ran until both sides had ended or one had failed.
 fn has_reported(ended: &Result<(), TapFault>) -> bool
     ensures { IsTrue result ↔ HasReported ended.now }
 {
@@ -141,7 +141,7 @@ fn has_reported(ended: &Result<(), TapFault>) -> bool
     }
 }
 
-/// Writes the two last lines of a tap that went on until both sides had ended or one had failed.
+/// Writes the two last lines of a tap that ran until both sides had ended or one had failed.
 fn conclude<R: Source, O: Outlet, C: Clock, W: Sink>(
     up: &mut Flow<R, O>,
     down: &mut Flow<R, O>,
@@ -174,8 +174,8 @@ fn conclude<R: Source, O: Outlet, C: Clock, W: Sink>(
     }
 }
 
-/// Forwards what comes from each side to the other and logs what it is, until both have ended or
-/// one has failed; then come the two last lines.
+/// Forwards the bytes of each side to the other and logs them, until both have ended or one has
+/// failed; then writes the two last lines.
 pub fn pump<R: Source, O: Outlet, K: Readiness, C: Clock, W: Sink>(
     up: &mut Flow<R, O>,
     down: &mut Flow<R, O>,

@@ -9,11 +9,10 @@ use ddcmp_frame::Item;
 use ddcmp_io::text::write_number;
 use ddcmp_io::{Page, Sink};
 
-/// The columns of a line without those that each has: both ends, the arrow's head, a stroke at its
-/// other end and the blanks beside the label.
+/// The columns of a line that its label and strokes share, without the fixed characters.
 const REACH: usize = 71;
 
-/// Returns what an arrow is drawn with: a frame that is good of strokes, all else of waves.
+/// Returns the character of an arrow: a hyphen for a good frame, a tilde for anything else.
 fn stroke_of(item: &Item) -> u8
     ensures { result ≡ stroke_of_item item.now }
 {
@@ -24,7 +23,7 @@ fn stroke_of(item: &Item) -> u8
     }
 }
 
-/// Puts this many strokes.
+/// Writes this many strokes.
 fn write_strokes<W: Sink>(page: &mut Page, writer: &mut W, stroke: u8, count: usize)
     requires { count ≤ REACH }
     ensures { HandsOver (output_of W.broken W.contents writer.old page.old)
@@ -34,7 +33,7 @@ fn write_strokes<W: Sink>(page: &mut Page, writer: &mut W, stroke: u8, count: us
     page.write(writer, &strokes[..count]);
 }
 
-/// A line of the ladder, with this label.
+/// Writes a line of the ladder, with this label.
 fn write_arrow<W: Sink>(page: &mut Page, writer: &mut W, side: Side, stroke: u8, label: &[u8])
     requires { length label.now ≤ REACH }
     ensures { HandsOver (output_of W.broken W.contents writer.old page.old)
@@ -59,7 +58,7 @@ fn write_arrow<W: Sink>(page: &mut Page, writer: &mut W, side: Side, stroke: u8,
     }
 }
 
-/// The line of an item.
+/// Writes the line of an item.
 pub(crate) fn write_rung<W: Sink>(
     page: &mut Page,
     writer: &mut W,
@@ -76,7 +75,7 @@ pub(crate) fn write_rung<W: Sink>(
     write_arrow(page, writer, side, stroke_of(item), &label[..end]);
 }
 
-/// Puts the milliseconds, if they are asked for.
+/// Writes the milliseconds, if requested.
 fn write_stamp<W: Sink>(page: &mut Page, writer: &mut W, stamp: Option<u64>)
     ensures { HandsOver (output_of W.broken W.contents writer.old page.old)
         (output_of W.broken W.contents writer.new page.new) (ladder_front stamp) }

@@ -2,7 +2,7 @@
 ghost use Rattle.std.specs.Prelude.{◌≡◌};
 ghost use Rattle.ddcmp_tap.specs.Tapped.{mark_of};
 
-/// A side of a tap, from which bytes come and to which they go.
+/// A side of a tap: bytes are received from it and sent to it.
 #[derive(Clone, Copy, Debug, PartialEq, Eq)]
 pub enum Side {
     /// The side that connected to the tap.
@@ -22,7 +22,7 @@ impl Side {
         }
     }
 
-    /// Returns the side to which the bytes from this one go.
+    /// Returns the side to which bytes from this one are forwarded.
     pub fn other(self) -> Side
         ensures caller { self ≡ Side.Caller → result ≡ Side.Called }
         ensures called { self ≡ Side.Called → result ≡ Side.Caller }

@@ -1,18 +1,18 @@
-//! Options of sockets: best effort, since a line works without them.
+//! Socket options, set with best effort, since a line works without them.
 ghost use Rattle.libc.specs.Net.{SockOption};
 
 use libc::net as c;
 use std::os::fd::RawFd;
 
-/// After how many seconds of silence a connection is tested, then how often, and how many tests
-/// without a reply end it.
+/// Keepalive: after how many seconds of silence a connection is probed, then how often, and after
+/// how many probes without a reply it ends.
 const QUIET_SECONDS: i32 = 60;
 
 const TEST_SECONDS: i32 = 10;
 
 const TESTS: i32 = 6;
 
-/// Has a connection end if its peer has gone without a word.
+/// Turns on keepalive, so that a connection ends if its peer is gone.
 pub fn keep_alive(fd: RawFd) {
     set_option(fd, c::SOL_SOCKET, c::SO_KEEPALIVE, 1);
     set_option(fd, c::IPPROTO_TCP, c::TCP_KEEPIDLE, QUIET_SECONDS);

@@ -1,4 +1,4 @@
-//! The sides of a tap as sockets that don't wait.
+//! The sides of a tap as nonblocking sockets.
 ghost use Rattle.std.specs.Prelude.{◌≡◌, false};
 
 use crate::outlet::Outlet;
@@ -27,8 +27,8 @@ impl Socket {
         }
     }
 
-    /// Notes an error: returns whether the socket failed. It may only have nothing to give,
-    /// or no room.
+    /// Records an error; returns whether the socket failed. Having no bytes or no room now is no
+    /// failure.
     fn has_failed(&self, kind: ErrorKind) -> bool {
         let failed = !matches!(kind, ErrorKind::WouldBlock | ErrorKind::Interrupted);
         if failed {
@@ -58,7 +58,7 @@ impl Read for &Socket {
     }
 }
 
-/// The way to the peer of a socket.
+/// The output to the peer of a socket.
 #[derive(Drop)]
 pub(crate) struct ToSocket<'a> {
     socket: &'a Socket,
@@ -95,7 +95,7 @@ impl Outlet for ToSocket<'_> {
 
     fn close(&mut self) {
         self.closed = true;
-        // A peer that is gone needs no log.
+        // If the peer is gone, there is nothing to report.
         let _ = self.socket.stream.shutdown(Shutdown::Write);
     }
 

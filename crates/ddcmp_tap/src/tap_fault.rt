@@ -6,18 +6,18 @@ use std::io::ErrorKind;
 /// What a tap does before it has both connections.
 #[derive(Clone, Copy, PartialEq, Eq)]
 pub enum Stage {
-    /// It listens, and takes the first who connects.
+    /// It listens, and accepts the first caller.
     Listen,
     Connect,
-    /// It has the system report what comes of both.
+    /// It registers both connections to be waited for.
     Wait,
 }
 
-/// A connection that can't be made, or can't be waited for.
+/// A connection that can't be made or waited for.
 #[derive(Clone, Copy, PartialEq, Eq)]
 pub struct NotMade {
     pub stage: Stage,
-    /// The reason of the system; none if no host has the name.
+    /// The system's error; none if no host has the name.
     pub cause: Option<ErrorKind>,
 }
 
@@ -33,7 +33,7 @@ impl fmt::Display for NotMade {
 }
 
 impl NotMade {
-    /// The reason in words.
+    /// Returns the cause in words.
     pub(crate) fn reason(&self) -> &'static str {
         match self.cause {
             Some(kind) => words_of(kind),
@@ -42,7 +42,7 @@ impl NotMade {
     }
 }
 
-/// Why a tap that was to go on until both sides end isn't done.
+/// Why a tap ended before both sides did.
 #[derive(Clone, Copy, PartialEq, Eq)]
 pub enum TapFault {
     /// A connection can't be made.

@@ -1,12 +1,12 @@
-// Two captured directions as a ladder, in an order that none of them has.
+// Two captured directions as a ladder, in an order that neither of them has.
 use crate::same::is;
 use ddcmp_explain::{DetectedFault, Form, InputForm, NotDumped};
 use ddcmp_frame::failing::{Pieces, Taken};
 use ddcmp_tap::{Capture, DrawFault, Side, draw_captures};
 use std::process::Abort;
 
-/// Two inputs in pieces of at most this many bytes, a read of one of which fails, have this answer,
-/// and this is written.
+/// Checks the result and the output for two inputs in chunks of at most this many bytes, of one of
+/// which a read fails.
 fn row(
     rt: &(impl Abort + AllocGlobal),
     written: InputForm,
@@ -28,7 +28,7 @@ fn row(
     is(rt, writer.bytes(), text);
 }
 
-/// Two inputs of digits are drawn like this, in pieces of any size.
+/// Checks how two inputs of digits are drawn, in chunks of any size.
 fn drawn(rt: &(impl Abort + AllocGlobal), first: &[u8], second: &[u8], text: &[u8]) {
     for most in [1, 7, 64, 100_000] {
         let (one, two) = (
@@ -64,7 +64,7 @@ fn startups_and_data(rt: HostRuntime) {
     );
 }
 
-/// A NAK stands after the damaged message, and the ACK after what is sent again.
+/// A NAK is drawn after the damaged message, and the ACK after the retransmission.
 #[test]
 fn damaged_data(rt: HostRuntime) {
     drawn(
@@ -84,7 +84,7 @@ fn damaged_data(rt: HostRuntime) {
     );
 }
 
-/// A NAK of reason 3 and an ACK of nothing new stand after a REP.
+/// A NAK of reason 3, and an ACK of nothing new, are drawn after a REP.
 #[test]
 fn asked_by_rep(rt: HostRuntime) {
     drawn(
@@ -106,7 +106,7 @@ fn asked_by_rep(rt: HostRuntime) {
     );
 }
 
-/// Captures that begin in the middle: the data come before what acknowledges them.
+/// Captures that begin in the middle: data are drawn before their acknowledgement.
 #[test]
 fn from_the_middle(rt: HostRuntime) {
     drawn(
@@ -123,7 +123,7 @@ fn from_the_middle(rt: HostRuntime) {
     );
 }
 
-/// Of a message that is missing in one capture the ACK comes at once after later data.
+/// The ACK of a message that is missing in one capture is drawn at once after later data.
 #[test]
 fn a_missing_message(rt: HostRuntime) {
     drawn(
@@ -142,7 +142,7 @@ fn a_missing_message(rt: HostRuntime) {
     );
 }
 
-/// One of both is empty.
+/// One of the captures is empty.
 #[test]
 fn one_is_empty(rt: HostRuntime) {
     drawn(
@@ -156,7 +156,7 @@ fn one_is_empty(rt: HostRuntime) {
     );
 }
 
-/// Both are.
+/// Both captures are empty.
 #[test]
 fn both_are_empty(rt: HostRuntime) {
     drawn(
@@ -169,8 +169,8 @@ fn both_are_empty(rt: HostRuntime) {
     );
 }
 
-/// What comes before a fault is drawn, and all of the other side; of two
-/// faults the first file's is reported.
+/// What comes before a fault is drawn, and all of the other side. Of two faults that of the first
+/// file is reported.
 #[test]
 fn faults(rt: HostRuntime) {
     let (strt, stack) = (b"0506c00000017595", b"0507c00000014855");
@@ -205,7 +205,7 @@ fn faults(rt: HostRuntime) {
     row(&rt, hex, Pieces::of(strt), pieces, &read, drawn);
 }
 
-/// Bytes that no item takes have lines, if they are asked for.
+/// Bytes that belong to no item have lines, if these are requested.
 #[test]
 fn skipped_bytes(rt: HostRuntime) {
     let raw = InputForm::As(Form::Raw);

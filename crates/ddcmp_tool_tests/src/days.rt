@@ -1,5 +1,5 @@
-//! Sessions through days, by a clock of the test's own, which passes the moment at which 32 bits of
-//! milliseconds end: each wakes for its timers, its reports and its end, and never in between.
+//! Sessions over many days, by a clock of the test's own, beyond the overflow of 32 bits of
+//! milliseconds: each wakes for its timers, its reports and its end, and never in between.
 use ddcmp_session::{End, Form, LineKind, Options, Session};
 use ddcmp_station::Config;
 use std::process::Abort;
@@ -13,7 +13,7 @@ const SIXTY: u32 = 60 * DAY;
 
 const SIXTY_MS: u64 = 60 * DAY_MS;
 
-/// When 32 bits of milliseconds end, after 49 days.
+/// When 32 bits of milliseconds overflow, after 49 days.
 const WRAP_MS: u64 = 1 << 32;
 
 /// A reply timer of a minute.
@@ -21,7 +21,7 @@ const MINUTE_MS: u32 = 60_000;
 
 const TIMER_MS: u64 = 60_000;
 
-/// Messages of digits over a connection.
+/// Returns options for messages in digits over a connection.
 fn options(timer_ms: u32, seconds: u32, report: u32) -> Options {
     Options {
         config: Config {
@@ -60,12 +60,13 @@ fn begun(rt: &(impl Abort + AllocGlobal), options: Options) -> Session {
     session
 }
 
-/// Returns whether a moment is a whole number of periods after the beginning.
+/// Returns whether a moment is a whole number of periods after the start.
 fn is_due(now: u64, period_ms: u64) -> bool {
     now > 0 && now.checked_rem(period_ms) == Some(0)
 }
 
-/// Takes what a session has for standard error: whether that is one report. It has nothing else.
+/// Takes what a session writes to standard error; returns whether it is one report. Checks that
+/// there is nothing else.
 fn takes_report(rt: &impl Abort, session: &mut Session) -> bool {
     let told = session.to_errors();
     let n = told.len();
@@ -76,8 +77,9 @@ fn takes_report(rt: &impl Abort, session: &mut Session) -> bool {
     is_report
 }
 
-/// Wakes a session whose peer never answers at each of its moments until it ends: how often it woke
-/// and reported, and when it ended. It sends when its timer expires, and reports in its periods.
+/// Wakes a session whose peer never replies at each of its moments until it ends; returns how often
+/// it woke and reported, and when it ended. It sends when its timer expires, and reports
+/// periodically.
 fn sleeps(rt: &(impl Abort + AllocGlobal), options: Options) -> (u64, u64, u64) {
     let mut session = begun(rt, options);
     let (mut wakes, mut reports, mut now) = (0u64, 0u64, 0u64);
@@ -104,12 +106,12 @@ fn sleeps(rt: &(impl Abort + AllocGlobal), options: Options) -> (u64, u64, u64) 
     (wakes, reports, now)
 }
 
-/// A peer that never answers is asked to start every three seconds, and the run ends in time.
+/// A peer that never replies gets a STRT every three seconds, and the run ends in time.
 #[test]
 fn a_day_of_silence(rt: HostRuntime) {
     assert!(&rt; sleeps(&rt, options(3000, DAY, 0)) == (28_800, 0, DAY_MS));
     assert!(&rt; sleeps(&rt, options(3000, DAY, 3600)) == (28_800, 24, DAY_MS));
-    // Each third report comes together with an expiry.
+    // Every third report coincides with an expiry.
     assert!(&rt; sleeps(&rt, options(3000, DAY, 7)) == (37_028, 12_342, DAY_MS));
 }
 
@@ -118,8 +120,8 @@ fn sixty_days_of_silence(rt: HostRuntime) {
     assert!(&rt; sleeps(&rt, options(MINUTE_MS, SIXTY, DAY)) == (86_400, 60, SIXTY_MS));
 }
 
-/// When a line that never opens is tried for the time of this number, in milliseconds: with pauses
-/// of 1, 2, 4, 8, 16 and from then on 30 seconds.
+/// Returns when the attempt of this number is made to open a line that never opens, in
+/// milliseconds: with pauses of 1, 2, 4, 8, 16 and from then on 30 seconds.
 fn tried_at(number: u64) -> u64 {
     let first = [0u64, 1000, 3000, 7000, 15_000];
     let at = usize::try_from(number).unwrap_or(usize::MAX);
@@ -130,7 +132,7 @@ fn tried_at(number: u64) -> u64 {
         .unwrap_or(later.saturating_add(31_000))
 }
 
-/// A line that never opens is tried at its moments, and reports come meanwhile.
+/// Attempts to open a line that never opens are made at their moments, with reports in between.
 #[test]
 fn sixty_days_without_a_line(rt: HostRuntime) {
     let rt = &rt;
@@ -154,12 +156,12 @@ fn sixty_days_without_a_line(rt: HostRuntime) {
         wakes = wakes.saturating_add(1);
     }
     assert!(rt; (tries, reports, now) == (172_804, 1440, SIXTY_MS));
-    // The last report comes with the end.
+    // The last report coincides with the end.
     assert!(rt; wakes == 172_804 + 1439);
 }
 
-/// Passes what waits for the line to the other end, which writes what it has received: whether
-/// anything moved.
+/// Passes what is pending for the line to the other end, which writes what it has received; returns
+/// whether anything moved.
 fn passes(from: &mut Session, to: &mut Session) -> bool {
     from.fill();
     let used = to.received(from.to_line());
@@ -168,7 +170,7 @@ fn passes(from: &mut Session, to: &mut Session) -> bool {
     used > 0
 }
 
-/// Passes all both ways.
+/// Passes everything both ways.
 fn settles(a: &mut Session, b: &mut Session) {
     for _turn in 0..10_000u32 {
         let there = passes(a, b);
@@ -179,7 +181,7 @@ fn settles(a: &mut Session, b: &mut Session) {
     }
 }
 
-/// Takes what a session has for standard output: how many messages that has.
+/// Takes what a session writes to standard output; returns how many messages that has.
 fn takes_mails(session: &mut Session) -> u64 {
     let told = session.to_output();
     let n = told.len();
@@ -188,7 +190,7 @@ fn takes_mails(session: &mut Session) -> u64 {
     mails as u64
 }
 
-/// Two ends of a line that loses nothing.
+/// Two ends of a line without loss.
 #[derive(Drop)]
 struct Two {
     a: Session,
@@ -208,7 +210,7 @@ impl Two {
         two
     }
 
-    /// It is this moment at both ends: what that has them do passes.
+    /// Wakes both ends at this moment, and passes what they send.
     fn wake(&mut self, now: u64) {
         self.a.handle_timeout(now);
         self.b.handle_timeout(now);
@@ -218,12 +220,12 @@ impl Two {
         self.mails = self.mails.saturating_add(takes_mails(&mut self.b));
     }
 
-    /// The next moment at which one of them wakes.
+    /// Returns the next moment at which one of them wakes.
     fn wakes_at(&self) -> u64 {
         self.a.wakes_at().min(self.b.wakes_at())
     }
 
-    /// Both report at this moment, or neither does.
+    /// Checks that both report at this moment, or neither does.
     fn report_if(&mut self, rt: &impl Abort, is_due: bool) {
         assert!(rt; takes_report(rt, &mut self.a) == is_due);
         assert!(rt; takes_report(rt, &mut self.b) == is_due);
@@ -231,9 +233,9 @@ impl Two {
 }
 
 /// Two ends with a message every six hours wake only for their reports. One message is lost just
-/// before 32 bits of milliseconds end: its timer expires just after that. The last one is
-/// acknowledged, and then its sender ends at once, who has heard no message, and the other one once
-/// it has lingered.
+/// before 32 bits of milliseconds overflow: its timer expires just after that. The last one is
+/// acknowledged; then its sender, which has received no message, ends at once, and the other end
+/// after it has lingered.
 #[test]
 fn sixty_days_of_little_traffic(rt: HostRuntime) {
     let rt = &rt;
@@ -266,7 +268,8 @@ fn sixty_days_of_little_traffic(rt: HostRuntime) {
     assert!(rt; two.mails == sent.saturating_add(1));
 }
 
-/// A message is lost a second before 32 bits of milliseconds end, and its timer mends that.
+/// Loses a message a second before 32 bits of milliseconds overflow; it is retransmitted when its
+/// timer expires.
 fn loses_one(rt: &impl Abort, two: &mut Two) {
     let before = WRAP_MS - 1000;
     assert!(rt; before < two.wakes_at());
@@ -281,7 +284,7 @@ fn loses_one(rt: &impl Abort, two: &mut Two) {
     two.wake(before + TIMER_MS);
 }
 
-/// Both inputs end after a last message.
+/// Ends both inputs after a last message.
 fn ends(rt: &impl Abort, two: &mut Two, now: u64) {
     assert!(rt; two.a.typed(b"64\n") == 3);
     two.wake(now);
@@ -296,7 +299,7 @@ fn ends(rt: &impl Abort, two: &mut Two, now: u64) {
     assert!(rt; two.b.end() == Some(End::Delivered));
 }
 
-/// A peer that refuses a message gets it once in the time of the reply timer.
+/// A message that the peer refuses is retransmitted once in each period of the reply timer.
 #[test]
 fn sixty_days_of_refusals(rt: HostRuntime) {
     let rt = &rt;

@@ -1,10 +1,10 @@
-// What explain makes of inputs whose form it detects, cut in pieces.
+// Explains inputs whose form is detected, in chunks.
 use crate::same::is;
 use ddcmp_explain::{DetectedFault, NotDumped, Notation, Style, explain_detected};
 use ddcmp_frame::failing::{Pieces, Taken};
 use std::process::Abort;
 
-/// An ACK and three bytes of data, raw, as `xxd` writes them, and as logs have them.
+/// An ACK and three bytes of data: raw, as `xxd` writes them, and as in logs.
 const RAW: &[u8] = b"\x05\x01\x00\x00\x00\x01\xfc\x55\x81\x03\x00\x00\x01\x01\x9a\x41abc8\x97";
 
 const DUMP: &[u8] = b"00000000: 0501 0000 0001 fc55 8103 0000 0101 9a41  .......U.......A
@@ -19,13 +19,13 @@ const SAID: &[u8] = b"0 ACK sub=0 q=0 s=0 resp=0 num=0 addr=1
 items=2 bytes=21 open=0
 ";
 
-/// What is written of the ACK and a byte.
+/// The output for the ACK and one more byte.
 const FRAME: &[u8] = b"0 ACK sub=0 q=0 s=0 resp=0 num=0 addr=1
 items=1 bytes=9 open=1
 ";
 
-/// An input in pieces of at most this many bytes, of which a read fails, has this answer, and this
-/// is written.
+/// Checks the result and the output for an input in chunks of at most this many bytes, of which a
+/// read fails.
 fn row(
     rt: &(impl Abort + AllocGlobal),
     input: &[u8],

@@ -1,4 +1,4 @@
-// What a direction hands on and says, against lines that were written by hand.
+// What a direction of a tap forwards and logs, compared with lines written by hand.
 use ddcmp_tap::{Direction, Notation, ROOM, Side};
 use std::process::Abort;
 
@@ -20,7 +20,7 @@ fn direction(rt: &(impl Abort + AllocGlobal), side: Side, notation: Notation) ->
     }
 }
 
-/// Bytes come and are explained.
+/// Has a direction receive and explain bytes.
 fn comes(
     rt: &(impl Abort + AllocGlobal),
     direction: &mut Direction,
@@ -32,12 +32,12 @@ fn comes(
     assert!(rt; direction.explain(stamp).is_ok());
 }
 
-/// Appends what a direction has to say.
+/// Appends the text of a direction.
 fn append(rt: &impl Abort, to: &mut Vec<u8>, made: &Direction) {
     assert!(rt; to.extend_from_slice(made.text()).is_ok());
 }
 
-/// The text of bytes that come in two pieces, and their last line.
+/// Returns the text of bytes that are received in two chunks, and their last line.
 fn said(
     rt: &(impl Abort + AllocGlobal),
     cut: usize,
@@ -58,7 +58,7 @@ fn said(
     text
 }
 
-/// A text has this front and this end.
+/// Checks that a text has this beginning and this end.
 fn is_within(rt: &impl Abort, text: Vec<u8>, front: &[u8], end: &[u8]) {
     assert!(rt; text.as_slice().starts_with(front));
     assert!(rt; text.as_slice().ends_with(end));
@@ -116,13 +116,13 @@ fn ladders_of_both_sides(rt: HostRuntime) {
     assert!(&rt; down.as_slice() == DOWN);
 }
 
-/// A direction has room for this many bytes, and this many are queued.
+/// Checks for how many bytes a direction has room, and how many are queued.
 fn holds(rt: &impl Abort, made: &Direction, room: usize, waiting: usize) {
     assert!(rt; made.room() == room);
     assert!(rt; made.waiting().len() == waiting);
 }
 
-/// So many bytes were forwarded.
+/// Forwards this many bytes.
 fn forwards(rt: &impl Abort, made: &mut Direction, n: usize) {
     assert!(rt; n <= made.waiting().len());
     made.took(n);
@@ -142,7 +142,7 @@ fn room_until_all_is_written(rt: HostRuntime) {
     assert!(&rt; made.has_ended());
 }
 
-/// Every maximum in range has a direction.
+/// There is a direction for every maximum in range.
 #[test]
 fn directions_of_every_maximum(rt: HostRuntime) {
     for max in 1..=16383u16 {

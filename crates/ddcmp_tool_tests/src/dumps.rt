@@ -1,4 +1,4 @@
-// What explain makes of dumps, cut in pieces, against lines that were written by hand.
+// Explains dumps in chunks; compared with lines written by hand.
 use crate::same::is;
 use ddcmp_explain::{DumpFault, NotDumped, Notation, Style, explain_dump};
 use ddcmp_frame::failing::{Pieces, Taken};
@@ -16,7 +16,7 @@ const SAID: &[u8] = b"0 ACK sub=0 q=0 s=0 resp=0 num=0 addr=1
 items=2 bytes=21 open=0
 ";
 
-/// A dump in pieces of at most this many bytes has this answer, and this is written.
+/// Checks the result and the output for a dump in chunks of at most this many bytes.
 fn row(
     rt: &(impl Abort + AllocGlobal),
     input: &[u8],
@@ -54,7 +54,7 @@ fn lines_that_are_none(rt: HostRuntime) {
     }
 }
 
-/// Returns a line of an address of this many digits, and of what comes after it.
+/// Returns a line with an address of this many digits, and then this text.
 fn addressed(rt: &HostRuntime, digits: usize, rest: &[u8]) -> io::Result<Vec<u8>> {
     let mut line = Vec::new(rt.alloc());
     for _ in 0..digits {

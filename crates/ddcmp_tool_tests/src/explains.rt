@@ -1,12 +1,13 @@
-// The text of explain, against worked rows.
+// The output of explain, compared with rows written by hand.
 use crate::same::is;
 use ddcmp_explain::{ExplainFault, Form, Notation, explain, explain_as};
 use ddcmp_frame::failing::{Pieces, Taken};
 use ddcmp_frame::{Sink, Source, Worst};
 use std::process::Abort;
 
-/// What goes in: the input, its form and the most data of a frame; how many bytes a read gives and
-/// a write takes at most; which read fails, which is idle and which write fails, 0 is none.
+/// The parameters of a call: the input, its form and the maximum length of data; how many bytes a
+/// read returns and a write takes at most; and which read fails, which is idle and which write
+/// fails (0 for none).
 #[derive(Clone, Copy)]
 struct Call<'a> {
     input: &'a [u8],
@@ -20,7 +21,7 @@ struct Call<'a> {
 }
 
 impl<'a> Call<'a> {
-    /// A call in large pieces.
+    /// Returns a call with large chunks.
     fn of(input: &'a [u8], form: Form, max: u16) -> Self {
         Call {
             input,
@@ -34,7 +35,7 @@ impl<'a> Call<'a> {
         }
     }
 
-    /// The same in pieces of these lengths.
+    /// Returns the same call with chunks of these sizes.
     fn in_pieces(self, read: usize, write: usize) -> Self {
         Call {
             read,
@@ -44,14 +45,14 @@ impl<'a> Call<'a> {
     }
 }
 
-/// What comes of it.
+/// The result of a call.
 struct ExplainOutcome {
     answer: Result<(), ExplainFault>,
     writer: Taken<256>,
     worst: Worst,
 }
 
-// Manual, since a derived `Drop` is expanded wherever an answer is dropped.
+// Manual, since a derived `Drop` would be expanded wherever a value is dropped.
 impl Drop for ExplainOutcome {
     fn drop(self) {
         let ExplainOutcome {
@@ -81,7 +82,7 @@ fn explains(rt: &(impl Abort + AllocGlobal), call: Call<'_>) -> ExplainOutcome {
     }
 }
 
-/// A call has this answer and writes this.
+/// Checks the result and the output of a call.
 fn tells(
     rt: &(impl Abort + AllocGlobal),
     call: Call<'_>,
@@ -115,7 +116,7 @@ fn explains_as_json(
     (answer, writer)
 }
 
-/// A call has this answer and writes this as JSON, in large pieces and in small ones.
+/// Checks the result and the output as JSON of a call, in large chunks and in small ones.
 fn json_row(
     rt: &(impl Abort + AllocGlobal),
     input: &[u8],
@@ -130,7 +131,7 @@ fn json_row(
     }
 }
 
-/// The same in large pieces, byte by byte, and in small pieces.
+/// Checks the same in large chunks, byte by byte, and in small chunks.
 fn row(
     rt: &(impl Abort + AllocGlobal),
     max: u16,
@@ -207,7 +208,7 @@ fn bad_headers(rt: HostRuntime) {
     );
 }
 
-/// The digits of three hundred start bytes.
+/// Returns the digits of three hundred start bytes.
 fn start_bytes() -> [u8; 600] {
     let mut input = [b'0'; 600];
     for (i, digit) in input.iter_mut().enumerate() {
@@ -231,17 +232,17 @@ fn start_bytes_alone(rt: HostRuntime) {
     );
 }
 
-/// The startup, a byte a read and nine bytes a write.
+/// Returns a call for a startup handshake, with one byte a read and nine bytes a write.
 fn in_small_pieces() -> Call<'static> {
     Call::of(startup(), Form::Hex, 16383).in_pieces(1, 9)
 }
 
-/// Returns whether a call wrote the beginning of the text of the startup, of this length.
+/// Returns whether a call wrote a prefix of the startup's text, of this length.
 fn has_begun(told: &ExplainOutcome, length: usize) -> bool {
     startup_text().get(..length) == Some(told.writer.bytes())
 }
 
-/// A read fails or is idle: how much is written then.
+/// A read fails or is idle: checks how much was written.
 fn is_told_at_a_read(rt: &(impl Abort + AllocGlobal), call: Call<'_>, at: usize) {
     let told = explains(rt, call);
     let length = match at {
@@ -259,8 +260,8 @@ fn is_told_at_a_read(rt: &(impl Abort + AllocGlobal), call: Call<'_>, at: usize)
     }
 }
 
-/// A read fails or is idle: the lines of the items read so far stay. Each read gives one byte, so
-/// the items end at the reads 16 and 40, and the end is read number 41.
+/// A read fails or is idle: the lines of the items read so far are kept. Each read returns one
+/// byte, so the items end at reads 16 and 40, and the input at read 41.
 #[test]
 fn each_read_fails(rt: HostRuntime) {
     let whole = in_small_pieces();
@@ -278,7 +279,7 @@ fn each_read_fails(rt: HostRuntime) {
     }
 }
 
-/// A write fails: how much is written then.
+/// A write fails: checks how much was written.
 fn is_told_at_a_write(rt: &(impl Abort + AllocGlobal), call: Call<'_>, at: usize) {
     let told = explains(rt, call);
     let length = match at {
@@ -295,8 +296,8 @@ fn is_told_at_a_write(rt: &(impl Abort + AllocGlobal), call: Call<'_>, at: usize
     }
 }
 
-/// A write fails: what was written before it stays. Each write takes nine bytes: both lines, of 84,
-/// take ten writes, and the totals, of 24, take three.
+/// A write fails: what was written before is kept. Each write takes nine bytes: both lines, of 84
+/// bytes, take ten writes, and the totals, of 24, take three.
 #[test]
 fn each_write_fails(rt: HostRuntime) {
     let whole = Call::of(startup(), Form::Hex, 16383).in_pieces(usize::MAX, 9);
@@ -326,7 +327,7 @@ fn frames_with_data(rt: HostRuntime) {
     row(&rt, 1500, b"9003c0000001a4906162633897", &Ok(()), text);
 }
 
-/// Damaged data, and headers that can't stand.
+/// Damaged data, and invalid headers.
 #[test]
 fn frames_that_are_refused(rt: HostRuntime) {
     let text = b"0 data check DATA count=3 q=0 s=0 resp=0 num=1 addr=1\nitems=1 bytes=13 open=0\n";
@@ -337,7 +338,7 @@ fn frames_that_are_refused(rt: HostRuntime) {
     row(&rt, 1500, b"81dd05000101329e", &Ok(()), text);
 }
 
-/// A frame of 1501 bytes, and an ACK.
+/// Returns a frame of 1501 bytes, and an ACK.
 fn too_long() -> [u8; 1519] {
     let header = [0x81, 0xDD, 5, 0, 1, 1, 0x32, 0x9E];
     let mut input = [5; 1519];
@@ -350,7 +351,7 @@ fn ack() -> &'static [u8; 8] {
     &[5, 1, 0, 0, 0, 1, 0xFC, 0x55]
 }
 
-/// A too long frame is skipped unchecked, and what follows is read.
+/// A too long frame is skipped without a check of its CRC, and what follows is read.
 #[test]
 fn after_a_too_long_frame(rt: HostRuntime) {
     let input = too_long();
@@ -360,14 +361,14 @@ fn after_a_too_long_frame(rt: HostRuntime) {
     tells(&rt, Call::of(&input, Form::Raw, 1500), &Ok(()), text);
 }
 
-/// Bytes as they are say this.
+/// Checks the output for raw bytes.
 fn raw_row(rt: &(impl Abort + AllocGlobal), input: &[u8], text: &[u8]) {
     let call = Call::of(input, Form::Raw, 16383);
     tells(rt, call, &Ok(()), text);
     tells(rt, call.in_pieces(1, 1), &Ok(()), text);
 }
 
-/// Bytes as they are say the same as their digits.
+/// Raw bytes have the same output as their digits.
 #[test]
 fn raw_input(rt: HostRuntime) {
     raw_row(&rt, ack(), ack_text());
@@ -391,7 +392,7 @@ fn objects_of_json(rt: HostRuntime) {
     json_row(&rt, input, &Err(ExplainFault::Odd), text);
 }
 
-/// A write of JSON fails: what was written before it stays.
+/// A write of JSON fails: what was written before is kept.
 #[test]
 fn a_write_of_json_fails(rt: HostRuntime) {
     let text = b"{\"offset\":0,\"item\":\"header check\"}\n";

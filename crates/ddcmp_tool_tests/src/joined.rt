@@ -1,4 +1,4 @@
-//! Lines in memory that tell what came over them and what they took, for the loop of a bridge.
+//! Lines in memory whose traffic contracts know, for the loop of a bridge.
 ghost use Rattle.std.specs.Prelude.{◌≡◌, ◌≤◌, length, take};
 ghost use Rattle.ddcmp_io.specs.Queue.{after_pushed};
 
@@ -7,7 +7,7 @@ use ddcmp_bridge::{Bridge, Counts, Ended, Fate, Faults, Lines, Needs, Way};
 use ddcmp_io::ByteQueue;
 use std::process::Abort;
 
-/// What each line has to give, and all that moved so far. None of them is ever down.
+/// The bytes that each line returns, and all that was moved so far. No line is ever down.
 #[derive(Drop)]
 struct Joined {
     first: Vec<u8>,
@@ -19,7 +19,7 @@ struct Joined {
     moment: u64,
 }
 
-/// Gives what follows the bytes that were given, some of it at once.
+/// Returns some of the bytes that follow those that were returned.
 fn give(from: &[u8], given: &mut ByteQueue, space: &mut [u8]) -> usize
     ensures fits { result ≤ length space.new }
     ensures given { given.new ≡ after_pushed (take result space.new) given.old }
@@ -31,7 +31,7 @@ fn give(from: &[u8], given: &mut ByteQueue, space: &mut [u8]) -> usize
     n
 }
 
-/// Takes some of what there is room for.
+/// Takes some of the bytes, as far as there is room.
 fn take_some(bytes: &[u8], taken: &mut ByteQueue) -> usize
     ensures fits { result ≤ length bytes.now }
     ensures taken { taken.new ≡ after_pushed (take result bytes.now) taken.old }
@@ -88,7 +88,7 @@ impl Lines for Joined {
     }
 }
 
-/// A STACK, a byte of junk, a data message whose check is wrong, and a good one.
+/// A STACK, a byte of junk, a data message with a wrong CRC, and a good one.
 const CAME: &[u8] = b"\x05\x07\xc0\x00\x00\x01\x48\x55\xff\
 \x81\x03\x00\x00\x01\x01\x9a\x41\x78\x79\x7a\x22\x6b\
 \x81\x03\x00\x00\x01\x01\x9a\x41\x78\x79\x7a\x22\x6a";
@@ -123,7 +123,7 @@ fn counts(frames: u64, skipped: u64, damaged: u64) -> Counts {
     }
 }
 
-/// All good frames of each line come to the other, in pieces, once its time is over.
+/// All good frames of each line arrive at the other, in chunks, before the time is over.
 #[test]
 fn good_frames_come_to_the_other_line(rt: HostRuntime) {
     let mut lines = Joined {

@@ -1,9 +1,9 @@
-//! Tests from outside of what the tools do. Of `ddcmp_explain`: its text at every cut, size and
-//! fault, over streams, of dumps, of logs and of a form that it detects. Of `ddcmp_tap`, which
-//! explains a direction of a line: what that forwards, its room and its text, and two captured
-//! directions as a ladder. Of `ddcmp_bridge`: its loop over lines in memory. Of `ddcmp_session`:
-//! two sessions over bad lines, a session through days, its loop over devices, what these tell it,
-//! and its reports. Of sessions and taps: refused memory.
+//! Tests of the tools from outside. Of `ddcmp_explain`: its output at every cut, size and fault,
+//! over streams, for dumps, logs and detected forms. Of `ddcmp_tap`: what a direction forwards, its
+//! room and its text, and two captured directions as a ladder. Of `ddcmp_bridge`: its loop over
+//! lines in memory. Of `ddcmp_session`: two sessions over bad lines, a session over many days, its
+//! loop over devices, what contracts know of these, and its reports. Of sessions and taps: failing
+//! allocations.
 #![tactic(auto)]
 
 #[cfg(test)]

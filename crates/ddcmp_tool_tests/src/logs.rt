@@ -1,4 +1,4 @@
-// What explain makes of digits as logs have them, cut in pieces.
+// Explains digits as in logs, in chunks.
 use crate::same::is;
 use ddcmp_explain::{ExplainFault, Form, explain};
 use ddcmp_frame::failing::{Pieces, Taken};
@@ -13,7 +13,7 @@ const SAID: &[u8] = b"0 ACK sub=0 q=0 s=0 resp=0 num=0 addr=1
 items=2 bytes=21 open=0
 ";
 
-/// A text in pieces of at most this many bytes has this answer, and this is written.
+/// Checks the result and the output for a text in chunks of at most this many bytes.
 fn row(
     rt: &(impl Abort + AllocGlobal),
     input: &[u8],
@@ -36,7 +36,7 @@ fn logs_at_every_cut(rt: HostRuntime) {
     }
 }
 
-/// A text is refused for the character of this index.
+/// Checks that a text is refused for the character at this index.
 fn refused(rt: &(impl Abort + AllocGlobal), input: &[u8], index: u64) {
     for most in [1, 2, 4096] {
         row(rt, input, most, &Err(ExplainFault::NotHex(index)), b"");

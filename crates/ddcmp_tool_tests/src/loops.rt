@@ -1,4 +1,4 @@
-//! The loop of a session over devices in memory, which give and take what they like at a time.
+//! The loop of a session over devices in memory, which move random numbers of bytes at a time.
 ghost use Rattle.std.specs.Prelude.{◌≤◌, length};
 
 use crate::sessions::{append, messages, options, session};
@@ -25,7 +25,7 @@ impl Way {
         self.bytes.as_slice().get(self.at..).unwrap_or(&[])
     }
 
-    /// Gives some of its bytes to the front of `space`.
+    /// Moves some of its bytes to the front of `space`.
     fn give(&mut self, most: usize, space: &mut [u8]) -> usize
         ensures { result ≤ length space.new }
     {
@@ -46,11 +46,11 @@ impl Way {
     }
 }
 
-/// An end's devices, and the other end of its line, which has its turn in each wait.
+/// The devices of one end, and the other end of its line, which runs in each wait.
 #[derive(Drop)]
 struct Desk {
     draws: Draws,
-    /// One of how many reads finds that the line was closed; 0 is none.
+    /// One of this many reads finds that the line was closed; 0 for none.
     cuts: usize,
     is_open: bool,
     now: u64,
@@ -63,7 +63,7 @@ struct Desk {
     peer_output: Way,
 }
 
-/// Moves this many bytes, or none for one of two reasons.
+/// Returns that this many bytes were moved, or none for one of two reasons.
 fn moved(draws: &mut Draws, n: usize) -> Transfer {
     match draws.below(5) {
         0 => Transfer::Nothing,
@@ -74,7 +74,7 @@ fn moved(draws: &mut Draws, n: usize) -> Transfer {
 }
 
 impl Desk {
-    /// The devices of an end with this input, and the other end with that one.
+    /// Returns the devices of an end with this input, and the other end with that one.
     fn new(
         rt: &(impl Abort + AllocGlobal),
         draws: Draws,
@@ -96,13 +96,13 @@ impl Desk {
         }
     }
 
-    /// Returns what comes of a write of these bytes.
+    /// Returns the result of a write of these bytes.
     fn takes(&mut self, bytes: &[u8]) -> Transfer {
         let n = bytes.len().min(self.draws.below(700));
         moved(&mut self.draws, n)
     }
 
-    /// The other end does what it can.
+    /// Runs the other end.
     fn peer_turn(&mut self) {
         self.peer.handle_timeout(self.now);
         if self.peer_input.rest().is_empty() {
@@ -244,7 +244,7 @@ fn outputs_are_inputs(rt: HostRuntime) {
     }
 }
 
-/// The first message of some bytes with its length, and what follows it.
+/// Returns the first message with its length, and what follows it.
 fn first_message(bytes: &[u8]) -> Option<(&[u8], &[u8])> {
     let (high, low) = (*bytes.first()?, *bytes.get(1)?);
     let end = 2 + u16::from_be_bytes([high, low]) as usize;
@@ -276,8 +276,8 @@ fn missing(read: &[u8], written: &[u8]) -> Option<u64> {
     }
 }
 
-/// A session over one line after the other, each of which may be closed at one of n reads:
-/// what wasn't acknowledged is lost, and all else arrives. Returns how many messages didn't.
+/// A session over one line after another, each of which may be closed at one of n reads: what
+/// wasn't acknowledged is lost, and everything else arrives. Returns how many messages didn't.
 fn exchanges_over_lines(rt: &(impl Abort + AllocGlobal), seed: u64, cuts: usize) -> u64 {
     let mut draws = Draws { state: seed };
     let input = messages(rt, &mut draws, 40);

@@ -1,5 +1,5 @@
-//! One allocation is refused, wherever it comes, to sessions of a link and to taps. Run outside the
-//! gate, with one allocation refused after another; in the gate none is.
+//! One allocation fails, at any point, in sessions of a link and in taps. Outside the gate these
+//! tests are run with one allocation after another failing; in the gate none fails.
 
 mod sessions;
 mod taps;

@@ -1,14 +1,14 @@
-//! What a session reports, by a clock of the test's own: when, at which time of day, and what of
-//! its lines.
+//! The reports of a session, by a clock of the test's own: when they are written, the time of day,
+//! and reports on lines.
 use ddcmp_session::{Down, Form, LineKind, Options, Session};
 use ddcmp_station::Config;
 use std::fmt::InlineText;
 use std::process::Abort;
 
-/// The second 10^9 after 1970, in milliseconds.
+/// 10^9 seconds after 1970, in milliseconds.
 const BEGAN: u64 = 1_000_000_000_000;
 
-/// Messages in digits, a report every second, and the time of day.
+/// Returns options for messages in digits, a report every second, and the time of day.
 fn options(stay: bool) -> Options {
     Options {
         config: Config {
@@ -46,7 +46,7 @@ fn session(rt: &(impl Abort + AllocGlobal), stay: bool) -> Session {
     session_with(rt, options(stay))
 }
 
-/// Carries what an end has for the line.
+/// Carries what is pending for the line of an end.
 fn carry(from: &mut Session, to: &mut Session) {
     from.fill();
     let n = from.to_line().len();
@@ -58,7 +58,7 @@ fn carry(from: &mut Session, to: &mut Session) {
     from.line_took(n);
 }
 
-/// Has a session run on a line, with one at the other end.
+/// Has a session run on a line with another one.
 fn run(rt: &(impl Abort + AllocGlobal), one: &mut Session) {
     let mut other = session(rt, true);
     assert!(rt; one.connected() && other.connected());
@@ -75,7 +75,8 @@ fn running(rt: &(impl Abort + AllocGlobal), stay: bool) -> Session {
     it
 }
 
-/// Takes what waits for standard error: that is one line, which begins and ends so.
+/// Takes what is pending for standard error; checks that it is one line with this beginning and
+/// end.
 fn tells(rt: &impl Abort, session: &mut Session, begins: &str, ends: &str) {
     let waiting = session.to_errors();
     let n = waiting.len();
@@ -102,7 +103,7 @@ fn whole_periods_apart(rt: HostRuntime) {
     tells(&rt, &mut session, "2001-09-09T01:46:43.000Z report ", "\n");
 }
 
-/// The same numbers as text and as an object, each of them whole.
+/// The same numbers as text and as JSON, each of them complete.
 #[test]
 fn forms(rt: HostRuntime) {
     let text = "2001-09-09T01:46:41.250Z report state=Running read=8 written=16 sent=2 \
@@ -175,7 +176,7 @@ fn lines_left_out(rt: HostRuntime) {
     tells(&rt, &mut session, begins, " lines left out\n");
 }
 
-/// Why a line is down is reported if all is delivered only to who stays.
+/// Why a line is down when all is delivered is reported only with `stay`.
 #[test]
 fn lines_down(rt: HostRuntime) {
     for stay in [false, true] {
@@ -191,7 +192,7 @@ fn lines_down(rt: HostRuntime) {
     }
 }
 
-/// After a station that ran a first pause is short again, and else it doubles.
+/// After a station has run the first pause is short again; otherwise pauses double.
 #[test]
 fn pauses(rt: HostRuntime) {
     let mut session = session(&rt, false);

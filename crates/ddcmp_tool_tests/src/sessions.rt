@@ -1,10 +1,11 @@
-//! Two sessions without devices over lines that lose, damage and cut, by a clock of the test's own.
+//! Two sessions without I/O over lines that lose, damage and cut, by a clock of the test's own.
 use ddcmp_session::{End, Form, LineKind, Options, Session};
 use ddcmp_station::Config;
 use std::process::Abort;
 use test_kit::Draws;
 
-/// Messages in binary over a connection, for a day, with a reply timer of three seconds.
+/// Returns options for binary messages over a connection, for a day, with a reply timer of three
+/// seconds.
 pub(crate) fn options(linger_ms: u32, seconds: u32) -> Options {
     Options {
         config: Config {
@@ -38,8 +39,8 @@ pub(crate) fn session(rt: &(impl Abort + AllocGlobal), options: Options) -> Sess
     session
 }
 
-/// One end: its session, its input and how much of that was taken, its output, and the bytes that
-/// are in flight to it.
+/// One end: its session, its input and how much of that was taken, its output, and the bytes in
+/// flight to it.
 #[derive(Drop)]
 struct Side {
     session: Session,
@@ -54,7 +55,7 @@ pub(crate) fn append(rt: &impl Abort, to: &mut Vec<u8>, bytes: &[u8]) {
     assert!(rt; to.extend_from_slice(bytes).is_ok());
 }
 
-/// This many messages of drawn lengths, each after its length.
+/// Returns this many messages of random lengths, each after its length.
 pub(crate) fn messages(rt: &(impl Abort + AllocGlobal), draws: &mut Draws, count: u32) -> Vec<u8> {
     let mut input = Vec::new(rt.alloc());
     for _message in 0..count {
@@ -90,7 +91,7 @@ impl Side {
         self.at = self.at.saturating_add(self.session.typed(piece));
     }
 
-    /// Passes to the session what its line has of it, in a drawn piece.
+    /// Passes received bytes to the session, in a chunk of random size.
     fn hears(&mut self, draws: &mut Draws) {
         let piece = self.line.len().min(draws.below(3000));
         let used = self.session.received(&self.line.as_slice()[..piece]);
@@ -114,7 +115,7 @@ impl Side {
         self.session.output_took(n);
     }
 
-    /// Sends a piece of what waits for the line; what happens to it on the way is drawn.
+    /// Sends a chunk of what is pending for the line, with random faults.
     fn sends(&mut self, rt: &impl Abort, draws: &mut Draws, to: &mut Vec<u8>) {
         self.session.fill();
         let waiting = self.session.to_line();
@@ -134,7 +135,7 @@ impl Side {
         self.session.line_took(n);
     }
 
-    /// Does what an end does between two waits.
+    /// Runs what an end does between two waits.
     fn turn(&mut self, rt: &impl Abort, draws: &mut Draws, now: u64, to: &mut Vec<u8>) {
         self.session.handle_timeout(now);
         self.end = self.session.end();
@@ -148,8 +149,8 @@ impl Side {
 }
 
 /// Two sessions over a line that loses, damages and cuts: both end, and what each wrote is what the
-/// other read. A header whose data are lost takes what comes after it, and then that is
-/// acknowledgements alone, so they linger for an hour.
+/// other read. A header whose data are lost takes the bytes after it as data; as these may be
+/// nothing but acknowledgements in the end, both linger for an hour.
 fn exchanges(rt: &(impl Abort + AllocGlobal), seed: u64) {
     let mut draws = Draws { state: seed };
     let mut a = Side::new(rt, &mut draws, 60);
@@ -176,7 +177,7 @@ fn outputs_are_inputs(rt: HostRuntime) {
     }
 }
 
-/// Has one session receive what the other has for its line.
+/// Has one session receive what is pending for the line of the other.
 fn carries(from: &mut Session, to: &mut Session) {
     for _piece in 0..20u32 {
         from.fill();
@@ -185,7 +186,7 @@ fn carries(from: &mut Session, to: &mut Session) {
     }
 }
 
-/// Has both run.
+/// Starts both.
 fn start(one: &mut Session, other: &mut Session) {
     for _turn in 0..4u32 {
         carries(one, other);
@@ -193,7 +194,7 @@ fn start(one: &mut Session, other: &mut Session) {
     }
 }
 
-/// A session that is connected again counts what it had on a line that was never ended.
+/// A session that is connected again counts what happened on a line that was never ended.
 #[test]
 fn a_line_that_has_not_ended_is_counted(rt: HostRuntime) {
     let mut a = session(&rt, options(0, 86_400));
@@ -206,7 +207,7 @@ fn a_line_that_has_not_ended_is_counted(rt: HostRuntime) {
     assert!(rt; a.lost() == 1);
 }
 
-/// If a received message keeps it from starting, it counts that once it starts.
+/// If a received message keeps it from starting, it counts that when it starts.
 #[test]
 fn a_refused_start_counts_later(rt: HostRuntime) {
     let mut a = session(&rt, options(0, 86_400));

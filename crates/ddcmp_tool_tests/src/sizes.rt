@@ -1,4 +1,4 @@
-// Frames of the most data that a reader takes, and of one byte more.
+// Frames with the maximum length of data that a reader accepts, and with one byte more.
 use crate::same::is;
 use ddcmp_explain::{ExplainFault, Form, Notation, Style, explain, explain_dump};
 use ddcmp_frame::failing::{Pieces, Taken};
@@ -25,7 +25,7 @@ fn is_zeros(digits: Option<&[u8]>) -> bool {
     }
 }
 
-/// Returns whether a text is these bytes, this many digits 0, and these.
+/// Returns whether a text is these bytes, this many digits 0, and these bytes.
 fn is_text(text: &[u8], front: &[u8], zeros: usize, end: &[u8]) -> bool {
     let after = front.len().saturating_add(zeros);
     text.get(..front.len()) == Some(front)
@@ -33,7 +33,8 @@ fn is_text(text: &[u8], front: &[u8], zeros: usize, end: &[u8]) -> bool {
         && text.get(after..) == Some(end)
 }
 
-/// Writes what explain writes of an input in this form: these bytes, this many digits 0, and these.
+/// Checks the output of explain for an input in this form: these bytes, this many digits 0, and
+/// these bytes.
 fn writes(
     rt: &(impl Abort + AllocGlobal),
     input: &[u8],
@@ -47,26 +48,26 @@ fn writes(
     assert!(rt; is_text(writer.bytes(), front, zeros, end));
 }
 
-/// A frame of the most data in bytes. They are zeros, whose check is 0.
+/// Returns a raw frame of the maximum length. Its data are zeros, whose CRC is 0.
 fn raw(header: &[u8; 8]) -> [u8; 16393] {
     let mut bytes = [0; 16393];
     bytes[..8].copy_from_slice(header);
     bytes
 }
 
-/// The same in digits.
+/// Returns the same in digits.
 fn hex(digits: &[u8; 16]) -> [u8; 32786] {
     let mut text = [b'0'; 32786];
     text[..16].copy_from_slice(digits);
     text
 }
 
-/// The first this many bytes.
+/// Returns the first `length` bytes.
 fn front_of(bytes: &[u8], length: usize) -> &[u8] {
     bytes.get(..length).unwrap_or(&[])
 }
 
-/// A frame of this many zeros, which are as many as a frame may have.
+/// Checks a frame of this many zeros, which is the maximum.
 fn fills(
     rt: &(impl Abort + AllocGlobal),
     max: u16,
@@ -81,7 +82,7 @@ fn fills(
     writes(rt, front_of(&hex(digits), 2 * length), Form::Hex, max, text);
 }
 
-/// The largest data fill several pages of output.
+/// The longest data fill several pages of output.
 #[test]
 fn data_up_to_the_maximum(rt: HostRuntime) {
     fills(
@@ -131,7 +132,7 @@ fn data_above_the_maximum(rt: HostRuntime) {
     writes(&rt, &bytes, Form::Raw, 1, (line, 0, end));
 }
 
-/// Nothing, in both forms and of a dump.
+/// Checks an empty input, in both forms and as a dump.
 fn writes_no_item(rt: &(impl Abort + AllocGlobal), max: u16) {
     assert!(rt; 0 < max && max <= 16383);
     let end = b"items=0 bytes=0 open=0\n";
@@ -145,7 +146,7 @@ fn writes_no_item(rt: &(impl Abort + AllocGlobal), max: u16) {
     is(rt, writer.bytes(), end.as_slice());
 }
 
-/// Every maximum in range has a reader, in both forms and of a dump.
+/// There is a reader for every maximum in range, in both forms and for a dump.
 #[test]
 fn nothing_at_every_maximum(rt: HostRuntime) {
     for max in 1..=16383u16 {

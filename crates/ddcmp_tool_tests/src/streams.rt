@@ -1,4 +1,4 @@
-// explain over std's own readers and writers, and what it makes of their faults.
+// explain over readers and writers of std, and how it handles their faults.
 use crate::same::is;
 use ddcmp_explain::{ExplainFault, Form, explain};
 use ddcmp_frame::failing::{Pieces, Taken};
@@ -15,7 +15,7 @@ fn text() -> &'static [u8] {
     b"0 ACK sub=0 q=0 s=0 resp=0 num=0 addr=1\nitems=1 bytes=8 open=0\n"
 }
 
-/// A reader and a writer whose calls have a fault of this kind, or move no byte.
+/// A reader and a writer whose calls fail with an error of this kind, or move no byte.
 #[derive(Drop)]
 struct Faulty(Option<ErrorKind>);
 
@@ -41,7 +41,7 @@ impl Write for Faulty {
     }
 }
 
-/// Returns what explain returns to digits in memory, and writes there.
+/// Returns the result and the output of explain for digits in memory.
 fn explained(alloc: Global) -> (Result<(), ExplainFault>, Vec<u8>) {
     let mut reader = FromRead::new(digits());
     let mut writer = ToWrite::new(Vec::new(alloc));
@@ -56,7 +56,7 @@ fn bytes_in_memory_are_explained(rt: HostRuntime) {
     is(&rt, written.as_slice(), text());
 }
 
-/// Returns what explain returns and writes if a reader has this fault.
+/// Returns the result and the output of explain if a reader has this fault.
 fn read_by(alloc: Global, reader: Faulty) -> (Result<(), ExplainFault>, Taken<64>) {
     let mut reader = FromRead::new(reader);
     let mut writer = Taken::<64>::new();
@@ -64,7 +64,7 @@ fn read_by(alloc: Global, reader: Faulty) -> (Result<(), ExplainFault>, Taken<64
     (answer, writer)
 }
 
-/// Returns what explain returns if a writer has this fault.
+/// Returns the result of explain if a writer has this fault.
 fn written_to(alloc: Global, writer: Faulty) -> Result<(), ExplainFault> {
     let mut reader = Pieces::of(digits());
     let mut writer = ToWrite::new(writer);
@@ -82,8 +82,8 @@ fn is_write_fault(rt: &(impl Abort + AllocGlobal), kind: Option<ErrorKind>) {
     is(rt, answer, Err(ExplainFault::Write));
 }
 
-/// An idle read is a fault here; a reader that gives nothing is at its end, and a writer that takes
-/// nothing has failed.
+/// An idle read is a fault here; a reader that returns nothing is at its end, and a writer that
+/// takes nothing has failed.
 #[test]
 fn faults_of_streams_are_told(rt: HostRuntime) {
     is_read_fault(&rt, ErrorKind::BrokenPipe);

@@ -1,4 +1,4 @@
-//! Devices in memory that tell what they give and take, for the loop of a session.
+//! Devices in memory whose transfers contracts know, for the loop of a session.
 ghost use Rattle.std.specs.Prelude.{◌≡◌, ◌≤◌, length, take};
 ghost use Rattle.ddcmp_io.specs.Queue.{after_pushed};
 
@@ -7,7 +7,7 @@ use ddcmp_io::{ByteQueue, Got};
 use ddcmp_session::{Buffers, Devices, End, Session, Transfer, Wanted};
 use std::process::Abort;
 
-/// The bytes that a device has to give, and all that moved so far. None of them ever fails.
+/// The bytes that a device returns, and all that was moved so far. No device ever fails.
 #[derive(Drop)]
 struct KnownDevices {
     input: Vec<u8>,
@@ -20,7 +20,7 @@ struct KnownDevices {
     moment: u64,
 }
 
-/// Gives what follows the bytes that were given, as far as the log has room.
+/// Returns bytes that follow those that were returned, as far as the log has room.
 fn give(from: &[u8], given: &mut ByteQueue, space: &mut [u8]) -> usize
     ensures fits { result ≤ length space.new }
     ensures given { given.new ≡ after_pushed (take result space.new) given.old }
@@ -32,7 +32,7 @@ fn give(from: &[u8], given: &mut ByteQueue, space: &mut [u8]) -> usize
     n
 }
 
-/// Takes what there is room for.
+/// Takes the bytes for which there is room.
 fn take_some(bytes: &[u8], taken: &mut ByteQueue) -> usize
     ensures { taken.new ≡ after_pushed (take result bytes.now) taken.old }
 {
@@ -126,7 +126,7 @@ fn log(rt: &(impl Abort + AllocGlobal)) -> ByteQueue {
     }
 }
 
-/// All that devices gave and took, once the time of the run is over.
+/// All that devices moved, when the time of the run is over.
 #[test]
 fn devices_tell_what_moved(rt: HostRuntime) {
     let mut told = KnownDevices {

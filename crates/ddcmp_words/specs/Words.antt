@@ -1,4 +1,4 @@
--- The command line, as `clap` reads it.
+-- The command line, as parsed by `clap`.
 use Rattle.std.specs.Prelude.{◌∷◌, ℕ, pos, unwrap_or, if◌then◌else◌, ◌≡◌, ◌≢◌, ◌⊎◌, ◌≤◌, Bool, true}
 use Rattle.std.specs.Prelude.{false, List, [], codes, decimal, Option, Some, None, Result, Ok, Err}
 use Rattle.std.specs.Prelude.{⊤}
@@ -40,11 +40,11 @@ use Rattle.clap.specs.Words.{one_of, subcommand_of, takes, with_rule, with_subco
 use Rattle.clap.specs.declared.builder.ArgAction.TheVariants.{SetTrue}
 use Rattle.clap.specs.declared.builder.value_parser.ValueParser.TheVariants.{Signed}
 
--- an option that stands alone
+-- a flag: an option without a value
 abbrev pub flag_rule : Text → Rule
 flag_rule name = record (new_rule name) { long = Some name; action = Some SetTrue }
 
--- an option that takes a number in a range
+-- an option whose value is a number in a range
 abbrev pub number_rule : Text → ℕ → ℕ → Rule
 number_rule name low high = record (new_rule name) {
   long = Some name;
@@ -52,15 +52,15 @@ number_rule name low high = record (new_rule name) {
   parser = Some (Signed (pos low) (pos high));
 }
 
--- an option that takes a text
+-- an option whose value is a text
 abbrev pub text_rule : Text → Rule
 text_rule name = record (new_rule name) { long = Some name; value_names = 1 }
 
--- a word that stands for itself, after no name
+-- a positional argument
 abbrev pub place_rule : Text → Rule
 place_rule name = record (new_rule name) { value_names = 1 }
 
--- an option that can't be left out
+-- an option that is required
 abbrev pub required : Rule → Rule
 required rule = record rule { required = true }
 
@@ -78,7 +78,7 @@ explain_app =
     (flag_rule (codes "ladder")))
     (number_rule (codes "max") 1 MAX_COUNT)
 
--- the sizes of both ends, and whether they restart by themselves
+-- the options of both stations: sizes, and whether they restart by themselves
 abbrev pub with_sizes : App → App
 with_sizes app =
     with_rule (with_rule (with_rule (with_rule (with_rule app
@@ -88,7 +88,7 @@ with_sizes app =
     (number_rule (codes "syn") 0 MAX_SYN))
     (flag_rule (codes "restart"))
 
--- how a run is shown
+-- the options for the output of a run
 abbrev pub with_view : App → App
 with_view app =
     with_rule (with_rule (with_rule app
@@ -96,7 +96,7 @@ with_view app =
     (flag_rule (codes "ladder")))
     (flag_rule (codes "counters"))
 
--- the file of a script, and whether it begins with a pair that is up
+-- the file of a script, and whether it begins with both stations started
 abbrev pub with_script : App → App
 with_script app =
     with_rule (with_rule app (place_rule (codes "file"))) (flag_rule (codes "begun"))
@@ -134,7 +134,7 @@ tap_app =
     (flag_rule (codes "time")))
     (number_rule (codes "max") 1 MAX_COUNT)
 
--- `ddcmp link`: its line, the sizes of its station, and how it goes on
+-- `ddcmp link`: its line, the sizes of its station, and how it runs
 abbrev pub line_app : App
 line_app = with_rule (new_app (codes "link")) (required (text_rule (codes "line")))
 
@@ -175,7 +175,7 @@ bridge_app =
     (text_rule (codes "save-first")))
     (text_rule (codes "save-second"))
 
--- `ddcmp`, which wants a command
+-- `ddcmp`, which requires a command
 abbrev pub bare_app : App
 bare_app =
     let a = new_app (codes "ddcmp") in
@@ -188,7 +188,7 @@ program =
     (script_app (codes "pair")).top)
     station_app.top) tap_app.top) link_app.top) bridge_app.top
 
--- the word that names a command
+-- the name of a command
 abbrev pub name_of : Command → Text
 name_of (Explain explained) = codes "explain"
 name_of (Simulate scripted) = codes "simulate"
@@ -204,64 +204,64 @@ IsName name =
     ⊎ (name ≡ codes "station") ⊎ (name ≡ codes "tap") ⊎ (name ≡ codes "link")
     ⊎ (name ≡ codes "bridge")
 
--- the command that the words name
+-- the command that the arguments name
 unfoldable pub named_by : List Text → Option Text
 named_by words = option_map (λ named. named.0) (subcommand_of program words)
 
--- the words are in order, and name this command
+-- The arguments are valid, and name this command.
 pub record IsAsked (words : List Text) (name : Text) : Type 0 where
   pub in_order : takes program words ≡ true
   pub names : named_by words ≡ Some name
 
--- the text of an option, as the words give it to the command that they name
+-- the text of an option, as given to the command or by default
 unfoldable pub option_in : List Text → Text → Option Text
 option_in words id = option_and_then (λ named. one_of id named.1) (subcommand_of program words)
 
--- the text of an option that is taken as it was written
+-- the text of an option whose value is used as it was written
 unfoldable pub text_in : List Text → Text → Option Text
 text_in words id = option_and_then (λ named. first_of id named.1) (subcommand_of program words)
 
--- An option of a command is off unless its word comes after the name of the command.
+-- A flag of a command is off unless its word follows the name of the command.
 abbrev pub IsSwitch : Text → Text → Text → Type 0
 IsSwitch command word id =
     (option_in (codes "ddcmp" ∷ command ∷ []) id ≡ Some (codes "false"))
     × (option_in (codes "ddcmp" ∷ command ∷ word ∷ []) id ≡ Some (codes "true"))
 
--- bytes as they are where `--raw` was given, else digits
+-- raw bytes if `--raw` is given, else digits
 pub record HasForm (raw : Option Text) (form : Form) : Type 0 where
   pub given : raw ≡ Some (codes "true") → form ≡ Raw
   pub left_out : raw ≡ Some (codes "false") → form ≡ Hex
   pub absent : raw ≡ None → form ≡ Hex
 
--- objects of JSON where `--json` was given, else words
+-- JSON if `--json` is given, else plain text
 pub record HasNotation (json : Option Text) (notation : Notation) : Type 0 where
   pub given : json ≡ Some (codes "true") → notation ≡ Json
   pub left_out : json ≡ Some (codes "false") → notation ≡ Plain
   pub absent : json ≡ None → notation ≡ Plain
 
--- whether an option that stands alone was given
+-- whether a flag is given
 pub record HasFlag (text : Option Text) (is_given : Bool) : Type 0 where
   pub given : text ≡ Some (codes "true") → is_given ≡ true
   pub left_out : text ≡ Some (codes "false") → is_given ≡ false
   pub absent : text ≡ None → is_given ≡ false
 
--- how lines are written, and whether bytes that no item takes have lines
+-- the notation, and whether bytes that belong to no item have lines
 pub record HasStyle (option : Text → Option Text) (style : Style) : Type 0 where
   pub notation : HasNotation (option (codes "json")) style.notation
   pub discarded : HasFlag (option (codes "discarded")) style.discarded
 
--- the name of the file that is read; none for standard input, as for the word `-`
+-- the name of the file to read; none for standard input, which is also named by `-`
 abbrev pub file_of : Option Text → Option Text
 file_of None = None
 file_of (Some word) = if bytes_eq word (codes "-") then None else Some word
 
--- a number in its range: the one that was given, else the default
+-- a number in its range: the given one, or else the default
 pub record HasNumber (low high otherwise : ℕ) (text : Option Text) (n : ℕ) : Type 0 where
   pub in_range : (low ≤ n) × (n ≤ high)
   pub given : (m : ℕ) → text ≡ Some (decimal m) → (low ≤ m) × (m ≤ high) → n ≡ m
   pub absent : text ≡ None → n ≡ otherwise
 
--- the options of both ends, which have so many SYN bytes before each frame where none says how many
+-- The options of both stations. `default_syn` is the default for SYN bytes before each frame.
 pub record HasSizes (default_syn : ℕ) (option : Text → Option Text) (config : Config) : Type 0 where
   pub window : HasNumber 1 MAX_WINDOW 7 (option (codes "window")) config.window
   pub inbox : HasNumber 1 MAX_INBOX 8 (option (codes "inbox")) config.inbox
@@ -269,7 +269,7 @@ pub record HasSizes (default_syn : ℕ) (option : Text → Option Text) (config 
   pub syn : HasNumber 0 MAX_SYN default_syn (option (codes "syn")) config.syn
   pub restart : HasFlag (option (codes "restart")) config.restart
 
--- The options of what is explained. The word for what it comes from is kept as it was written.
+-- The options of `explain`. The value of `--from` is used as it was written.
 pub record HasExplain (option text : Text → Option Text) (explained : ExplainArgs) : Type 0 where
   pub form : HasForm (option (codes "raw")) explained.form
   pub from : option_map (λ word. word.now) explained.from ≡ text (codes "from")
@@ -279,27 +279,27 @@ pub record HasExplain (option text : Text → Option Text) (explained : ExplainA
   pub second : option_map (λ name. name.now) explained.second ≡ file_of (text (codes "second"))
   pub ladder : HasFlag (option (codes "ladder")) explained.ladder
 
--- how a run is shown
+-- the options for the output of a run
 pub record HasView (option : Text → Option Text) (view : View) : Type 0 where
   pub svg : HasFlag (option (codes "svg")) view.svg
   pub ladder : HasFlag (option (codes "ladder")) view.ladder
   pub counters : HasFlag (option (codes "counters")) view.counters
 
--- The options of a script that is run.
+-- The options of a script.
 pub record HasScript (option text : Text → Option Text) (scripted : ScriptArgs) : Type 0 where
   pub config : HasSizes 0 option scripted.from.config
   pub begun : HasFlag (option (codes "begun")) scripted.from.begun
   pub view : HasView option scripted.view
   pub file : option_map (λ name. name.now) scripted.file ≡ file_of (text (codes "file"))
 
--- who opens the connection, by its word
+-- whether the station connects or listens, by its name
 abbrev pub role_of : Text → Option Role
 role_of word =
     if bytes_eq word (codes "connect") then Some Connect
     else if bytes_eq word (codes "listen") then Some Listen
     else None
 
--- The options of a station over a connection. Those that can't be left out are always there.
+-- The options of `station`. The required ones are always there.
 pub record HasStation (option text : Text → Option Text) (served : StationArgs) : Type 0 where
   pub role : served.role ≡ role_of (unwrap_or (text (codes "role")) [])
   pub addr : served.addr.now ≡ unwrap_or (text (codes "addr")) []
@@ -319,17 +319,17 @@ pub record HasTap (option text : Text → Option Text) (tapped : TapArgs) : Type
   pub time : HasFlag (option (codes "time")) tapped.time
   pub max : HasNumber 1 MAX_COUNT MAX_COUNT (option (codes "max")) tapped.max
 
--- how many SYN bytes a line has before each frame, where no option says how many
+-- the default for SYN bytes before each frame, by the name of the line
 abbrev pub default_syn_of : Text → ℕ
 default_syn_of line = if starts_with eqb line (codes "device:") then 4 else 0
 
--- messages as bytes after their length where `--binary` was given, else as digits
+-- messages in binary, each after its length, if `--binary` is given, else as digits
 pub record HasMessages (binary : Option Text) (form : MessageForm) : Type 0 where
   pub given : binary ≡ Some (codes "true") → form ≡ Binary
   pub left_out : binary ≡ Some (codes "false") → form ≡ Digits
   pub absent : binary ≡ None → form ≡ Digits
 
--- how a link runs over a line of this name
+-- the options of a link over a line of this name
 pub record HasLinkOptions (line : Text) (option : Text → Option Text) (options : Options)
     : Type 0 where
   pub sizes : HasSizes (default_syn_of line) option options.config
@@ -358,7 +358,7 @@ pub record HasFaults (option : Text → Option Text) (faults : Faults) : Type 0 
   pub damage : HasNumber 0 100 0 (option (codes "damage")) faults.damage
   pub seed : HasNumber 0 MOST 1 (option (codes "seed")) faults.seed
 
--- The words of a bridge. Its lines are always there.
+-- The arguments of a bridge. Its lines are always there.
 pub record HasBridge (option text : Text → Option Text) (bridged : BridgeArgs) : Type 0 where
   pub first : bridged.first.now ≡ unwrap_or (text (codes "first")) []
   pub second : bridged.second.now ≡ unwrap_or (text (codes "second")) []
@@ -373,7 +373,7 @@ pub record HasBridge (option text : Text → Option Text) (bridged : BridgeArgs)
   pub save_second :
       option_map (λ name. name.now) bridged.save_second ≡ text (codes "save-second")
 
--- a command with the options that were given: as they are read, and as they were written
+-- a command with its options: `option` has their values as parsed, `text` as written
 abbrev pub HasOptions : (option text : Text → Option Text) → Command → Type 0
 HasOptions option text (Explain explained) = HasExplain option text explained
 HasOptions option text (Simulate scripted) = HasScript option text scripted
@@ -383,32 +383,32 @@ HasOptions option text (Tap tapped) = HasTap option text tapped
 HasOptions option text (Link linked) = HasLink option text linked
 HasOptions option text (Bridge bridged) = HasBridge option text bridged
 
--- the words ask for this command, and clap finds no fault with them
+-- The arguments ask for this command, and are valid for clap.
 abbrev pub Asks : List Text → Text → Type 0
 Asks words name = (fault_of program words ≡ []) × (named_by words ≡ Some name)
 
--- the words are out of order, and ask for no help
+-- The arguments are invalid, and don't ask for help or the version.
 pub record IsOutOfOrder (words : List Text) : Type 0 where
   pub some : fault_of program words ≢ []
   pub no_help : ¬ IsAmong DisplayHelp (fault_of program words)
   pub no_version : ¬ IsAmong DisplayVersion (fault_of program words)
 
--- how words are declined for an error of this kind; for want of memory for any
+-- why no command is run after an error of this kind of clap; an allocation may fail at any
 abbrev pub Declines : ErrorKind → NoCommand → Type 0
 Declines kind (Help text) = kind ≡ DisplayHelp
 Declines kind (Version text) = kind ≡ DisplayVersion
 Declines kind (Usage text) = (kind ≢ DisplayHelp) × (kind ≢ DisplayVersion) × (kind ≢ OutOfMemory)
 Declines kind Memory = ⊤
 
--- a mistake in the words, as clap finds it
+-- a usage error, as reported by clap
 abbrev pub IsMistaken : List Text → Type 0
 IsMistaken words =
     (kind : ErrorKind) × IsAmong kind (fault_of program words)
     × (kind ≢ DisplayHelp) × (kind ≢ DisplayVersion)
 
--- What words ask for: where clap finds no fault the command that they name, with its options, and
--- else help, the version or usage as its kinds of error are. For want of memory any words
--- are declined.
+-- What arguments ask for: if clap finds no error, the command that they name, with its options;
+-- else help, the version or a usage error, by the kind of clap's error. If an allocation fails, no
+-- command is run, whatever the arguments.
 abbrev pub Reads : List Text → Result Command NoCommand → Type 0
 Reads words (Ok command) =
     (fault_of program words ≡ []) × (named_by words ≡ Some (name_of command))

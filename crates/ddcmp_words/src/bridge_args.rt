@@ -11,7 +11,7 @@ use ddcmp_bridge::Faults;
 use ddcmp_explain::Notation;
 use std::alloc::Global;
 
-/// A bridge between two lines, as the arguments give it.
+/// The arguments of a bridge between two lines.
 #[derive(Clone, Copy, Debug)]
 pub struct BridgeArgs<'a> {
     /// The name of a line, such as `connect:127.0.0.1:7000`.
@@ -20,20 +20,20 @@ pub struct BridgeArgs<'a> {
     /// After how many seconds it ends, if no line has ended before.
     pub seconds: u32,
     pub faults: Faults,
-    /// How many milliseconds each frame is held back.
+    /// By how many milliseconds each frame is delayed.
     pub delay: u32,
-    /// Whether the frames that come are printed.
+    /// Whether received frames are printed.
     pub trace: bool,
     /// Whether they are drawn as a ladder.
     pub ladder: bool,
-    /// Whether they are printed as JSON. Beside a ladder they aren't.
+    /// The notation in which they are printed. It can't be JSON with a ladder.
     pub notation: Notation,
-    /// The files that what comes over each line is saved in, if it is.
+    /// The files to save the bytes received over each line in, if any.
     pub save_first: Option<&'a str>,
     pub save_second: Option<&'a str>,
 }
 
-/// `bridge`, with what it reads and writes.
+/// `bridge`, with its description and help.
 static BRIDGE: CommandText = CommandText {
     name: "bridge",
     about: "Pass the good frames of each of two lines on to the other",
@@ -138,14 +138,14 @@ static BRIDGE_OPTIONS: [CommandOption; 12] = [
     },
 ];
 
-/// `bridge` with its options.
+/// Returns the parser of `bridge` with its options.
 pub(crate) fn bridge_parser<'a>(alloc: Global) -> Parser<'a>
     ensures { Makes result bridge_app }
 {
     Parser::begin(alloc, &BRIDGE).with(&BRIDGE_OPTIONS)
 }
 
-/// The bridge that was asked for.
+/// Returns the arguments of `bridge`.
 pub(crate) fn bridge_given<'a>(options: &ArgMatches<'a>) -> BridgeArgs<'a>
     ensures { HasBridge (one_text (found_of options.now)) (first_value (found_of options.now))
         result }

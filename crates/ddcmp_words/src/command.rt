@@ -34,21 +34,21 @@ use std::alloc::Global;
 pub enum Command<'a> {
     /// Explain an input.
     Explain(ExplainArgs<'a>),
-    /// Run a script between two ends.
+    /// Run a script between two simulated stations.
     Simulate(ScriptArgs<'a>),
-    /// The same, and the bytes that pass go over a TCP connection.
+    /// The same, with the bytes carried over a TCP connection.
     Pair(ScriptArgs<'a>),
     /// Drive a station over a connection.
     Station(StationArgs<'a>),
-    /// Stand between two ends of a line over TCP.
+    /// Log the traffic between two ends of a line over TCP.
     Tap(TapArgs<'a>),
     /// Run a station over a line, with messages on standard input and output.
     Link(LinkArgs<'a>),
-    /// Stand between two lines, and pass good frames on.
+    /// Pass good frames on between two lines.
     Bridge(BridgeArgs<'a>),
 }
 
-/// `explain`, with what stands in a ladder of captures.
+/// `explain`, with its description and help.
 static EXPLAIN: CommandText = CommandText {
     name: "explain",
     about: "Decode captured bytes of a line",
@@ -113,14 +113,14 @@ static EXPLAIN_OPTIONS: [CommandOption; 8] = [
     },
 ];
 
-/// `explain` with its options.
+/// Returns the parser of `explain` with its options.
 fn explain_parser<'a>(alloc: Global) -> Parser<'a>
     ensures { Makes result explain_app }
 {
     Parser::begin(alloc, &EXPLAIN).with(&EXPLAIN_OPTIONS)
 }
 
-/// The options of two ends.
+/// The options of both stations.
 pub(crate) static SIZE_OPTIONS: [CommandOption; 5] = [
     CommandOption {
         name: "window",
@@ -166,7 +166,7 @@ pub(crate) static SIZE_OPTIONS: [CommandOption; 5] = [
     },
 ];
 
-/// How a run is shown.
+/// The options for the output of a run.
 static VIEW_OPTIONS: [CommandOption; 3] = [
     CommandOption {
         name: "svg",
@@ -188,7 +188,7 @@ static VIEW_OPTIONS: [CommandOption; 3] = [
     },
 ];
 
-/// The lines of a script, for a newcomer.
+/// The help on the lines of a script.
 const SCRIPT_HELP: &str = "\
 Lines of a script (E is A or B):
   start E        start station E
@@ -222,7 +222,7 @@ static PAIR: CommandText = CommandText {
     help: SCRIPT_HELP,
 };
 
-/// Where a script is read, and where it begins.
+/// The options for the file of a script and its start.
 static SCRIPT_OPTIONS: [CommandOption; 2] = [
     CommandOption {
         name: "file",
@@ -238,7 +238,7 @@ static SCRIPT_OPTIONS: [CommandOption; 2] = [
     },
 ];
 
-/// A command that runs a script, with its options.
+/// Returns the parser of a command that runs a script, with its options.
 fn script_parser<'a>(alloc: Global, named: &CommandText) -> Parser<'a>
     ensures { Makes result (script_app named.now.name.now) }
 {
@@ -300,14 +300,14 @@ static STATION_OPTIONS: [CommandOption; 7] = [
     },
 ];
 
-/// `station` with its options.
+/// Returns the parser of `station` with its options.
 fn station_parser<'a>(alloc: Global) -> Parser<'a>
     ensures { Makes result station_app }
 {
     Parser::begin(alloc, &STATION).with(&STATION_OPTIONS)
 }
 
-/// `station`, with what it writes.
+/// `station`, with its description and help.
 static STATION: CommandText = CommandText {
     name: "station",
     about: "Run one station over TCP for a number of turns",
@@ -318,7 +318,7 @@ Output, as it happens:
   turns=T state=S read=R written=W   at the end: turns made, bytes read and written",
 };
 
-/// `ddcmp` without its commands.
+/// Returns `ddcmp` without its commands.
 fn program_command<'a>(alloc: Global) -> clap::Command<'a>
     ensures app { app_of result ≡ bare_app }
     ensures local { (fields_of result).has_globals ≡ false }
@@ -342,7 +342,7 @@ fn program_parser<'a>(alloc: Global) -> Parser<'a>
         .subcommand(bridge_parser(alloc))
 }
 
-/// A usage error as this crate reports it.
+/// Converts an error of clap.
 fn decline(alloc: Global, error: &Error) -> NoCommand
     ensures { Declines (kind_of error.now) result }
 {
@@ -357,7 +357,7 @@ fn decline(alloc: Global, error: &Error) -> NoCommand
     }
 }
 
-/// Bytes as they are, or digits.
+/// Returns the form of the input: raw bytes if `--raw` is given, else digits.
 fn form_given(options: &ArgMatches<'_>) -> Form
     ensures { HasForm (one_text (found_of options.now) (codes "raw")) result }
 {
@@ -368,7 +368,7 @@ fn form_given(options: &ArgMatches<'_>) -> Form
     }
 }
 
-/// Objects of JSON, or words.
+/// Returns the notation: JSON if `--json` is given, else plain text.
 pub(crate) fn notation_given(options: &ArgMatches<'_>) -> Notation
     ensures { HasNotation (one_text (found_of options.now) (codes "json")) result }
 {
@@ -379,7 +379,7 @@ pub(crate) fn notation_given(options: &ArgMatches<'_>) -> Notation
     }
 }
 
-/// Returns how lines are written, and of what.
+/// Returns the style of the output.
 fn style_given(options: &ArgMatches<'_>) -> Style
     ensures { HasStyle (one_text (found_of options.now)) result }
 {
@@ -389,14 +389,14 @@ fn style_given(options: &ArgMatches<'_>) -> Style
     }
 }
 
-/// Returns whether an option that stands alone was given.
+/// Returns whether a flag is given.
 pub(crate) fn flag_given(options: &ArgMatches<'_>, name: &str) -> bool
     ensures { HasFlag (one_text (found_of options.now) name.now) result }
 {
     options.get_flag(name)
 }
 
-/// A number that was given, or the default. The parser of the words has tested the range.
+/// Returns a number that is given, or the default. The parser has checked its range.
 pub(crate) fn number_given(
     options: &ArgMatches<'_>,
     name: &str,
@@ -426,7 +426,7 @@ fn is_within(low: u32, number: u32, high: u32) -> bool
     low <= number && number <= high
 }
 
-/// The options of `explain`, as they were given or as they are without.
+/// Returns the arguments of `explain`, with defaults.
 fn explain_given<'a>(options: &ArgMatches<'a>) -> ExplainArgs<'a>
     ensures { HasExplain (one_text (found_of options.now)) (first_value (found_of options.now))
         result }
@@ -442,7 +442,7 @@ fn explain_given<'a>(options: &ArgMatches<'a>) -> ExplainArgs<'a>
     }
 }
 
-/// The name of a file that is to be read; none for standard input.
+/// Returns the name of the file to read; none for standard input.
 fn file_given<'a>(options: &ArgMatches<'a>, place: &str) -> Option<&'a str>
     ensures { option_map (λ name. name.now) result
         ≡ file_of (first_value (found_of options.now) place.now) }
@@ -453,8 +453,8 @@ fn file_given<'a>(options: &ArgMatches<'a>, place: &str) -> Option<&'a str>
     }
 }
 
-/// The sizes of both ends, as they were given or as they are without; `default_syn` SYN bytes stand
-/// before each frame then.
+/// Returns the sizes of both stations, with defaults; `default_syn` is that for SYN bytes before
+/// each frame.
 pub(crate) fn sizes_given(options: &ArgMatches<'_>, default_syn: u8) -> Config
     requires { default_syn ≤ MAX_SYN }
     ensures { HasSizes default_syn (one_text (found_of options.now)) result }
@@ -474,7 +474,7 @@ pub(crate) fn sizes_given(options: &ArgMatches<'_>, default_syn: u8) -> Config
     }
 }
 
-/// Returns how the run is to be shown.
+/// Returns the options for the output of a run.
 fn view_given(options: &ArgMatches<'_>) -> View
     ensures { HasView (one_text (found_of options.now)) result }
 {
@@ -485,7 +485,7 @@ fn view_given(options: &ArgMatches<'_>) -> View
     }
 }
 
-/// The script that was asked for, and how it is run.
+/// Returns the arguments of a script.
 fn script_given<'a>(options: &ArgMatches<'a>) -> ScriptArgs<'a>
     ensures { HasScript (one_text (found_of options.now)) (first_value (found_of options.now))
         result }
@@ -501,14 +501,14 @@ fn script_given<'a>(options: &ArgMatches<'a>) -> ScriptArgs<'a>
     }
 }
 
-/// A text that was given; the empty one if none was.
+/// Returns a text that is given; the empty one if none is.
 pub(crate) fn text_given<'a>(options: &ArgMatches<'a>, name: &str) -> &'a str
     ensures { result.now ≡ unwrap_or (first_value (found_of options.now) name.now) [] }
 {
     options.get_str(name).unwrap_or("")
 }
 
-/// The role of this name.
+/// Returns the role of this name.
 fn role_named(name: &str) -> Option<Role>
     ensures { result ≡ role_of name.now }
 {
@@ -521,7 +521,7 @@ fn role_named(name: &str) -> Option<Role>
     }
 }
 
-/// The station that was asked for.
+/// Returns the arguments of `station`.
 fn station_given<'a>(options: &ArgMatches<'a>) -> StationArgs<'a>
     ensures { HasStation (one_text (found_of options.now)) (first_value (found_of options.now))
         result }
@@ -539,7 +539,7 @@ fn station_given<'a>(options: &ArgMatches<'a>) -> StationArgs<'a>
     }
 }
 
-/// The command of words that are in order.
+/// Returns the command of valid arguments.
 fn asked<'a>(matches: &ArgMatches<'a>) -> Option<Command<'a>>
     ensures named { IfSome result (λ command. subcommand_name_of matches.now
         ≡ Some (name_of command)) }
@@ -572,12 +572,12 @@ fn asked<'a>(matches: &ArgMatches<'a>) -> Option<Command<'a>>
     Some(Command::Bridge(bridge_given(options)))
 }
 
-/// Reads the words of a command line, of which the first is the program's name.
+/// Parses a command line, whose first argument is the program's name.
 pub fn read_words<'a>(alloc: Global, words: &'a [&'a str]) -> Result<Command<'a>, NoCommand>
     ensures asked { (name : List ℕ) → IsName name
         → IsAsked (map (λ word. word.now) words.entry.now) name
         → IsOk result ⊎ (result ≡ Err NoCommand.Memory) }
-    // What the arguments ask for, whatever they are.
+    // Whatever the arguments: what they ask for.
     ensures reads { Reads (map (λ word. word.now) words.entry.now) result }
 {
     let command = match program_parser(alloc).made() {

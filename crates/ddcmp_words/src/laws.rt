@@ -5,9 +5,9 @@ ghost use Rattle.ddcmp_words.specs.Words.{IsAsked, IsSwitch, option_in, text_in,
 
 use clap::error::ErrorKind as WordsFault;
 
-/// The words `ddcmp explain` ask for the command that explains, without its options; the names of
+/// The words `ddcmp explain` ask for the command that explains, without its options. The names of
 /// one file and of two, `--raw`, `--from hexdump`, `--json`, `--discarded`, `--ladder` and `--max
-/// 1500` are read. `ddcmp --help` asks for help, and `ddcmp --version` for the version.
+/// 1500` are accepted. `ddcmp --help` asks for help, and `ddcmp --version` for the version.
 pub fn explain_is_asked()
     ensures plain { IsAsked (codes "ddcmp" ∷ codes "explain" ∷ []) (codes "explain") }
     ensures no_maximum { option_in (codes "ddcmp" ∷ codes "explain" ∷ []) (codes "max") ≡ None }
@@ -36,9 +36,9 @@ pub fn explain_is_asked()
         ≡ WordsFault.DisplayVersion ∷ [] }
 {}
 
-/// The words `ddcmp simulate` ask for the command that runs a script, without its options;
-/// the name of a file, `--begun`, `--window 255`, `--syn=16`, `--restart`, `--svg`, `--ladder` and
-/// `--counters` are read.
+/// The words `ddcmp simulate` ask for the command that runs a script, without its options. The name
+/// of a file, `--begun`, `--window 255`, `--syn=16`, `--restart`, `--svg`, `--ladder` and
+/// `--counters` are accepted.
 pub fn simulate_is_asked()
     ensures plain { IsAsked (codes "ddcmp" ∷ codes "simulate" ∷ []) (codes "simulate") }
     ensures no_window { option_in (codes "ddcmp" ∷ codes "simulate" ∷ []) (codes "window") ≡ None }
@@ -76,8 +76,8 @@ pub fn pair_is_asked()
         (codes "file") ≡ Some (codes "a.txt") }
 {}
 
-/// The words `ddcmp station` with the four options that can't be left out ask for the command that
-/// drives a station; the message to send is read as it was written.
+/// The words `ddcmp station` with the four required options ask for the command that drives a
+/// station; the message to send is used as it was written.
 pub fn station_is_asked()
     ensures plain { IsAsked (codes "ddcmp" ∷ codes "station" ∷ codes "--role" ∷ codes "listen"
         ∷ codes "--addr=127.0.0.1:7000" ∷ codes "--turns" ∷ codes "0" ∷ codes "--timer-ms"
@@ -92,8 +92,8 @@ pub fn station_is_asked()
     ensures incomplete { takes program (codes "ddcmp" ∷ codes "station" ∷ []) ≡ false }
 {}
 
-/// The words `ddcmp tap` with the two addresses ask for the command that is between two ends
-/// of a line; the addresses are read as they were written.
+/// The words `ddcmp tap` with the two addresses ask for the command that logs between two ends of a
+/// line; the addresses are used as they were written.
 pub fn tap_is_asked()
     ensures plain { IsAsked (codes "ddcmp" ∷ codes "tap" ∷ codes "--listen"
         ∷ codes "127.0.0.1:7000" ∷ codes "--connect=localhost:7001" ∷ []) (codes "tap") }
@@ -111,7 +111,7 @@ pub fn tap_is_asked()
 {}
 
 /// The words `ddcmp link` with a line ask for the command that runs a station over it; the name of
-/// the line is read as it was written.
+/// the line is used as it was written.
 pub fn link_is_asked()
     ensures plain { IsAsked (codes "ddcmp" ∷ codes "link" ∷ codes "--line"
         ∷ codes "listen:127.0.0.1:7000" ∷ []) (codes "link") }
@@ -132,10 +132,10 @@ pub fn link_is_asked()
     ensures incomplete { takes program (codes "ddcmp" ∷ codes "link" ∷ []) ≡ false }
 {}
 
-/// The words `ddcmp bridge` with two lines ask for the command that passes frames on between them;
-/// the names of the lines are read as they were written, and `--seconds`, `--lose`, `--damage`,
-/// `--delay` and `--seed` as numbers; `--trace`, `--ladder` and `--json` are read, and the names of
-/// `--save-first` and `--save-second`.
+/// The words `ddcmp bridge` with two lines ask for the command that passes frames on between them.
+/// The names of the lines are used as they were written, and `--seconds`, `--lose`, `--damage`,
+/// `--delay` and `--seed` as numbers; `--trace`, `--ladder` and `--json` are accepted, and the
+/// names of `--save-first` and `--save-second`.
 pub fn bridge_is_asked()
     ensures plain { IsAsked (codes "ddcmp" ∷ codes "bridge" ∷ codes "listen:127.0.0.1:7000"
         ∷ codes "device:/dev/ttyS0" ∷ []) (codes "bridge") }

@@ -1,5 +1,5 @@
-//! The arguments of the command line: which command they name, with which options, or why none is
-//! run. It runs nothing.
+//! Parses the arguments of the command line: which command they name, with which options, or why
+//! none is run. It runs nothing.
 #![tactic(auto)]
 
 pub mod bridge_args;

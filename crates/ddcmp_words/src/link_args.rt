@@ -18,7 +18,7 @@ pub const DEFAULT_TIMER_MS: u32 = 3000;
 /// The `attempts` of a link if no option sets them.
 pub const DEFAULT_ATTEMPTS: u32 = u32::MAX;
 
-/// A link, as the arguments give it.
+/// The arguments of a link.
 #[derive(Clone, Copy, Debug)]
 pub struct LinkArgs<'a> {
     /// The name of the line, such as `connect:127.0.0.1:7000`.
@@ -26,7 +26,7 @@ pub struct LinkArgs<'a> {
     pub options: Options,
 }
 
-/// `link`, with what it reads and writes.
+/// `link`, with its description and help.
 static LINK: CommandText = CommandText {
     name: "link",
     about: "Exchange messages over a line, by standard input and output",
@@ -50,7 +50,7 @@ With --maintenance, as for MOP, each message goes once: it may be lost, and is
 never damaged. A message counts as delivered once it is written.",
 };
 
-/// The line of a link, which can't be left out.
+/// The line of a link, which is required.
 static LINE_OPTIONS: [CommandOption; 1] = [CommandOption {
     name: "line",
     takes: Takes::Text("LINE"),
@@ -58,7 +58,7 @@ static LINE_OPTIONS: [CommandOption; 1] = [CommandOption {
     help: "Line to open, as connect:127.0.0.1:7000",
 }];
 
-/// The options of a link beside its line and its sizes.
+/// The options of a link apart from its line and its sizes.
 static LINK_OPTIONS: [CommandOption; 13] = [
     CommandOption {
         name: "timer-ms",
@@ -155,7 +155,7 @@ static LINK_OPTIONS: [CommandOption; 13] = [
     },
 ];
 
-/// `link` with its options.
+/// Returns the parser of `link` with its options.
 pub(crate) fn link_parser<'a>(alloc: Global) -> Parser<'a>
     ensures { Makes result link_app }
 {
@@ -165,8 +165,8 @@ pub(crate) fn link_parser<'a>(alloc: Global) -> Parser<'a>
         .with(&LINK_OPTIONS)
 }
 
-/// Returns how many SYN bytes a line has before each frame, if no option sets that: a serial line
-/// finds its synchronism by them.
+/// Returns the default for SYN bytes before each frame of a line: a serial line needs them for
+/// synchronism.
 fn default_syn(line: &str) -> u8
     ensures value { result ≡ default_syn_of line.now }
     ensures most { result ≤ MAX_SYN }
@@ -174,7 +174,7 @@ fn default_syn(line: &str) -> u8
     if line.starts_with("device:") { 4 } else { 0 }
 }
 
-/// The form of messages.
+/// Returns the form of messages.
 fn messages_given(options: &ArgMatches<'_>) -> Form
     ensures { HasMessages (one_text (found_of options.now) (codes "binary")) result }
 {
@@ -185,7 +185,7 @@ fn messages_given(options: &ArgMatches<'_>) -> Form
     }
 }
 
-/// The link that was asked for.
+/// Returns the arguments of `link`.
 pub(crate) fn link_given<'a>(options: &ArgMatches<'a>) -> LinkArgs<'a>
     ensures { HasLink (one_text (found_of options.now)) (first_value (found_of options.now))
         result }

@@ -9,6 +9,6 @@ pub enum NoCommand {
     Version(String),
     /// A usage error, with its text.
     Usage(String),
-    /// An allocation failed while they were read.
+    /// An allocation failed while the arguments were parsed.
     Memory,
 }

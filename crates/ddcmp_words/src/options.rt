@@ -1,4 +1,4 @@
-//! Options of the commands, as tables have them and as `clap` does.
+//! The options of the commands, in tables and for `clap`.
 ghost use Rattle.std.specs.Prelude.{◌≡◌, false};
 ghost use Rattle.clap.specs.Words.{rule_of};
 ghost use Rattle.ddcmp_words.specs.Inside.Making.{rule_of_option};
@@ -7,7 +7,7 @@ ghost use Rattle.ddcmp_words.specs.Words.{flag_rule, number_rule, place_rule, te
 use clap::{Arg, ArgAction};
 use std::alloc::Global;
 
-/// The name of a command, what help says of it, and what follows its options there.
+/// The name of a command, its description, and the help after its options.
 #[derive(Clone, Copy)]
 pub(crate) struct CommandText {
     pub(crate) name: &'static str,
@@ -24,20 +24,20 @@ pub(crate) struct CommandOption {
     pub(crate) help: &'static str,
 }
 
-/// What an option takes.
+/// The value of an option.
 #[derive(Clone, Copy)]
 pub(crate) enum Takes {
-    /// Nothing: it stands alone.
+    /// None: it is a flag.
     Nothing,
     /// A number in this range.
     Number { low: u32, high: u32 },
-    /// A text, which help calls so.
+    /// A text, with its name in the help.
     Text(&'static str),
-    /// It is a positional argument, which help calls so.
+    /// It is a positional argument, with its name in the help.
     Place(&'static str),
 }
 
-/// An option as `clap` has it.
+/// Converts an option for `clap`.
 pub(crate) fn argument<'a>(alloc: Global, option: &CommandOption) -> Arg<'a>
     ensures rule { rule_of result ≡ rule_of_option option.now }
     ensures local { result.global ≡ false }
@@ -57,7 +57,7 @@ pub(crate) fn argument<'a>(alloc: Global, option: &CommandOption) -> Arg<'a>
     made.required(is_required)
 }
 
-/// An option that stands alone.
+/// Returns a flag.
 fn flag<'a>(alloc: Global, name: &'a str, help: &'a str) -> Arg<'a>
     ensures rule { rule_of result ≡ flag_rule name.entry.now }
     ensures local { result.global ≡ false }
@@ -68,7 +68,7 @@ fn flag<'a>(alloc: Global, name: &'a str, help: &'a str) -> Arg<'a>
         .help(help)
 }
 
-/// An option that takes a number from `low` to `high`.
+/// Returns an option whose value is a number from `low` to `high`.
 fn number<'a>(alloc: Global, name: &'a str, low: u32, high: u32, help: &'a str) -> Arg<'a>
     ensures rule { rule_of result ≡ number_rule name.entry.now low high }
     ensures local { result.global ≡ false }
@@ -80,7 +80,7 @@ fn number<'a>(alloc: Global, name: &'a str, low: u32, high: u32, help: &'a str) 
         .help(help)
 }
 
-/// An option that takes a text.
+/// Returns an option whose value is a text.
 fn text<'a>(alloc: Global, name: &'a str, value: &'a str, help: &'a str) -> Arg<'a>
     ensures rule { rule_of result ≡ text_rule name.entry.now }
     ensures local { result.global ≡ false }
@@ -91,7 +91,7 @@ fn text<'a>(alloc: Global, name: &'a str, value: &'a str, help: &'a str) -> Arg<
         .help(help)
 }
 
-/// A positional argument, which may be left out.
+/// Returns a positional argument, which is optional.
 fn place<'a>(alloc: Global, name: &'a str, value: &'a str, help: &'a str) -> Arg<'a>
     ensures rule { rule_of result ≡ place_rule name.entry.now }
     ensures local { result.global ≡ false }

@@ -8,15 +8,15 @@ use crate::options::{CommandOption, CommandText, argument};
 use clap::Arg;
 use std::alloc::{AllocError, Global};
 
-/// A command of `clap` to which options and subcommands are added, or an allocation failure.
-/// So that is looked at once, when all is made.
+/// A command of `clap` to which options and subcommands are added, or an allocation failure. So
+/// failures are checked for once, when all is built.
 #[derive(Drop)]
 pub(crate) struct Parser<'a> {
     alloc: Global,
     made: Result<clap::Command<'a>, AllocError>,
 }
 
-/// A command with a subcommand more.
+/// Returns a command with a subcommand added.
 fn under<'a>(command: clap::Command<'a>, other: Parser<'a>) -> Parser<'a>
     ensures { (app under : App) → app_of command.entry ≡ app
         → (fields_of command.entry).has_globals ≡ false → Makes other.entry under
@@ -45,7 +45,7 @@ impl<'a> Parser<'a> {
         }
     }
 
-    /// Begins with a command that has no options.
+    /// Begins with a command without options.
     pub(crate) fn begin(alloc: Global, named: &CommandText) -> Parser<'a>
         ensures { Makes result (new_app named.now.name.now) }
     {
@@ -54,7 +54,7 @@ impl<'a> Parser<'a> {
         Parser::new(alloc, command.about(about).after_help(help))
     }
 
-    /// With the options of a table.
+    /// Adds the options of a table.
     pub(crate) fn with(self, options: &[CommandOption]) -> Parser<'a>
         ensures { (app : App) → Makes self.entry app
             → Makes result (with_rules app (map rule_of_option options.now)) }
@@ -67,7 +67,7 @@ impl<'a> Parser<'a> {
         parser
     }
 
-    /// With an option more.
+    /// Adds an option.
     fn option(self, option: Arg<'a>) -> Parser<'a>
         ensures { (app : App) (rule : Rule) → Makes self.entry app
             → rule_of option.entry ≡ rule → option.entry.global ≡ false
@@ -86,7 +86,7 @@ impl<'a> Parser<'a> {
         }
     }
 
-    /// With a subcommand more.
+    /// Adds a subcommand.
     pub(crate) fn subcommand(self, other: Parser<'a>) -> Parser<'a>
         ensures { (app under : App) → Makes self.entry app → Makes other.entry under
             → Makes result (with_subcommand app under.top) }
@@ -101,7 +101,7 @@ impl<'a> Parser<'a> {
         }
     }
 
-    /// Returns what was made.
+    /// Returns the command.
     pub(crate) fn made(self) -> Result<clap::Command<'a>, AllocError>
         ensures { result ≡ self.entry.made }
     {

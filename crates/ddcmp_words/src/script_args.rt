@@ -2,20 +2,20 @@
 use crate::view::View;
 use ddcmp_proto::Config;
 
-/// The two ends that a script begins with.
+/// The two stations that a script begins with.
 #[derive(Clone, Copy, Debug)]
 pub struct Beginning {
     /// The sizes of both.
     pub config: Config,
-    /// Whether both were started, and all was exchanged.
+    /// Whether both were started, and settled.
     pub begun: bool,
 }
 
-/// A script between two ends, as the arguments give it.
+/// The arguments of a script between two stations.
 #[derive(Clone, Copy, Debug)]
 pub struct ScriptArgs<'a> {
     pub from: Beginning,
     pub view: View,
-    /// The file that the script is in; standard input if there is none.
+    /// The file of the script; standard input if there is none.
     pub file: Option<&'a str>,
 }

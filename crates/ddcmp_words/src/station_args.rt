@@ -5,20 +5,20 @@
 pub enum Role {
     /// The station connects to a peer that listens.
     Connect,
-    /// The station listens, and takes one connection.
+    /// The station listens, and accepts one connection.
     Listen,
 }
 
-/// A station over a connection, as the arguments give it.
+/// The arguments of a station over a connection.
 #[derive(Clone, Copy, Debug)]
 pub struct StationArgs<'a> {
-    /// None if the word names no role; a station has one.
+    /// None if there is no such role; a station needs one.
     pub role: Option<Role>,
-    /// The address that is connected to or listened at, such as `127.0.0.1:7000`.
+    /// The address to connect to or to listen at, such as `127.0.0.1:7000`.
     pub addr: &'a str,
     pub turns: u32,
     pub timer_ms: u32,
-    /// The digits of a message that is sent once the station runs; none if it is empty.
+    /// The hexadecimal message that is sent once the station runs; none if it is empty.
     pub send: &'a str,
     /// Whether it restarts when its peer does.
     pub restart: bool,

@@ -11,25 +11,25 @@ use ddcmp_core::MAX_COUNT;
 use ddcmp_explain::Notation;
 use std::alloc::Global;
 
-/// A tap, as the arguments give it.
+/// The arguments of a tap.
 #[derive(Clone, Copy, Debug)]
 pub struct TapArgs<'a> {
-    /// The address that is listened at, such as `127.0.0.1:7000`.
+    /// The address to listen at, such as `127.0.0.1:7000`.
     pub listen: &'a str,
-    /// The address that is connected to once someone has connected.
+    /// The address to connect to once someone has connected.
     pub connect: &'a str,
-    /// Whether it carries one caller after another.
+    /// Whether it serves one caller after another.
     pub again: bool,
     pub notation: Notation,
-    /// Whether what passes is drawn as a ladder. Beside JSON it isn't.
+    /// Whether the traffic is drawn as a ladder. It can't be with JSON.
     pub ladder: bool,
-    /// Whether the milliseconds come before each line.
+    /// Whether each line begins with the milliseconds.
     pub time: bool,
-    /// The most bytes of data of a frame that is read.
+    /// The maximum number of bytes of data in a frame.
     pub max: u16,
 }
 
-/// `tap`, with what it writes.
+/// `tap`, with its description and help.
 static TAP: CommandText = CommandText {
     name: "tap",
     about: "Log the traffic between two ends of a TCP line",
@@ -89,14 +89,14 @@ static TAP_OPTIONS: [CommandOption; 7] = [
     },
 ];
 
-/// `tap` with its options.
+/// Returns the parser of `tap` with its options.
 pub(crate) fn tap_parser<'a>(alloc: Global) -> Parser<'a>
     ensures { Makes result tap_app }
 {
     Parser::begin(alloc, &TAP).with(&TAP_OPTIONS)
 }
 
-/// The tap that was asked for.
+/// Returns the arguments of `tap`.
 pub(crate) fn tap_given<'a>(options: &ArgMatches<'a>) -> TapArgs<'a>
     ensures { HasTap (one_text (found_of options.now)) (first_value (found_of options.now))
         result }

@@ -1,6 +1,6 @@
-//! How a run is shown.
+//! The options for the output of a run.
 
-/// How a run between two ends is shown. Of the two pictures one at most is drawn.
+/// The options for the output of a run between two ends. At most one of the two pictures is drawn.
 #[derive(Clone, Copy, Debug)]
 pub struct View {
     /// A document in SVG, in place of the text.

@@ -1,4 +1,4 @@
-//! A user and a clock over memory. What stands for a line is `ddcmp_frame::failing`.
+//! A user and a clock in memory. For a line use `ddcmp_frame::failing`.
 ghost use Rattle.std.specs.Prelude.{◌≤◌};
 
 use ddcmp_station::{Clock, Notice, User};
@@ -7,14 +7,14 @@ use ddcmp_station::{Clock, Notice, User};
 #[derive(Clone, Copy, Debug, PartialEq, Eq)]
 pub enum Seen {
     Told(Notice),
-    /// A message of this length, beginning with this byte.
+    /// A received message of this length, beginning with this byte.
     Mail(usize, u8),
     /// It was asked for a message, with room for this many bytes.
     Asked(usize),
 }
 
-/// A user that offers these messages one after another, and then none. It keeps what it saw, and
-/// the bytes of all received messages one after another.
+/// A user that offers these messages one after another, and then none. It records what it saw, and
+/// the bytes of all received messages, concatenated.
 #[derive(Drop)]
 pub struct Recorder<'a> {
     offers: &'a [&'a [u8]],

@@ -1,7 +1,7 @@
-//! Numbers drawn from a seed.
+//! Pseudorandom numbers from a seed.
 ghost use Rattle.std.specs.Prelude.{◌≤◌, ◌<◌, length};
 
-/// A sequence of numbers that looks like chance and is the same for the same seed (splitmix64).
+/// A sequence of pseudorandom numbers, the same for the same seed (splitmix64).
 #[derive(Drop)]
 pub struct Draws {
     pub state: u64,
@@ -16,7 +16,7 @@ impl Draws {
         mixed ^ (mixed >> 31)
     }
 
-    /// A number below this one.
+    /// Returns a number below `bound`.
     pub fn below(&mut self, bound: usize) -> usize
         requires { 0 < bound }
         ensures { result < bound }
@@ -24,7 +24,7 @@ impl Draws {
         (self.next() % bound as u64) as usize
     }
 
-    /// A number up to this one.
+    /// Returns a number up to `most`.
     pub fn up_to(&mut self, most: u8) -> u8
         ensures { result ≤ most }
     {
@@ -35,14 +35,14 @@ impl Draws {
         (self.next() & 0xFF) as u8
     }
 
-    /// Once in this many times.
+    /// Returns true once in `times` times.
     pub fn once_in(&mut self, times: u64) -> bool
         requires { 0 < times }
     {
         self.next() % times == 0
     }
 
-    /// One of these.
+    /// Returns one of these values.
     pub fn among<T: Copy>(&mut self, choices: &[T]) -> T
         requires { 0 < length choices.now }
     {

@@ -1,6 +1,6 @@
-//! What tests and worked programs share: a user and a clock over memory, numbers drawn from a seed,
-//! and sizes and bytes as a line of words has them. It tests nothing itself, and the program
-//! doesn't stand on it.
+//! What tests and worked programs share: a user and a clock in memory, pseudorandom numbers, and
+//! parsing of sizes and bytes in a line of words. It tests nothing itself, and the program doesn't
+//! depend on it.
 //!
 //! `let config = config_of("7 8 1500 0 no the usual sizes");` reads the sizes of a station.
 #![tactic(auto)]

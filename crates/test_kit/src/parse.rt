@@ -1,19 +1,19 @@
-//! Sizes, bytes and numbers in a line of words.
+//! Parses sizes, bytes and numbers in a line of words.
 use ddcmp_station::Config;
 use std::alloc::Global;
 use std::str::Split;
 
-/// The number that the next word is.
+/// Parses the next word as a number.
 pub fn number(words: &mut Split<'_, char>) -> Option<u32> {
     words.next()?.parse::<u32>().ok()
 }
 
-/// The size that the next word is.
+/// Parses the next word as a size.
 fn size(words: &mut Split<'_, char>) -> Option<u16> {
     words.next()?.parse::<u16>().ok()
 }
 
-/// The sizes in a line `WINDOW INBOX MAX SYN RESTART`, after which more may stand.
+/// Parses the sizes in a line `WINDOW INBOX MAX SYN RESTART`, which may have more words.
 pub fn config_of(line: &str) -> Option<Config> {
     let mut words = line.split(' ');
     let window = size(&mut words)?;
@@ -30,7 +30,7 @@ pub fn config_of(line: &str) -> Option<Config> {
     })
 }
 
-/// The bytes that a word has in hexadecimal; `-` has none.
+/// Decodes a hexadecimal word; `-` is empty.
 pub fn bytes_of(alloc: Global, word: &str) -> Option<Vec<u8>> {
     hex::decode(alloc, if word == "-" { "" } else { word }).ok()
 }

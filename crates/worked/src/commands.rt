@@ -1,14 +1,14 @@
-//! Words of the command line. The head of an example has them, and its lines are what the program
-//! reads when it is run with these words: what it writes and how it ends goes to the output. After
-//! `? ` stand words that are only read.
+//! Command lines. The head of an example has the arguments, and its lines are what the program
+//! reads when it is run with them; what it writes and how it ends is printed. Arguments after `? `
+//! are only parsed.
 use ddcmp_cli::{NoCommand, read_words};
 use ddcmp_frame::{FromRead, ToWrite};
 use std::io::{self, Write};
 
-/// What stands before words that are only read.
+/// The prefix of arguments that are only parsed.
 const READ: &str = "? ";
 
-/// The words of a line; the first is the program's name.
+/// Returns the words of a line; the first is the program's name.
 fn words_of<'a>(rt: &HostRuntime, line: &'a str) -> io::Result<Vec<&'a str>> {
     let mut words = Vec::new(rt.alloc());
     for word in line.split(' ') {
@@ -17,7 +17,7 @@ fn words_of<'a>(rt: &HostRuntime, line: &'a str) -> io::Result<Vec<&'a str>> {
     Ok(words)
 }
 
-/// Prints what words ask for.
+/// Prints what arguments ask for.
 fn tell(rt: &HostRuntime, line: &str) -> io::Result<()> {
     let words = words_of(rt, line)?;
     match read_words(rt.alloc(), words.as_slice()) {
@@ -39,7 +39,7 @@ fn play(rt: &HostRuntime, line: &str, input: &str) -> io::Result<()> {
     println!(rt; "{ending}-> {}", ending.status())
 }
 
-/// Reads the words, or runs the program with them.
+/// Parses the arguments, or runs the program with them.
 pub fn run(rt: &HostRuntime, head: &str, lines: &str) -> io::Result<()> {
     match head.strip_prefix(READ) {
         Some(words) => tell(rt, words),

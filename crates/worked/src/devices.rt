@@ -1,15 +1,15 @@
-//! Scripts over devices and carriers that fail, give little or give something else. After the
-//! lines of an example stand lines that say what the devices do; what is written, and the answer
-//! after a bar, go to the output. What scripts write over good devices is the matter of `scripts`.
+//! Scripts over devices and carriers that fail, move little or return something else. The lines of
+//! an example are followed by lines on what the devices do; what is written, and the result after a
+//! bar, is printed. Scripts over good devices are tested in `scripts`.
 mod bad;
 mod trial;
 
 use std::io;
 
-/// What stands between a script and the lines that say what the devices do.
+/// The separator between a script and the lines on what the devices do.
 const TRIALS: &str = "---\n";
 
-/// Tries a script in each way that stands after it.
+/// Runs a script once for each line after it.
 pub fn run(rt: &HostRuntime, part: &str) -> io::Result<()> {
     let Some((lines, trials)) = part.split_once(TRIALS) else {
         return Ok(());

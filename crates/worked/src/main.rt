@@ -1,6 +1,6 @@
-//! Worked examples of the commands and of what stands below them: what comes of them is stored, and
-//! compared. The input has parts, each after a line with the name of its matter, and in a part
-//! examples, each after a line that says what it is of.
+//! Worked examples of the commands and of the crates below them. Their output is stored and
+//! compared. The input has parts, each after a line with its name, and in a part examples, each
+//! after a line that describes it.
 #![tactic(auto)]
 
 mod commands;
@@ -12,10 +12,10 @@ mod stations;
 
 use std::io::{self, Read};
 
-/// What stands before the name of a part.
+/// The prefix of the name of a part.
 const PART: &str = "##### ";
 
-/// What stands before an example.
+/// The prefix of an example.
 const EXAMPLE: &str = "=== ";
 
 /// Runs an example of a part.

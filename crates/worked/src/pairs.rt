@@ -1,5 +1,5 @@
-//! Lists of events between two ends. The head of an example has the sizes of both; what is answered
-//! goes to the output, and what has been done in the end.
+//! Lists of events between two ends. The head of an example has the sizes of both; the replies are
+//! printed, and at the end a summary.
 mod answers;
 mod questions;
 mod table;
@@ -10,7 +10,7 @@ use std::alloc::Global;
 use std::io;
 use test_kit::{bytes_of, config_of};
 
-/// The sizes of both ends in a line `SIZES; SIZES; NAME`.
+/// Parses the sizes of both ends in a line `SIZES; SIZES; NAME`.
 fn configs_of(head: &str) -> Option<(Config, Config)> {
     let (first, rest) = head.split_once("; ")?;
     let (second, _name) = rest.split_once("; ")?;
@@ -25,7 +25,7 @@ fn end_of(word: &str) -> Option<End> {
     }
 }
 
-/// Returns what happens at an end, by its word.
+/// Returns the event at an end, by its word.
 fn event_at(alloc: Global, word: &str, end: End, bytes: &str) -> Option<Event> {
     match word {
         "start" => Some(Event::Start(end)),
@@ -39,7 +39,7 @@ fn event_at(alloc: Global, word: &str, end: End, bytes: &str) -> Option<Event> {
     }
 }
 
-/// Runs a line, and returns the answer.
+/// Runs a line, and prints the reply.
 fn perform(rt: &HostRuntime, table: &mut Table, line: &str) -> io::Result<()> {
     let mut words = line.split(' ');
     let word = words.next().unwrap_or("");

@@ -1,5 +1,5 @@
-//! Pictures of runs between two ends. The head of an example says how its script is drawn; the
-//! picture goes to the output, and then the answer. Over a connection it is the same.
+//! Pictures of runs between two ends. The head of an example has the format; the picture is
+//! printed, and then the result. Over a connection it is the same.
 ghost use Rattle.std.specs.Prelude.{◌≡◌, false};
 
 use ddcmp_frame::{FromRead, ToWrite};
@@ -7,7 +7,7 @@ use ddcmp_line::{Carrier, Config, Direct, Pair, Sockets};
 use ddcmp_picture::{Picture, draw};
 use std::io::{self, Write};
 
-/// How a script is drawn: `ladder` or `svg`, and `counters`.
+/// The format of a picture: `ladder` or `svg`, and `counters`.
 #[derive(Clone, Copy, Drop)]
 struct Wanted {
     picture: Picture,
@@ -25,7 +25,7 @@ fn wanted_in(head: &str) -> Option<Wanted> {
     Some(Wanted { picture, counted })
 }
 
-/// The sizes of both ends: small ones, and those of a larger SYN fill are named by their word.
+/// Returns the sizes of both ends: small ones, and with more SYN fill if the head ends with `syn`.
 fn config_of(head: &str) -> Config {
     let syn = if head.ends_with("syn") { 4 } else { 0 };
     Config {
@@ -37,7 +37,7 @@ fn config_of(head: &str) -> Config {
     }
 }
 
-/// Draws a script between two new ends, and gives the picture and its answer.
+/// Draws a script between two new ends; returns the picture and the result.
 fn play<C: Carrier>(
     rt: &HostRuntime,
     head: &str,

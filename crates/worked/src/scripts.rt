@@ -1,5 +1,5 @@
-//! Scripts between two ends. The head of an example has the sizes of both; what a script writes
-//! goes to the output, and then its answer. Over a connection it writes the same.
+//! Scripts between two ends. The head of an example has the sizes of both; what a script writes is
+//! printed, and then its result. Over a connection it writes the same.
 ghost use Rattle.std.specs.Prelude.{◌≡◌, false};
 
 use ddcmp_frame::{FromRead, ToWrite};
@@ -7,7 +7,7 @@ use ddcmp_line::{Carrier, Config, Direct, Pair, Sockets, script};
 use std::io::{self, Write};
 use test_kit::config_of;
 
-/// Plays a script between two new ends, and gives what it wrote and its answer.
+/// Plays a script between two new ends; returns what it wrote and its result.
 fn play<C: Carrier>(
     rt: &HostRuntime,
     config: Config,
@@ -27,8 +27,8 @@ fn play<C: Carrier>(
     Ok(text)
 }
 
-/// Plays a script over a carrier that gives what goes in, and then over a connection, whose text is
-/// printed if it is another.
+/// Plays a script over a carrier that returns what it is passed, and then over a connection, whose
+/// text is printed if it differs.
 pub fn run(rt: &HostRuntime, head: &str, lines: &str) -> io::Result<()> {
     let Some(config) = config_of(head) else {
         return println!(rt; "no sizes");

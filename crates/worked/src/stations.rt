@@ -1,5 +1,5 @@
-//! A station that is asked one thing after another, and driven. An example is a list of lines, and
-//! its head has the sizes of a new station; what is answered goes to the output.
+//! A station whose calls are made one after another, or that is driven. An example is a list of
+//! lines, and its head has the sizes of a new station; the results are printed.
 mod asking;
 mod driven;
 mod reading;

@@ -1,4 +1,4 @@
--- What decoding a piece of an input makes of it.
+-- What decoding a chunk of an input yields.
 use Rattle.std.specs.Prelude.{◌≡◌, ℕ, ◌+◌, ◌≤◌, List, ◌++◌, length, map, slice_index, take}
 use Rattle.std.specs.Prelude.{option_to_list, Option, Some, None}
 use Rattle.std.specs.Simd.Lanes.{Each1, chunk}
@@ -9,14 +9,14 @@ use Rattle.ddcmp_explain.specs.declared.decoder.Decoded.{Decoded}
 use Rattle.ddcmp_explain.specs.declared.hex_digits.TheConstants.{HEX_VALUES}
 use Rattle.ddcmp_explain.specs.Digits.{bytes_of, hex_value, left_in, pairs, unexpected_in}
 
--- where the bytes of a piece are: raw ones in the piece, those of digits in another array
+-- where the decoded bytes are: raw ones in the chunk itself, those of digits in another array
 abbrev pub place_of : Form → List ℕ → List ℕ → List ℕ
 place_of Hex piece bytes = bytes
 place_of Text piece bytes = bytes
 place_of Raw piece bytes = piece
 
--- a piece after what was seen: the further bytes that the two spell, their first unexpected byte,
--- and, if there is none, the digit that is left over.
+-- A chunk was decoded after `seen`: how many bytes it adds, its first unexpected byte, and if there
+-- is none, the digit that is left over.
 pub record Decodes (form : Form) (seen piece : List ℕ) (decoded : Decoded) (bytes : List ℕ)
     (high : Option ℕ) : Type 0 where
   pub whole : bytes_of form (seen ++ piece) ≡ bytes_of form seen ++ take decoded.count bytes
@@ -24,8 +24,7 @@ pub record Decodes (form : Form) (seen piece : List ℕ) (decoded : Decoded) (by
       ≡ option_map (λ i. length seen + i) decoded.unexpected
   pub left : decoded.unexpected ≡ None → left_in form (seen ++ piece) ≡ option_to_list high
 
--- sixteen digits stand together in a piece, and the eight bytes that they spell were put after
--- others
+-- Sixteen digits from `i` on were decoded into eight bytes, which were put after `count` others.
 pub record PutsEight (piece : List ℕ) (i : ℕ) (old : List ℕ) (count : ℕ) (new : List ℕ)
     : Type 0 where
   pub inside : i + 16 ≤ length piece

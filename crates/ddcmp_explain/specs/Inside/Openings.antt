@@ -15,13 +15,13 @@ use Rattle.ddcmp_explain.specs.declared.opening.Opening.TheVariants.{Whole, Ende
 use Rattle.ddcmp_explain.specs.declared.style.Style.{Style}
 use Rattle.ddcmp_explain.specs.Detection.{ExplainsAs, refusal_as}
 
--- 64 bytes; or the input has fewer; or a read failed before either was known
+-- 64 bytes were read; or the input has fewer; or a read failed before either was known
 abbrev pub Opens : Known → Known → Opening → List ℕ → Type 0
 Opens old new Whole bytes = Consumes old new bytes
 Opens old new (Ended n) bytes = (n < 64) × Consumes old new (take n bytes) × IsAtEnd new
 Opens old new Failed bytes = (seen : List ℕ) × (length seen < 64) × Consumes old new seen
 
--- An input was explained as what it was detected to be.
+-- An input was explained in the form that was detected.
 pub record IsExplainedAs (by : Detected) (style : Style) (max : ℕ) (source : SourceChange)
     (sink : SinkChange) (result : Result (Unit {0}) DetectedFault) : Type 0 where
   pub told : (input : List ℕ) → source.before ≡ Some input

@@ -14,23 +14,23 @@ use Rattle.ddcmp_explain.specs.Explains.{Tells}
 use Rattle.ddcmp_explain.specs.Inside.Heads.{Heads}
 use Rattle.ddcmp_explain.specs.declared.head.Head.{Head}
 
--- if what was skipped is reported, how far the items reach
+-- if skipped bytes are reported: the offset at which the last item ends
 abbrev pub ReachesTo : Bool → List ReadItem → ℕ → ℕ → Type 0
 ReachesTo false given offset taken = Unit {0}
 ReachesTo true given offset taken = reached 0 given ≡ offset + taken
 
--- and how the frame begins that is still open
+-- if they are: the first bytes of the incomplete frame
 abbrev pub BeginsWith : Bool → Head → List ℕ → Type 0
 BeginsWith false head rest = Unit {0}
 BeginsWith true head rest = Heads head rest
 
--- and whether one of them is a good frame
+-- if they are: whether one of the items is a good frame
 abbrev pub HasFound : Bool → List ReadItem → Bool → Type 0
 HasFound false given is_found = Unit {0}
 HasFound true given is_found = is_found ≡ has_frame (good_frames_in given)
 
--- The reader stands for the text, its items are counted, and of their lines the sink has got some
--- since it held `start` and the rest waits.
+-- The reader has read the text, and its items are counted. Since the sink held `start`, some of
+-- their lines were written to it, and the others are buffered in the page.
 pub record HasTold (max : ℕ) (start : Known) (text : List ℕ) (at : Lines) (broken : Bool)
     (sink : Known) : Type 0 where
   pub stands : StandsFor at.frames text
@@ -42,7 +42,7 @@ pub record HasTold (max : ℕ) (start : Known) (text : List ℕ) (at : Lines) (b
   pub holds : Holds start (lines_in at.style max text)
       (record { broken = broken; sink = sink; waiting = at.page })
 
--- All that was seen of an input has been decoded, and the lines of its whole bytes were written.
+-- All that was read of an input was decoded, and the lines of its complete bytes were written.
 pub record Progress (max : ℕ) (start : Known) (seen : List ℕ) (at : Explainer) (broken : Bool)
     (sink : Known) : Type 0 where
   pub expected : unexpected_in at.decoder.form seen ≡ None
@@ -52,7 +52,7 @@ pub record Progress (max : ℕ) (start : Known) (seen : List ℕ) (at : Explaine
   pub told : HasTold max start (bytes_of at.decoder.form seen) at.lines broken sink
   pub written : Appends start sink (lines_in at.lines.style max (bytes_of at.decoder.form seen))
 
--- What was seen has been explained, or a fault ends the explaining with it.
+-- What was read was explained, or a fault was returned.
 abbrev pub Takes : ℕ → Known → List ℕ → Explainer → Bool → Known
     → Result (Unit {0}) ExplainFault → Type 0
 Takes max start seen at broken sink (Ok u) = Progress max start seen at broken sink

@@ -14,12 +14,12 @@ use Rattle.ddcmp_line.specs.Script.{Between, DoneLine}
 use Rattle.ddcmp_line.specs.ScriptEnds.{Around, around, HasNoLf, Begins, Did, StoppedAt, Broken}
 use Rattle.ddcmp_line.specs.ScriptEnds.{AsksCarrier, scene_then}
 
--- a sink, and an empty page in front of it
+-- a sink, and an empty page to buffer what is written to it
 abbrev pub fresh : Known → Output
 fresh sink = record { broken = false; sink = sink; waiting = [] }
 
--- What a player has: the line that it has begun, how many it has done, and what is between the
--- ends.
+-- The state of a player: the part of the current line that was read, how many lines are done, and
+-- what is between the ends.
 pub record PlayerView : Type 0 where
   pub line : List ℕ
   pub number : ℕ
@@ -28,7 +28,7 @@ pub record PlayerView : Type 0 where
 abbrev pub played : List ℕ → ℕ → Between → PlayerView
 played line number lines = record { line = line; number = number; lines = lines }
 
--- what was written from the start until now, and the pair before and after
+-- the output and the pair at the start and now
 pub record Course : Type 0 where
   pub start : Output
   pub now : Output
@@ -37,11 +37,11 @@ pub record Course : Type 0 where
 abbrev pub course : Output → Output → Around → Course
 course start now x = record { start = start; now = now; around = x }
 
--- this text was passed on meanwhile
+-- this text was written since the start
 abbrev pub HandedOver : Course → List ℕ → Type 0
 HandedOver way text = HandsOver way.start way.now text
 
--- Some lines of an input were done; a line was begun; and the rest is to come.
+-- Some lines of an input are done; `player.line` was read of the next one; and `rest` is unread.
 pub record HasDone (input rest : List ℕ) (player : PlayerView) (way : Course) : Type 0 where
   pub done : List DoneLine
   pub begins : Begins done (lines_of (player.line ++ rest)) input
@@ -50,18 +50,18 @@ pub record HasDone (input rest : List ℕ) (player : PlayerView) (way : Course) 
   pub number_is : player.number ≡ length done
   pub begun : HasNoLf player.line
 
--- All lines of an input were done.
+-- All lines of an input are done.
 pub record HasDoneAll (input : List ℕ) (way : Course) : Type 0 where
   pub done : List DoneLine
   pub begins : Begins done [] input
   pub did : Did done way.around (HandedOver way)
 
--- some lines were done of an input of which this is left
+-- some lines of an input are done, whose unread rest is `left`
 abbrev pub IsPlaying : List ℕ → Known → PlayerView → Course → Type 0
 IsPlaying input left player way =
     (rest : List ℕ) × (left ≡ Some rest) × HasDone input rest player way
 
--- why a line wasn't done, after this many that were
+-- why a line wasn't done, after `number` lines that were
 abbrev pub Stops : List ℕ → ℕ → Course → Stop → Type 0
 Stops input number way NoCommand =
     StoppedAt (λ r. r ≡ reading.NoCommand) (number + 1) input way.around (HandedOver way)
@@ -72,13 +72,12 @@ Stops input number way Memory = Broken input way.around (λ text behind. HandedO
 Stops input number way Carrier =
     StoppedAt AsksCarrier (number + 1) input way.around (HandedOver way)
 
--- what was to be taken was done, or why not
+-- the bytes before `rest` were played, or why not
 abbrev pub PlaysOn : List ℕ → List ℕ → PlayerView → Course → Result (Unit {0}) Stop → Type 0
 PlaysOn input rest player way (Ok u) = HasDone input rest player way
 PlaysOn input rest player way (Err stop) = Stops input player.number way stop
 
--- What there is at a moment: how far the player is, what was written, the ends, and what the
--- carrier has told.
+-- The state at a moment: the player, the output, the pair, and what the carrier has reported.
 pub record Moment : Type 0 where
   pub player : PlayerView
   pub output : Output
@@ -93,7 +92,7 @@ moment player output pair told = record {
   told = told;
 }
 
--- a piece of an input was taken, or why not
+-- a chunk of an input was played, or why not
 abbrev pub Takes : List ℕ → Bool → Moment → Moment → Result (Unit {0}) Stop → Type 0
 Takes piece is_direct old new result =
     (input rest : List ℕ) (p : PairState) (d : Bool) (log : Option (List Carriage))
@@ -103,7 +102,7 @@ Takes piece is_direct old new result =
     → PlaysOn input rest new.player (course start new.output (around p new.pair d log new.told))
     result
 
--- the same of the last line
+-- the same for the last line
 abbrev pub PlaysOut : List ℕ → ℕ → Course → Result (Unit {0}) Stop → Type 0
 PlaysOut input number way (Ok u) = HasDoneAll input way
 PlaysOut input number way (Err stop) = Stops input number way stop

@@ -1,4 +1,4 @@
--- What became of one line of a script, as the code does it.
+-- The effect of one line of a script, as the code does it.
 use Rattle.std.specs.Prelude.{◌≡◌, ◌⊎◌, ◌↔◌, ℕ, Bool, false, IsTrue, List, [], Option, Result, Ok}
 use Rattle.std.specs.Prelude.{Err}
 use Rattle.ddcmp_io.specs.Device.{Logs}
@@ -19,20 +19,20 @@ use Rattle.ddcmp_line.specs.Script.{scene_after, text_of, carriages_by}
 abbrev pub scene_of : PairState → Between → Scene
 scene_of p lines = record { pair = p; lines = lines }
 
--- all of an outcome has come, and its text was passed on
+-- The whole effect happened, and its text was written.
 pub record Comes (o : Effect) (old new : Scene) (before after : Output) : Type 0 where
   pub scene : new ≡ after_outcome o old
   pub text : HandsOver before after o.text
 
--- What a line hands to the carrier was carried; some of its events happened, each of them whole;
--- and the next one allocates.
+-- What a line passes to the carrier was carried; some of its events happened, each as a whole; and
+-- the next one needs to allocate.
 pub record HasBegun (is_direct : Bool) (log log_after : Option (List Carriage)) (r : ParsedLine)
     (old new : Scene) : Type 0 where
   pub came : List ℕ
   pub wants : WantsMemory (events_by r came old) old.pair new.pair
   pub carried : Carries is_direct log log_after (carriages_by r came old)
 
--- nothing happened to the ends, and nothing was carried
+-- nothing happened at the ends, and nothing was carried
 abbrev pub IsUntouched : Bool → Option (List Carriage) → Option (List Carriage) → Scene → Scene
     → Type 0
 IsUntouched is_direct log log_after old new =
@@ -43,7 +43,7 @@ abbrev pub stopped_of : {E : Type 0} → Result (Unit {0}) E → Result (Unit {0
 stopped_of (Ok u) = Ok u
 stopped_of (Err m) = Err Memory
 
--- what became of a line
+-- the effect of a line, for each result
 abbrev pub LineEnds : Bool → Option (List Carriage) → Option (List Carriage) → ParsedLine → Scene
     → Scene → Output → Output → Result (Unit {0}) Stop → Type 0
 LineEnds is_direct log log_after r old new before after (Ok u) =
@@ -63,8 +63,8 @@ LineEnds is_direct log log_after r old new before after (Err Memory) =
     HandsOver before after []
     × (IsUntouched is_direct log log_after old new ⊎ HasBegun is_direct log log_after r old new)
 
--- What a result says of the sink and of the carrier: a write that failed, or a carrier that did,
--- after text that was all written.
+-- What a result implies for the sink and the carrier: either a write failed, or the carrier did,
+-- and then all buffered text was written.
 pub record TellsDevices (output : Output) (is_down : Bool) (result : Result (Unit {0}) Stop)
     : Type 0 where
   pub write : result ≡ Err Write → IsTrue output.broken

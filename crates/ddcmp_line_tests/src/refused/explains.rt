@@ -1,4 +1,4 @@
-//! explain with refused memory.
+//! explain with failing allocations.
 use crate::same::is;
 use ddcmp_explain::{ExplainFault, Form, explain};
 use ddcmp_frame::failing::{Pieces, Taken};
@@ -23,7 +23,7 @@ fn explains(alloc: Global) -> (Result<(), ExplainFault>, Taken<256>) {
     (answer, writer)
 }
 
-/// Returns whether memory is refused to a call: nothing is written then, and else all is.
+/// Returns whether an allocation fails in a call: then nothing is written, and else all is.
 fn is_refused(rt: &(impl Abort + AllocGlobal)) -> bool {
     let (answer, writer) = explains(rt.alloc());
     if answer == Err(ExplainFault::Memory) {

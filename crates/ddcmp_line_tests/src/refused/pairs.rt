@@ -1,4 +1,4 @@
-//! A pair with refused memory.
+//! A pair with failing allocations.
 use crate::bench::{
     ACK_2, Action, Answer, Bench, DATA_1, DATA_2, DEFAULT, HANDED_UP, Step, event_of, is_answer,
     path, startup,
@@ -10,7 +10,7 @@ use ddcmp_pair::{
 use ddcmp_station::{Counters, Header, Numbers, State};
 use std::process::Abort;
 
-/// What an end of a pair reports.
+/// The values of an end of a pair.
 #[derive(Clone, Copy, PartialEq, Eq)]
 struct EndReport {
     given: usize,
@@ -28,7 +28,7 @@ struct EndReport {
     offset: u64,
 }
 
-/// What a pair reports.
+/// The values of a pair.
 #[derive(Clone, Copy, PartialEq, Eq)]
 struct PairReport {
     honest: bool,
@@ -65,7 +65,7 @@ fn tells(pair: &Pair) -> PairReport {
     }
 }
 
-/// A message waits in B's inbox, and A is to send another.
+/// Leaves a message in B's inbox, and another for A to send.
 fn to_settle() -> [Step; 4] {
     [
         (Action::Send(End::A, b"abc"), Answer::Accepted(1)),
@@ -75,7 +75,7 @@ fn to_settle() -> [Step; 4] {
     ]
 }
 
-/// Returns what a settle does then.
+/// Returns what a settle then does.
 fn settling() -> [Step; 8] {
     [
         (Action::Take(End::B), Answer::Took(b"abc")),
@@ -92,7 +92,7 @@ fn settling() -> [Step; 8] {
     ]
 }
 
-/// Returns what each round does after it.
+/// Returns what each round after it does.
 fn round() -> [Step; 4] {
     [
         (Action::Expire(End::A), Answer::Expired(false)),
@@ -102,18 +102,18 @@ fn round() -> [Step; 4] {
     ]
 }
 
-/// Returns whether a pair reports this.
+/// Returns whether a pair has these values.
 fn is_told(pair: &Pair, seen: &PairReport) -> bool {
     tells(pair) == *seen
 }
 
-/// A pair that does again what was refused by an allocation failure, and whether any was.
+/// A pair that retries what failed for lack of memory, and whether anything did.
 struct Patient {
     bench: Bench,
     refused: bool,
 }
 
-// Manual, since a derived `Drop` is expanded wherever a pair is dropped.
+// Manual, since a derived `Drop` would be expanded wherever a value is dropped.
 impl Drop for Patient {
     fn drop(self) {
         let Patient {
@@ -140,7 +140,7 @@ impl Patient {
         }
     }
 
-    /// An event of the test's own.
+    /// Makes an event, retrying a failed allocation.
     fn event(&mut self, rt: &(impl Abort + AllocGlobal), action: Action) -> Event {
         match event_of(rt.alloc(), action) {
             Ok(event) => event,
@@ -151,7 +151,7 @@ impl Patient {
         }
     }
 
-    /// A step is answered, or nothing has changed, and then it is.
+    /// Checks that a step has its reply; or that nothing changed, and then it has.
     fn plays_one(&mut self, rt: &(impl Abort + AllocGlobal), action: Action, answer: Answer) {
         let event = self.event(rt, action);
         let before = tells(self.bench.pair());
@@ -165,7 +165,7 @@ impl Patient {
         }
     }
 
-    /// Each step is answered, or nothing has changed.
+    /// Runs steps, each of which has its reply or changes nothing.
     fn plays(&mut self, rt: &(impl Abort + AllocGlobal), steps: &[Step]) {
         for (action, answer) in steps {
             self.plays_one(rt, *action, *answer);
@@ -173,7 +173,7 @@ impl Patient {
     }
 
     /// The settle is done, or some of its steps are. A frame that was polled then and didn't arrive
-    /// is lost, so the line settles again, and twice more when the timers have expired.
+    /// is lost, so the line settles again, and twice more after the timers expired.
     fn settles(&mut self, rt: &(impl Abort + AllocGlobal)) {
         match self.bench.settle() {
             Ok(settled) => assert!(rt; is_settled_at_once(settled)),
@@ -223,7 +223,7 @@ impl Patient {
     }
 }
 
-/// Returns whether a settle had one exchange, and the line is quiet then.
+/// Returns whether a settle had one exchange, and the line is then quiet.
 fn is_settled_at_once(settled: Settled) -> bool {
     let exchanges = 1;
     settled
@@ -234,7 +234,7 @@ fn is_settled_at_once(settled: Settled) -> bool {
 }
 
 /// Returns whether the first settle of a recovery had one exchange and the others none, and the
-/// line is quiet then.
+/// line is then quiet.
 fn is_recovered_at_once(recovered: Recovered) -> bool {
     let exchanges = [1, 0, 0];
     recovered
@@ -244,7 +244,8 @@ fn is_recovered_at_once(recovered: Recovered) -> bool {
         }
 }
 
-/// Returns whether a pair reports this before one of these steps, which it does until then.
+/// Returns whether a pair has these values before one of these steps, each of which is run until
+/// then.
 fn is_before(
     rt: &(impl Abort + AllocGlobal),
     bench: &mut Bench,
@@ -260,7 +261,7 @@ fn is_before(
     false
 }
 
-/// Returns whether a pair that was to do these steps reports this between two of them.
+/// Returns whether a pair that was to do these steps has these values between two of them.
 fn is_among(rt: &(impl Abort + AllocGlobal), parts: &[&[Step]], seen: &PairReport) -> bool {
     let mut bench = Bench::running(rt, DEFAULT);
     bench.plays(rt, &to_settle());
@@ -272,7 +273,7 @@ fn is_among(rt: &(impl Abort + AllocGlobal), parts: &[&[Step]], seen: &PairRepor
     is_told(bench.pair(), seen)
 }
 
-/// Returns whether memory is refused on the path of one message.
+/// Returns whether an allocation fails on the path of one message.
 fn is_refused_to_steps(rt: &(impl Abort + AllocGlobal)) -> bool {
     let mut patient = Patient::new(rt);
     patient.plays(rt, path());
@@ -280,7 +281,7 @@ fn is_refused_to_steps(rt: &(impl Abort + AllocGlobal)) -> bool {
     patient.refused
 }
 
-/// Returns whether memory is refused on the way to a settle, or to it.
+/// Returns whether an allocation fails before or in a settle.
 fn is_refused_to_a_settle(rt: &(impl Abort + AllocGlobal)) -> bool {
     let mut patient = Patient::new(rt);
     patient.plays(rt, startup());
@@ -290,7 +291,7 @@ fn is_refused_to_a_settle(rt: &(impl Abort + AllocGlobal)) -> bool {
     patient.refused
 }
 
-/// Returns whether memory is refused on the way to a recovery, or to it.
+/// Returns whether an allocation fails before or in a recovery.
 fn is_refused_to_a_recovery(rt: &(impl Abort + AllocGlobal)) -> bool {
     let mut patient = Patient::new(rt);
     patient.plays(rt, startup());
@@ -300,14 +301,14 @@ fn is_refused_to_a_recovery(rt: &(impl Abort + AllocGlobal)) -> bool {
     patient.refused
 }
 
-/// The pair reports what one reports after these steps.
+/// Checks that the pair has the values of one after these steps.
 fn is_after(rt: &(impl Abort + AllocGlobal), pair: &Pair, steps: &[Step]) {
     let mut bench = Bench::ample(rt, DEFAULT, DEFAULT);
     bench.plays(rt, steps);
     assert!(rt; is_told(pair, &tells(bench.pair())));
 }
 
-/// Returns whether memory is refused to a run, or to its events.
+/// Returns whether an allocation fails in a run, or for its events.
 fn is_refused_to_a_run(rt: &(impl Abort + AllocGlobal)) -> bool {
     let Ok(events) = events_of(rt.alloc(), path()) else {
         return true;
@@ -324,7 +325,7 @@ fn is_refused_to_a_run(rt: &(impl Abort + AllocGlobal)) -> bool {
     }
 }
 
-/// A run without memory was not begun, or is as far as it reports.
+/// Checks that a run with a failed allocation wasn't begun, or is as far as it reports.
 fn is_as_far(rt: &(impl Abort + AllocGlobal), refused: RunRefusal, path: &[Step]) {
     match refused {
         RunRefusal::First(refusal) => assert!(rt; refusal == ConfigRefusal::Memory),

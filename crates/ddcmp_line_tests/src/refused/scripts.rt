@@ -1,12 +1,12 @@
-//! A script with refused memory. What scripts write, over good devices and bad ones, is the matter
-//! of `worked`.
+//! A script with failing allocations. What scripts write, over good devices and bad ones, is tested
+//! in `worked`.
 use crate::same::is;
 use ddcmp_frame::failing::{Pieces, Taken};
 use ddcmp_line::{Config, Direct, Pair, ScriptFault, script};
 use std::alloc::Global;
 use std::process::Abort;
 
-/// A startup, and one message that is acknowledged.
+/// Returns a startup handshake, and one message that is acknowledged.
 fn lines() -> &'static [u8] {
     b"start A\nstart B\npoll A\npass A\npoll B\npass B\npoll A\npass A\n\
     send A 616263\npoll A\npass A\ntake B\npoll B\npass B\n"
@@ -31,14 +31,14 @@ const DEFAULT: Config = Config {
     restart: false,
 };
 
-/// What came of a script.
+/// The result of a script.
 #[derive(Drop)]
 struct ScriptOutcome {
     answer: Result<(), ScriptFault>,
     writer: Taken<512>,
 }
 
-/// The script, with a pair that memory allows.
+/// Runs the script, with a pair that was made.
 fn plays(alloc: Global, pair: &mut Pair) -> ScriptOutcome {
     let mut reader = Pieces::of(lines());
     let mut writer = Taken::<512>::new();
@@ -59,8 +59,8 @@ fn is_beginning(text: &[u8], whole: &[u8]) -> bool {
     text.len() < whole.len() && whole.get(..text.len()) == Some(text)
 }
 
-/// Returns whether memory is refused to a script that has its pair: a beginning of its text is
-/// written then, and no last line; and else all of it.
+/// Returns whether an allocation fails in a script that has its pair: then a prefix of its text is
+/// written without the last line, and else all of it.
 fn is_refused_then(rt: &(impl Abort + AllocGlobal), pair: &mut Pair) -> bool {
     let told = plays(rt.alloc(), pair);
     is(rt, premises(pair), (true, true));
@@ -73,7 +73,7 @@ fn is_refused_then(rt: &(impl Abort + AllocGlobal), pair: &mut Pair) -> bool {
     false
 }
 
-/// Returns whether memory is refused to a script, or to its pair.
+/// Returns whether an allocation fails in a script, or for its pair.
 fn is_refused(rt: &(impl Abort + AllocGlobal)) -> bool {
     match pair_of(rt.alloc()) {
         Some(mut pair) => is_refused_then(rt, &mut pair),

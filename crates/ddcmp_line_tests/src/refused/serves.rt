@@ -1,4 +1,4 @@
-//! A served station with refused memory.
+//! A served station with failing allocations.
 use crate::same::is;
 use ddcmp_frame::failing::{Pieces, Taken};
 use ddcmp_net::{ServeFault, serve};
@@ -6,7 +6,7 @@ use ddcmp_station::{Clock, LineFault};
 use std::alloc::Global;
 use std::process::Abort;
 
-/// A clock that stands.
+/// A clock that doesn't advance.
 #[derive(Drop)]
 struct Standing;
 
@@ -28,7 +28,7 @@ fn reported() -> &'static [u8] {
     b"notice Running\nnotice HandedUp\nmail 616263\nturns=1 state=Running read=21 written=8\n"
 }
 
-/// What came of a call.
+/// The result of a call.
 #[derive(Drop)]
 struct ServeOutcome {
     answer: Result<(), ServeFault>,
@@ -59,13 +59,13 @@ fn serves(alloc: Global) -> ServeOutcome {
     }
 }
 
-/// Returns whether it is the answer to an allocation failure.
+/// Returns whether this is the result of a failed allocation.
 fn is_want(answer: &Result<(), ServeFault>) -> bool {
     *answer == Err(ServeFault::Config) || *answer == Err(ServeFault::Line(LineFault::Memory))
 }
 
-/// Returns whether memory is refused to a call: nothing is read, written or reported then, and else
-/// all is.
+/// Returns whether an allocation fails in a call: then nothing is read, written or reported, and
+/// else all is.
 fn is_refused(rt: &(impl Abort + AllocGlobal)) -> bool {
     let told = serves(rt.alloc());
     if is_want(&told.answer) {

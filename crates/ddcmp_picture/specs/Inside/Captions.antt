@@ -13,12 +13,12 @@ is_zero word =
 abbrev pub unless_zero : List ℕ → List ℕ
 unless_zero word = if is_zero word then [] else word
 
--- what words end at
+-- the bytes that end a word
 abbrev pub is_gap : ℕ → Bool
 is_gap byte = (byte == 32) || (byte == 10)
 
--- A text without the counters that are 0, each with the blank before it. The bytes of `word` are
--- those since the last blank or LF.
+-- A text without the counters that are 0, each with the blank before it. `word` has the bytes since
+-- the last blank or LF.
 unfoldable pub without_zeros : List ℕ → List ℕ → List ℕ
 without_zeros word [] = unless_zero word
 without_zeros word (byte ∷ rest) =
@@ -26,7 +26,7 @@ without_zeros word (byte ∷ rest) =
     then unless_zero word ++ without_zeros (byte ∷ []) rest
     else without_zeros (word ++ byte ∷ []) rest
 
--- the end of the text of a run (`closing_text`), but of the counters those alone that aren't 0
+-- the end of the text of a run (`closing_text`), without the counters that are 0
 abbrev pub caption_text : Bool → PairState → List ℕ
 caption_text counted p =
     (if counted then without_zeros [] (counters_lines p) else []) ++ totals_line p

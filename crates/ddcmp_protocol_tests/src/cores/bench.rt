@@ -1,5 +1,4 @@
-//! A core over two stores, to which things are done one after another, and whether each is answered
-//! as it should be.
+//! A core over two stores, for which calls are made one after another and their results checked.
 ghost use Rattle.std.specs.Prelude.{◌≡◌, ◌≤◌};
 
 use ddcmp_core::{
@@ -31,7 +30,7 @@ pub enum Frame {
     Maintenance,
 }
 
-/// A call of a core, what it is given, and what it returns.
+/// A call of a core, with its arguments and its expected result.
 #[derive(Clone, Copy)]
 pub enum Row {
     Start(Result<u8, StartRefusal>),
@@ -39,20 +38,20 @@ pub enum Row {
     Halt,
     Send(&'static [u8], Result<Seq, SendRefusal>),
     SendMaintenance(&'static [u8], Result<(), SendRefusal>),
-    /// A frame arrives, with data of one byte, or of three in maintenance.
+    /// A frame is received, with one byte of data, or three in maintenance.
     Receive(Frame, Option<Notice>),
-    /// A header whose check is wrong.
+    /// A header with a wrong CRC.
     ReceiveDamage,
     ReceiveDamagedData,
     ReceiveTooLong,
     ReceiveNoFormat,
     /// The next frame's header.
     Next(Option<Frame>),
-    /// The length of the message that is taken.
+    /// The length of the message that is taken, if there is one.
     Take(Option<usize>),
     Expire(bool),
     TakeArm(bool),
-    /// The buffer holds zeros from now on.
+    /// Fills the buffer with zeros.
     Clean,
     NextHeader(Option<Frame>),
     SendRefusal(&'static [u8], Option<SendRefusal>),
@@ -67,11 +66,11 @@ pub enum Row {
     Bytes(usize),
     Room(bool),
     MessagesAgain(u32),
-    /// NAKs that came with reason 3.
+    /// The number of received NAKs with reason 3.
     RepliesToRep(u32),
-    /// NAKs that came with reason 2.
+    /// The number of received NAKs with reason 2.
     DataChecks(u32),
-    /// What the buffer holds, to which messages are taken.
+    /// What is in the buffer to which messages are taken.
     Took([u8; 4]),
 }
 
@@ -101,7 +100,7 @@ fn counted(count: u16, flags: Flags, resp: u8, num: u8) -> Counted
     }
 }
 
-/// A frame's header; None if the reason of a NAK is out of range.
+/// Returns a frame's header; None if the reason of a NAK is out of range.
 fn header_of(frame: Frame) -> Option<Header> {
     let header = match frame {
         Frame::Ack(resp) => control(ControlType::Ack, 0, NO_FLAGS, resp, 0),
@@ -120,7 +119,7 @@ fn header_of(frame: Frame) -> Option<Header> {
     Some(header)
 }
 
-/// Returns whether this is the header of the frame, or neither is there.
+/// Returns whether this is the header of the frame, or there is neither.
 fn is_header(header: Option<Header>, frame: Option<Frame>) -> bool {
     match (header, frame) {
         (Some(header), Some(frame)) => header_of(frame) == Some(header),
@@ -136,7 +135,7 @@ pub struct Bench {
     ghost longest: { core.limits.longest ≡ 4 },
 }
 
-// Manual, since a derived `Drop` is expanded wherever a core is dropped.
+// Manual, since a derived `Drop` would be expanded wherever a value is dropped.
 impl Drop for Bench {
     fn drop(self) {
         let Bench {
@@ -169,7 +168,7 @@ impl Bench {
         }
     }
 
-    /// A fault arrives, of a data message if it has a header.
+    /// Receives a fault, of a data message if it has a header.
     fn receives_fault(&mut self, row: Row) -> Option<Notice> {
         let data = Header::Data(counted(1, NO_FLAGS, 0, 1));
         match row {
@@ -254,7 +253,7 @@ impl Bench {
         self.core.numbers() == numbers
     }
 
-    /// Returns whether the counters has what the row has.
+    /// Returns whether the counters are as in the row.
     fn is_counted(&self, row: Row) -> bool {
         let counters = self.counters();
         match row {
@@ -265,7 +264,7 @@ impl Bench {
         }
     }
 
-    /// Returns whether the core, or the buffer, has what the row has.
+    /// Returns whether the core, or the buffer, is as in the row.
     fn is_told(&self, row: Row) -> bool {
         match row {
             Row::NextHeader(frame) => is_header(self.next_header(), frame),
@@ -283,7 +282,7 @@ impl Bench {
         }
     }
 
-    /// Returns whether the core does what the row has.
+    /// Returns whether the core does what the row expects.
     pub fn is_right(&mut self, row: Row) -> bool {
         match row {
             Row::Start(answer) => self.starts() == answer,
@@ -312,7 +311,7 @@ impl Bench {
         }
     }
 
-    /// Each row is as it should be.
+    /// Checks that each row is as expected.
     pub fn plays(&mut self, rt: &impl Abort, rows: &[Row]) {
         for (i, row) in rows.iter().enumerate() {
             assert!(rt; self.is_right(*row), "row {i}");

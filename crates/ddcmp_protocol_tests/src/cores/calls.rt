@@ -1,4 +1,4 @@
-//! Rows worked by hand, as calls of a core over two stores, and each call once.
+//! Rows computed by hand, as calls of a core over two stores, and each call at least once.
 use crate::cores::bench::{Bench, Frame, Row};
 use ddcmp_core::{Notice, SendRefusal, Seq, StartRefusal, State};
 use std::process::Abort;
@@ -6,7 +6,7 @@ use std::test::Fail;
 
 const HANDED_UP: Option<Notice> = Some(Notice::HandedUp);
 
-/// Startup, at the end that asked for it, with the ACK that it owes sent.
+/// The startup handshake, at the end that sent STRT, with its last ACK sent.
 const STARTUP: &[Row] = &[
     Row::Start(Ok(0)),
     Row::NextHeader(Some(Frame::Strt)),
@@ -17,7 +17,7 @@ const STARTUP: &[Row] = &[
     Row::Next(None),
 ];
 
-/// After the startup it sends 1 to 3, and none is acknowledged.
+/// After the startup handshake it sends messages 1 to 3, and none is acknowledged.
 const WAITS: &[Row] = &[
     Row::SendRefusal(b"a", None),
     Row::Send(b"a", Ok(Seq(1))),
@@ -38,14 +38,14 @@ const BEGINS_ON_AN_ANSWER: &[Row] = &[
     Row::Receive(Frame::Strt, None),
     Row::NextHeader(Some(Frame::Stack)),
     Row::Next(Some(Frame::Stack)),
-    // What is stale.
+    // Frames that are stale.
     Row::Receive(Frame::Ack(1), None),
     Row::State(State::AStart),
     Row::Receive(Frame::Nak(1, 0), None),
     Row::State(State::AStart),
     Row::Receive(Frame::Data(1, 1), None),
     Row::State(State::AStart),
-    // What isn't.
+    // Frames that aren't.
     Row::Receive(Frame::Data(1, 0), Some(Notice::RunningAndHandedUp)),
     Row::Numbers(1, 0, 0, 1),
     Row::SendRefusal(b"fives", Some(SendRefusal::TooLong)),
@@ -77,7 +77,7 @@ const LATE: &[Row] = &[
     Row::Next(None),
 ];
 
-/// After the startup it receives 1 to 5.
+/// After the startup handshake it receives messages 1 to 5.
 const RECEIVES_FIVE: &[Row] = &[
     Row::Receive(Frame::Data(1, 0), HANDED_UP),
     Row::Receive(Frame::Data(2, 0), HANDED_UP),
@@ -92,7 +92,7 @@ const MISSED: &[Row] = &[
     Row::Next(Some(Frame::Ack(5))),
     Row::Receive(Frame::Rep(4), None),
     Row::Next(Some(Frame::Nak(3, 5))),
-    // A NAK goes before a REP, and both before messages.
+    // A NAK is sent before a REP, and both before messages.
     Row::SendRefusal(b"a", None),
     Row::Send(b"a", Ok(Seq(1))),
     Row::Next(Some(Frame::Data(1, 5))),
@@ -106,7 +106,7 @@ const MISSED: &[Row] = &[
     Row::NextHeader(Some(Frame::Data(2, 5))),
     Row::Next(Some(Frame::Data(2, 5))),
     Row::Numbers(5, 2, 0, 3),
-    // Each fault, and a message without room.
+    // Each fault, and a message for which there is no room.
     Row::ReceiveDamagedData,
     Row::Next(Some(Frame::Nak(2, 5))),
     Row::ReceiveTooLong,
@@ -134,7 +134,7 @@ const MAINTENANCE: &[Row] = &[
     Row::Halt,
     Row::EnterMaintenance(Ok(0)),
     Row::Receive(Frame::Maintenance, Some(Notice::MaintenanceHandedUp)),
-    // `abc` is the only message of the inbox, and is taken.
+    // `abc` is the only message in the inbox, and is taken.
     Row::Waiting(1),
     Row::WaitingLength(0, 3),
     Row::Clean,
@@ -221,7 +221,7 @@ fn untaken() -> &'static [Row] {
     UNTAKEN
 }
 
-/// A core of this window, and with this option of a restart, after each of these parts in turn.
+/// Returns a core with this window and restart option, after each of these parts in turn.
 fn bench_of(
     rt: &(impl Abort + AllocGlobal),
     window: u8,
@@ -256,7 +256,7 @@ fn answers_what_it_missed(rt: HostRuntime) -> Result<(), Fail> {
     Ok(())
 }
 
-/// A message is kept, sent and acknowledged.
+/// Checks that a message is queued, sent and acknowledged.
 fn carries(rt: &impl Abort, bench: &mut Bench, number: u8) {
     let rows = [
         Row::SendRefusal(b"a", None),

@@ -1,4 +1,4 @@
-//! Calls of `drive` over memory, of which tests see what came of them.
+//! Calls of `drive` in memory, and their results.
 
 use crate::same::is;
 use ddcmp_frame::failing::{Pieces, Taken};
@@ -13,7 +13,7 @@ pub const STACK: [u8; 8] = [0x05, 0x07, 0xC0, 0x00, 0x00, 0x01, 0x48, 0x55];
 /// An idle read.
 pub const SILENCE: &[u8] = &[];
 
-/// The usual sizes.
+/// The default sizes.
 pub const DEFAULT: Config = Config {
     window: 7,
     inbox: 8,
@@ -22,7 +22,7 @@ pub const DEFAULT: Config = Config {
     restart: false,
 };
 
-/// The least sizes.
+/// The smallest sizes.
 const LEAST: Config = Config {
     window: 1,
     inbox: 1,
@@ -31,7 +31,7 @@ const LEAST: Config = Config {
     restart: false,
 };
 
-/// A halted station.
+/// Returns a halted station.
 fn halted(rt: &impl Abort, alloc: Global, config: Config) -> Station {
     match Station::new(alloc, config) {
         Ok(station) => station,
@@ -39,14 +39,14 @@ fn halted(rt: &impl Abort, alloc: Global, config: Config) -> Station {
     }
 }
 
-/// A started station.
+/// Returns a started station.
 pub fn started(rt: &impl Abort, alloc: Global, config: Config) -> Station {
     let mut station = halted(rt, alloc, config);
     is(rt, station.start(), Ok(0));
     station
 }
 
-/// What came of a call, and how often its clock was asked.
+/// The result of a call, and how often its clock was read.
 #[derive(Drop)]
 pub struct Outcome<const N: usize> {
     pub answer: Result<Driven, LineFault>,
@@ -54,8 +54,8 @@ pub struct Outcome<const N: usize> {
     pub moments: usize,
 }
 
-/// Makes a call with a timer of 1000 ms and a clock that stands still. A read brings this many
-/// bytes at most.
+/// Makes a call with a timer of 1000 ms and a clock that doesn't advance. A read returns at most
+/// this many bytes.
 pub fn drives<const N: usize>(
     rt: &(impl Abort + AllocGlobal),
     station: &mut Station,
@@ -96,25 +96,25 @@ pub fn driven(turns: u32, read: u64, written: u64) -> Driven {
     }
 }
 
-/// A call has this answer, and has written this.
+/// Checks the result of a call, and what it wrote.
 pub fn is_told(rt: &impl Abort, outcome: &Outcome<64>, answer: Driven, written: &[u8]) {
     is(rt, outcome.answer, Ok(answer));
     is(rt, outcome.writer.bytes(), written);
 }
 
-/// Returns what the user of a station sees that is answered.
+/// Returns what the user of a station sees when the startup handshake is complete.
 fn running() -> &'static [Seen] {
     &[Seen::Told(Notice::Running)]
 }
 
-/// The call did nothing.
+/// Checks that the call did nothing.
 fn is_nothing(rt: &impl Abort, outcome: &Outcome<64>) {
     is(rt, outcome.answer, Err(LineFault::Memory));
     assert!(rt; outcome.writer.bytes().is_empty());
     is(rt, outcome.moments, 0);
 }
 
-/// Returns whether memory is refused to a station or a call: then the station stays as it was.
+/// Returns whether an allocation fails for a station or a call: then the station is unchanged.
 fn is_refused(rt: &(impl Abort + AllocGlobal)) -> bool {
     match Station::new(rt.alloc(), LEAST) {
         Ok(mut station) => {
@@ -146,7 +146,7 @@ fn is_refused_to_a_call(rt: &(impl Abort + AllocGlobal), station: &mut Station) 
     true
 }
 
-/// Run with one allocation refused after another, until the next test passes too.
+/// Run with one allocation after another failing, until the next test passes too.
 #[test]
 fn refused_memory_leaves_a_station(rt: HostRuntime) {
     let _either = is_refused(&rt);
@@ -157,7 +157,7 @@ fn ample_memory_drives(rt: HostRuntime) {
     assert!(rt; !is_refused(&rt));
 }
 
-/// A call of a halted station finds memory and does nothing.
+/// Checks that no allocation fails in a call of a halted station, which does nothing.
 fn stays_halted(rt: &(impl Abort + AllocGlobal), max: u16) {
     let mut station = halted(rt, rt.alloc(), Config { max, ..LEAST });
     does_nothing(rt, &mut station);
@@ -175,7 +175,7 @@ fn sees_nothing(rt: &impl Abort, user: &Recorder<'_>) {
     assert!(rt; user.seen().is_empty() && user.mail().is_empty());
 }
 
-/// A call of a started station finds memory and sends STRT once.
+/// Checks that no allocation fails in a call of a started station, which sends STRT once.
 fn starts_once(rt: &(impl Abort + AllocGlobal), turns: u32) {
     let mut station = started(rt, rt.alloc(), DEFAULT);
     sends_strt(rt, &mut station, turns);
@@ -189,7 +189,7 @@ fn sends_strt(rt: &(impl Abort + AllocGlobal), station: &mut Station, turns: u32
     sees_nothing(rt, &user);
 }
 
-/// A call finds memory at every size of a message and any number of turns.
+/// No allocation fails in a call, at every size of a message and any number of turns.
 #[test]
 fn calls_of_every_size(rt: HostRuntime) {
     for max in 1..=16383u16 {

@@ -1,4 +1,4 @@
-//! Stations of the largest sizes, a message of the most bytes, and many turns.
+//! Stations of the largest sizes, a message of the maximum length, and many turns.
 ghost use Rattle.std.specs.Prelude.{◌≡◌};
 
 use crate::driven::driver::{DEFAULT, SILENCE, STACK, STRT, driven, drives, is_told, started};
@@ -31,7 +31,7 @@ const LONGEST_SEEN: &[Seen] = &[
     Seen::Mail(16383, 0),
 ];
 
-/// One byte a turn, and no deadline comes.
+/// One byte a turn; no timer expires.
 #[test]
 fn five_thousand_turns(rt: HostRuntime) {
     let fill = [0x96; 5000];
@@ -49,7 +49,7 @@ fn is_zeros(bytes: Option<&[u8]>) -> bool {
     }
 }
 
-/// Returns whether STRT was written, the message, and ACK 1 when the message of the peer was whole.
+/// Returns whether STRT, the message, and an ACK 1 for the peer's message were written.
 fn is_message_and_answer(written: &[u8]) -> bool {
     written.len() == 16409
         && written.get(..8) == Some(STRT.as_slice())
@@ -58,7 +58,7 @@ fn is_message_and_answer(written: &[u8]) -> bool {
         && written.get(16401..) == Some(ACK_1)
 }
 
-/// The longest message, of zeros, whose check is 0: it comes in 64 turns and goes out in one.
+/// The longest message, of zeros, whose CRC is 0: it is received in 64 turns and sent in one.
 #[test]
 fn the_longest_message(rt: HostRuntime) {
     let zeros = [0; 16385];
@@ -81,7 +81,7 @@ struct End {
     ghost syn: { station.syn ≡ 16 },
 }
 
-/// Calls whose contracts say more than tests want to know.
+/// Calls whose contracts state more than tests need.
 impl End {
     fn new(alloc: Global) -> Option<End> {
         match Station::new(alloc, LARGEST) {
@@ -99,7 +99,7 @@ impl End {
         self.station.feed(frame)
     }
 
-    /// Returns whether it takes a message.
+    /// Returns whether it accepts a message.
     fn takes(&mut self, message: &[u8]) -> bool {
         self.station.send(message).is_ok()
     }
@@ -108,7 +108,7 @@ impl End {
         self.station.held()
     }
 
-    /// Its next frame, at the front of `out`.
+    /// Writes its next frame to the front of `out`.
     fn polls(&mut self, out: &mut [u8; 16409]) -> Option<usize> {
         self.station.poll(out)
     }
@@ -126,13 +126,13 @@ impl End {
         }
     }
 
-    /// Receives a whole frame, which gives this notice.
+    /// Receives a whole frame, for which it returns this notice.
     fn receives(&mut self, rt: &impl Abort, frame: &[u8], notice: Option<Notice>) {
         let used = frame.len();
         is(rt, self.feed(rt, frame), Fed { used, notice });
     }
 
-    /// Its next frame goes to the other end, after 16 bytes of fill.
+    /// Sends its next frame to the other end, after 16 bytes of fill.
     fn sends(&mut self, rt: &impl Abort, len: usize, to: &mut End, notice: Option<Notice>) {
         let mut frame = [0; 16409];
         is(rt, self.polls(&mut frame), Some(len));
@@ -142,12 +142,12 @@ impl End {
         }
     }
 
-    /// It has nothing to send.
+    /// Checks that it has nothing to send.
     fn is_idle(&mut self, rt: &impl Abort) {
         is(rt, self.polls(&mut [0; 16409]), None);
     }
 
-    /// Its next frame is this one, after 16 bytes of fill.
+    /// Checks that its next frame is this one, after 16 bytes of fill.
     fn answers(&mut self, rt: &impl Abort, bytes: &[u8; 8]) {
         let mut out = [0; 16409];
         is(rt, self.polls(&mut out), Some(24));
@@ -155,7 +155,7 @@ impl End {
     }
 }
 
-/// One end sends 255 messages of the most bytes, and one more finds no room.
+/// Has one end accept 255 messages of the maximum length; one more is refused.
 fn fills_the_window(rt: &impl Abort, one: &mut End, message: &[u8]) {
     for _message in 0..255u8 {
         assert!(rt; one.takes(message));
@@ -164,7 +164,7 @@ fn fills_the_window(rt: &impl Abort, one: &mut End, message: &[u8]) {
     is(rt, one.held(), 255 * 16383);
 }
 
-/// They fill the inbox of the other.
+/// Fills the inbox of the other with them.
 fn fills_the_inbox(rt: &impl Abort, one: &mut End, other: &mut End) {
     for _message in 0..255u8 {
         one.sends(rt, 16409, other, Some(Notice::HandedUp));
@@ -174,12 +174,12 @@ fn fills_the_inbox(rt: &impl Abort, one: &mut End, other: &mut End) {
     other.sends(rt, 24, one, Some(Notice::Acknowledged(255)));
 }
 
-/// A message of the most bytes.
+/// Returns a message of the maximum length.
 fn longest() -> [u8; 16383] {
     [7; 16383]
 }
 
-/// A window and an inbox of 255 messages of the most bytes are filled, and one more finds no room.
+/// A window and an inbox are filled with 255 messages of the maximum length; one more is refused.
 #[test]
 fn a_full_window_and_a_full_inbox(rt: HostRuntime) {
     let message = longest();

@@ -1,6 +1,6 @@
-//! Two stations, each started once, are driven over streams in memory that give the bytes that they
-//! took in their order. Sizes, messages, clocks, cuts and faults are drawn. What the users saw is
-//! compared with what the laws of `ddcmp_laws` say, in plain code.
+//! Two stations, each started once, are driven over streams in memory, which return the bytes that
+//! were written to them in order. Sizes, messages, clocks, cuts and faults are random. What the
+//! users saw is compared, in plain code, with what the laws of `ddcmp_laws` state.
 ghost use Rattle.std.specs.Prelude.{length};
 
 use crate::same::is;
@@ -10,7 +10,7 @@ use std::alloc::Global;
 use std::process::Abort;
 use test_kit::Draws;
 
-/// A user who gives drawn messages, and keeps what it saw.
+/// A user who sends random messages, and records what it saw.
 #[derive(Drop)]
 struct Watcher {
     alloc: Global,
@@ -20,7 +20,7 @@ struct Watcher {
     given: Vec<Vec<u8>>,
     handed: Vec<Vec<u8>>,
     acknowledged: usize,
-    /// How often it was asked for a message or handed one.
+    /// How often it was asked for a message or passed one.
     calls: usize,
     refused_memory: bool,
 }
@@ -44,7 +44,7 @@ impl Watcher {
     }
 }
 
-/// Returns whether a message was kept after the others.
+/// Appends a copy of a message; returns whether the allocations succeeded.
 fn keeps(alloc: Global, kept: &mut Vec<Vec<u8>>, message: &[u8]) -> bool {
     match Vec::from_slice(alloc, message) {
         Ok(copied) => kept.push(copied).is_ok(),
@@ -79,7 +79,7 @@ impl User for Watcher {
     }
 }
 
-/// A clock that goes on by drawn steps or stands still, and may leap now and then, back too.
+/// A clock that advances by random steps or not at all, and may jump now and then, also back.
 #[derive(Drop)]
 struct Drifting {
     draws: Draws,
@@ -98,8 +98,8 @@ impl Clock for Drifting {
     }
 }
 
-/// What one user was handed is the first of what the other gave, in order, once, unchanged; and the
-/// no more than that was reported acknowledged to the other.
+/// Checks that what one user received is a prefix of what the other sent, in order, once and
+/// unchanged, and that no more than that was reported acknowledged to the other.
 fn reaches(rt: &impl Abort, giver: &Watcher, taker: &Watcher) {
     assert!(rt; taker.handed.len() <= giver.given.len());
     for (handed, given) in taker.handed.iter().zip(giver.given.iter()) {
@@ -109,8 +109,8 @@ fn reaches(rt: &impl Abort, giver: &Watcher, taker: &Watcher) {
     assert!(rt; !giver.refused_memory && !taker.refused_memory);
 }
 
-/// What a call meets: what comes, how many turns it may take, and at which write the line breaks
-/// and at which read it fails (0 is none).
+/// The parameters of a call: what is received, how many turns there are, at which write the line
+/// breaks and at which read it fails (0 for none).
 #[derive(Clone, Copy)]
 struct Line<'a> {
     pieces: &'a [&'a [u8]],
@@ -127,7 +127,7 @@ struct End {
     clock: Drifting,
     /// All that it wrote.
     written: Vec<u8>,
-    /// Whether a call broke off.
+    /// Whether a call ended early.
     is_over: bool,
 }
 
@@ -148,7 +148,7 @@ impl End {
         })
     }
 
-    /// A call with a timer of 1000 ms.
+    /// Makes a call with a timer of 1000 ms.
     fn is_driven(&mut self, line: Line<'_>, writer: &mut Taken<512>) -> Result<Driven, LineFault> {
         if self.station.offset() > 1_000_000 || writer.failed() {
             return Err(LineFault::Memory);
@@ -165,7 +165,7 @@ impl End {
         )
     }
 
-    /// A call over a line. What it wrote stands after what was written before.
+    /// Makes a call over a line. What it wrote is appended to what was written before.
     fn drives(&mut self, rt: &impl Abort, line: Line<'_>) {
         let mut writer = Taken::<512>::new().at_most(11).failing_at(line.breaks_at);
         let answer = self.is_driven(line, &mut writer);
@@ -174,8 +174,8 @@ impl End {
         self.is_over |= answer.is_err();
     }
 
-    /// A call, in which some more comes of what the other end wrote. After one that broke off the
-    /// user isn't asked and is handed nothing, and nothing is written.
+    /// Makes a call that receives some more of what the other end wrote. After one that ended early
+    /// the user isn't called, and nothing is written.
     fn goes_on(&mut self, rt: &impl Abort, stream: &[u8], cuts: &mut Cuts) {
         let read = self.station.offset() as usize;
         let pieces = cuts.pieces_of(stream.get(read..).unwrap_or(&[]));
@@ -202,7 +202,7 @@ struct Cuts {
 }
 
 impl Cuts {
-    /// The front of some bytes, in three pieces. An empty one is an idle read.
+    /// Returns the first bytes in three chunks. An empty one is an idle read.
     fn pieces_of<'a>(&mut self, bytes: &'a [u8]) -> [&'a [u8]; 3] {
         let mut rest = bytes;
         let mut pieces: [&[u8]; 3] = [&[]; 3];
@@ -215,7 +215,7 @@ impl Cuts {
         pieces
     }
 
-    /// Three turns, or one more, in which the line has ended.
+    /// Returns three turns, or one more, in which the line ends.
     fn turns(&mut self) -> u32 {
         if self.has_faults && self.draws.once_in(300) {
             4
@@ -224,7 +224,7 @@ impl Cuts {
         }
     }
 
-    /// No fault, or at which call.
+    /// Returns at which call there is a fault, or 0 for none.
     fn fault(&mut self) -> usize {
         if self.has_faults && self.draws.once_in(300) {
             self.draws.among(&[1, 2, 3, 5])
@@ -234,7 +234,7 @@ impl Cuts {
     }
 }
 
-/// Sizes that are drawn, with this longest message.
+/// Draws sizes with this maximum length of a message.
 fn sizes(draws: &mut Draws, max: u16) -> Config {
     Config {
         window: draws.among(&[1, 2, 7, 255]),
@@ -245,7 +245,7 @@ fn sizes(draws: &mut Draws, max: u16) -> Config {
     }
 }
 
-/// Both ends are driven in a drawn order, and what their users saw is compared after each call.
+/// Drives both ends in a random order, and compares what their users saw after each call.
 fn run(rt: &impl Abort, a: &mut End, b: &mut End, cuts: &mut Cuts) {
     for _call in 0..200u8 {
         if cuts.draws.once_in(2) {
@@ -258,7 +258,7 @@ fn run(rt: &impl Abort, a: &mut End, b: &mut End, cuts: &mut Cuts) {
     }
 }
 
-/// Two new ends and how the line between them is cut, all drawn.
+/// Draws two new ends and how the line between them is cut.
 fn drawn(rt: &(impl Abort + AllocGlobal), seed: u64, has_faults: bool) -> (End, End, Cuts) {
     let mut draws = Draws { state: seed };
     let max = draws.up_to(60) as u16 + 1;
@@ -278,8 +278,8 @@ fn drawn(rt: &(impl Abort + AllocGlobal), seed: u64, has_faults: bool) -> (End, 
     (a, b, Cuts { draws, has_faults })
 }
 
-/// Whatever the sizes, the cuts, the clocks and the faults, and also if one end takes shorter
-/// messages than the other sends. Enough is delivered for this to say something.
+/// Whatever the sizes, the cuts, the clocks and the faults, and also if one end accepts shorter
+/// messages than the other sends. Enough is delivered for this to be significant.
 #[test]
 fn users_see_the_first_in_order(rt: HostRuntime) {
     let mut handed = 0usize;
@@ -292,13 +292,13 @@ fn users_see_the_first_in_order(rt: HostRuntime) {
     assert!(rt; handed > 1000, "{handed}");
 }
 
-/// All that one user gave was handed to the other, and acknowledged.
+/// Checks that all that one user sent was received by the other, and acknowledged.
 fn reaches_whole(rt: &impl Abort, giver: &Watcher, taker: &Watcher) {
     is(rt, (giver.left, giver.given.len()), (0, 20));
     is(rt, (taker.handed.len(), giver.acknowledged), (20, 20));
 }
 
-/// Without faults, with one longest message and clocks that go forward, all arrives in the end.
+/// Without faults, with the same maximum length and clocks that never go back, all arrives at last.
 #[test]
 fn users_see_all_in_the_end(rt: HostRuntime) {
     for seed in 100..150u64 {

@@ -1,5 +1,5 @@
-//! Calls whose contracts say more than tests want to know: each stands alone here, and promises
-//! nothing.
+//! Calls whose contracts state more than tests need: each has a function of its own here that
+//! promises nothing.
 use ddcmp_frame::failing::Taken;
 use ddcmp_frame::plain::PlainReader;
 use ddcmp_frame::{Got, Item, Reader, Sink, Source, Worst};
@@ -8,7 +8,7 @@ use std::fmt::Debug;
 use std::process::Abort;
 use std::test::Fail;
 
-/// What was reported is what was expected.
+/// Checks that a value is as expected.
 pub fn is<T: PartialEq + Debug + Drop>(rt: &impl Abort, told: T, wanted: T) {
     assert_eq!(rt; told, wanted);
 }
@@ -21,36 +21,36 @@ pub fn plain_of(alloc: Global, max: u16) -> Result<PlainReader, Fail> {
     Ok(PlainReader::new(alloc, max).ok().ok_or("no plain reader")?)
 }
 
-/// A byte comes.
+/// Pushes a byte.
 pub fn push(rt: &impl Abort, reader: &mut Reader, byte: u8) -> Option<Item> {
     assert!(rt; reader.offset() < 1_000_000);
     reader.push(byte)
 }
 
-/// A byte comes to the other reader.
+/// Pushes a byte to the other reader.
 pub fn push_plain(rt: &impl Abort, reader: &mut PlainReader, byte: u8) -> Option<Item> {
     assert!(rt; reader.offset() < 1_000_000);
     reader.push(byte)
 }
 
-/// A piece comes: how many of its bytes were used, and the item that they gave.
+/// Pushes a chunk; returns how many of its bytes were used, and the item that they completed.
 pub fn push_all(rt: &impl Abort, reader: &mut Reader, piece: &[u8]) -> (usize, Option<Item>) {
     assert!(rt; reader.offset() < 1_000_000 && piece.len() < 1_000_000);
     let taken = reader.push_all(piece);
     (taken.used, taken.item)
 }
 
-/// Returns how many bytes are open and kept, and the offset.
+/// Returns how many bytes are open and buffered, and the offset.
 pub fn counts(reader: &Reader) -> (usize, usize, u64) {
     (reader.open(), reader.kept(), reader.offset())
 }
 
-/// The same of the other reader.
+/// Returns the same for the other reader.
 pub fn counts_plain(reader: &PlainReader) -> (usize, usize, u64) {
     (reader.open(), reader.kept(), reader.offset())
 }
 
-/// The data of the last item.
+/// Returns the data of the last item.
 pub fn data(reader: &Reader) -> &[u8] {
     reader.data()
 }
@@ -63,14 +63,14 @@ pub fn reset(reader: &mut Reader) {
     reader.reset();
 }
 
-/// A read, and the worst answer so far.
+/// Reads once; returns the result, and the worst status so far.
 pub fn read<S: Source>(rt: &impl Abort, source: &mut S, buf: &mut [u8]) -> (Got, Worst) {
     assert!(rt; source.worst() != Worst::Failed);
     let got = source.read(buf);
     (got, source.worst())
 }
 
-/// A write, and whether the sink has failed.
+/// Writes once; returns the result, and whether the sink has failed.
 pub fn write<const N: usize>(
     rt: &impl Abort,
     sink: &mut Taken<N>,

@@ -1,10 +1,11 @@
-//! `FromRead` and `ToWrite` report std's faults and no others, with one call for each of theirs.
+//! `FromRead` and `ToWrite` report the faults of std and no others, with one call for each of
+//! theirs.
 use crate::frames::calls::{is, read};
 use ddcmp_frame::{FromRead, Got, Sink, Source, ToWrite, Worst};
 use std::io::{self, ErrorKind, Read, Write};
 use std::process::Abort;
 
-/// The kinds of a read that brings nothing yet.
+/// The kinds of error of a read for which there is nothing yet.
 const IDLE: [ErrorKind; 3] = [
     ErrorKind::WouldBlock,
     ErrorKind::TimedOut,
@@ -53,8 +54,8 @@ const FAILURES: [ErrorKind; 39] = [
     ErrorKind::Uncategorized,
 ];
 
-/// A reader of sevens and a writer: each call moves at most this many bytes, or has a fault of this
-/// kind, and is counted.
+/// A reader of sevens and a writer: each call moves at most this many bytes, or fails with an error
+/// of this kind, and is counted.
 #[derive(Drop)]
 struct Counting {
     answer: Result<usize, ErrorKind>,
@@ -95,8 +96,8 @@ impl Write for Counting {
     }
 }
 
-/// Returns what one read into this buffer returns, and how often the reader was called; no fault
-/// came before.
+/// Returns the result of one read into this buffer, and how often the reader was called; there was
+/// no fault before.
 fn read_once(
     rt: &impl Abort,
     answer: Result<usize, ErrorKind>,
@@ -109,7 +110,7 @@ fn read_once(
     (got, worst, reader.calls)
 }
 
-/// One read into this buffer.
+/// Checks one read into this buffer.
 fn reads(
     rt: &impl Abort,
     answer: Result<usize, ErrorKind>,
@@ -159,7 +160,7 @@ fn is_filled(buf: &[u8], n: usize) -> bool {
     is_all(buf.get(..n), 7) && is_all(buf.get(n..), 0)
 }
 
-/// A read into so much room fills so much of it.
+/// Checks that a read into a buffer of this size fills this much of it.
 fn reads_into(rt: &impl Abort, most: usize, room: usize, n: usize) {
     let mut buf = [0; 65536];
     match buf.get_mut(..room) {
@@ -208,8 +209,8 @@ fn in_turn() -> FromRead<InTurn> {
     FromRead::new(InTurn(0))
 }
 
-/// Returns what one write of these bytes returns, whether the sink has failed then, and how often
-/// the writer was called; no fault came before.
+/// Returns the result of one write of these bytes, whether the sink has then failed, and how often
+/// the writer was called; there was no fault before.
 fn write_once(
     rt: &impl Abort,
     answer: Result<usize, ErrorKind>,
@@ -223,7 +224,7 @@ fn write_once(
     (taken, failed, sink.into_inner().calls)
 }
 
-/// One write of these bytes.
+/// Checks one write of these bytes.
 fn writes(rt: &impl Abort, answer: Result<usize, ErrorKind>, bytes: &[u8], taken: Option<usize>) {
     is(
         rt,
@@ -255,7 +256,7 @@ fn writes_of(rt: &impl Abort, most: usize, len: usize, taken: Option<usize>) {
     writes(rt, Ok(most), &bytes[..len], taken);
 }
 
-/// No fault of a write is skipped.
+/// No fault of a write is ignored.
 #[test]
 fn failed_writes_are_told(rt: HostRuntime) {
     for kind in FAILURES {

@@ -1,10 +1,10 @@
-//! The devices of the tests do what they are reported.
+//! The devices of the tests do what is requested.
 use crate::frames::calls::{is, read, write};
 use ddcmp_frame::failing::{Pieces, Taken};
 use ddcmp_frame::{Got, Worst};
 use std::process::Abort;
 
-/// A source that gives a byte at a time, is idle at its fourth read and fails at its seventh.
+/// Returns a source of single bytes, which is idle at its fourth read and fails at its seventh.
 fn faulty<'a>(pieces: &'a [&'a [u8]]) -> Pieces<'a> {
     Pieces::new(pieces).at_most(1).idle_at(4).failing_at(7)
 }
@@ -39,8 +39,8 @@ fn pieces_come_in_order(rt: HostRuntime) {
     );
 }
 
-/// A sink of eight bytes, and no more than `room`, that takes at most this many at a time; which
-/// write fails, 0 is none.
+/// Returns a sink of eight bytes, or of `room`, whose writes take at most this many bytes; the
+/// write `fails_at` fails (0 for none).
 fn sink_of(rt: &impl Abort, room: usize, most: usize, fails_at: usize) -> Taken<8> {
     assert!(rt; room <= 8 && 0 < most);
     Taken::full_at(room).at_most(most).failing_at(fails_at)
@@ -50,7 +50,7 @@ fn kept(sink: &Taken<8>) -> &[u8] {
     sink.bytes()
 }
 
-/// Each write of `abc` has its answer, and these bytes are kept.
+/// Checks the results of writes of `abc`, and the bytes that are kept.
 fn keeps(rt: &impl Abort, mut sink: Taken<8>, answers: &[Option<usize>], bytes: &[u8]) {
     for answer in answers {
         is(

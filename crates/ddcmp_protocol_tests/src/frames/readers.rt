@@ -1,4 +1,4 @@
-//! The two readers beside each other, byte by byte and in pieces.
+//! Both readers side by side, byte by byte and in chunks.
 use crate::frames::calls::{
     counts, counts_plain, data, data_plain, is, plain_of, push, push_all, push_plain, reader_of,
 };
@@ -9,8 +9,8 @@ use std::alloc::{AllocError, Global};
 use std::process::Abort;
 use std::test::Fail;
 
-/// The most data that a frame may have: as much as COUNT can say, all that the texts have, and too
-/// little for some and for most of their frames.
+/// Maximum lengths of data: the largest COUNT, all that the frames here have, and too little for
+/// some and for most of them.
 const MAXIMA: [u16; 4] = [16383, 3, 2, 1];
 
 /// The frames of the published layouts, one after another.
@@ -25,13 +25,13 @@ fn published(alloc: Global) -> Result<Vec<u8>, AllocError> {
     Ok(text)
 }
 
-/// Every other answer of the two readers, which have taken the same bytes.
+/// Checks the other values of the two readers, which have taken the same bytes.
 fn same_state(rt: &impl Abort, reader: &Reader, plain: &PlainReader) {
     is(rt, data(reader), data_plain(plain));
     is(rt, counts(reader), counts_plain(plain));
 }
 
-/// The same results of every call after every byte.
+/// Checks that every call has the same result after every byte.
 fn same_by_bytes(rt: &impl Abort, alloc: Global, max: u16, text: &[u8]) -> Result<(), Fail> {
     let mut reader = reader_of(alloc, max)?;
     let mut plain = plain_of(alloc, max)?;
@@ -46,7 +46,7 @@ fn same_by_bytes(rt: &impl Abort, alloc: Global, max: u16, text: &[u8]) -> Resul
     Ok(())
 }
 
-/// The item that the plain reader gives for these bytes: at the last of them, if at any.
+/// Returns the item of the plain reader for these bytes: at the last of them, if at any.
 fn item_of(rt: &impl Abort, plain: &mut PlainReader, bytes: &[u8]) -> Option<Item> {
     let mut given = None;
     for byte in bytes {
@@ -71,8 +71,8 @@ impl Both {
         })
     }
 
-    /// One reader takes bytes up to an item, and the plain one as many: how many. It gives the same
-    /// item, and their other calls return the same then.
+    /// Feeds one reader bytes up to an item, and the plain one as many; returns how many. Checks
+    /// that both return the same item, and their other calls the same values.
     fn takes_some(&mut self, rt: &impl Abort, rest: &[u8]) -> usize {
         let (used, item) = push_all(rt, &mut self.reader, rest);
         let wanted = item_of(rt, &mut self.plain, rest.get(..used).unwrap_or(&[]));
@@ -81,7 +81,7 @@ impl Both {
         used
     }
 
-    /// Both take a piece.
+    /// Feeds both a chunk.
     fn takes(&mut self, rt: &impl Abort, piece: &[u8]) {
         let mut at = 0usize;
         for _byte in piece {
@@ -93,8 +93,8 @@ impl Both {
     }
 }
 
-/// The same items if one reader takes pieces of a length, and the same results after each item
-/// and each piece.
+/// Checks that both return the same items if one reader takes chunks of a length, and have the same
+/// values after each item and each chunk.
 fn same_in_pieces(
     rt: &impl Abort,
     alloc: Global,
@@ -110,7 +110,7 @@ fn same_in_pieces(
     Ok(())
 }
 
-/// Byte by byte and in pieces.
+/// Checks both readers byte by byte and in chunks.
 fn same(rt: &impl Abort, alloc: Global, text: &[u8]) -> Result<(), Fail> {
     for max in MAXIMA {
         same_by_bytes(rt, alloc, max, text)?;
@@ -148,12 +148,12 @@ fn start_bytes_alone(rt: HostRuntime) -> Result<(), Fail> {
     same(&rt, rt.alloc(), &[0x05; 300])
 }
 
-/// Returns whether an item is a good frame at the beginning.
+/// Returns whether an item is a good frame at offset 0.
 fn is_first(item: Option<Item>) -> bool {
     matches!(item, Some(Item::Good(0, _)))
 }
 
-/// A piece gives one item at most, and an empty one nothing.
+/// A chunk yields one item at most, and an empty one none.
 #[test]
 fn up_to_an_item(rt: HostRuntime) -> Result<(), Fail> {
     let mut reader = reader_of(rt.alloc(), 16383)?;

@@ -61,7 +61,7 @@ pub(crate) const ABC_MAINT: [u8; 13] = [
     0x90, 0x03, 0xC0, 0x00, 0x00, 0x01, 0xA4, 0x90, 0x61, 0x62, 0x63, 0x38, 0x97,
 ];
 
-/// The data messages and the maintenance message of the layouts.
+/// Returns the data messages and the maintenance message of the layouts.
 pub(crate) fn messages() -> [&'static [u8]; 5] {
     [&ABC_1, &ABC_2, &A_1, &B_2, &ABC_MAINT]
 }
@@ -70,7 +70,7 @@ fn ack_0() -> &'static [u8] {
     &[0x05, 0x01, 0x00, 0x00, 0x00, 0x01, 0xFC, 0x55]
 }
 
-/// Returns what a reader gives for a text, byte by byte: the items, and all data that it lends.
+/// Returns what a reader yields for a text, byte by byte: the items, and all data.
 fn given(
     rt: &(impl Abort + AllocGlobal),
     reader: &mut Reader,
@@ -87,7 +87,7 @@ fn given(
     Ok((given, lent))
 }
 
-/// A reader gives these items for a text, and lends these data.
+/// Checks that a reader yields these items for a text, with these data.
 fn reads(
     rt: &(impl Abort + AllocGlobal),
     reader: &mut Reader,
@@ -101,7 +101,7 @@ fn reads(
     Ok(())
 }
 
-/// How many bytes are open and kept.
+/// Checks how many bytes are open and buffered.
 fn has_open(rt: &impl Abort, reader: &Reader, open: usize, kept: usize) {
     let (is_open, is_kept, _offset) = counts(reader);
     is(rt, (is_open, is_kept), (open, kept));
@@ -112,7 +112,7 @@ fn has_offset(rt: &impl Abort, reader: &Reader, offset: u64) {
     is(rt, is_at, offset);
 }
 
-/// A frame at the front of a buffer.
+/// Writes a frame to the front of a buffer.
 fn frame_in(out: &mut [u8; 20], header: &Header, data: &[u8]) -> usize
     requires frame { IsFrame header.now «data».now }
     requires room { frame_length header.now ≤ 20 }
@@ -122,7 +122,7 @@ fn frame_in(out: &mut [u8; 20], header: &Header, data: &[u8]) -> usize
     write_frame(header, data, out)
 }
 
-/// A frame is written as these bytes, and nothing after them.
+/// Checks that a frame is written as these bytes, and nothing after them.
 fn writes(rt: &impl Abort, header: &Header, data: &[u8], bytes: &[u8])
     requires frame { IsFrame header.now «data».now }
     requires room { frame_length header.now ≤ 20 }
@@ -138,7 +138,7 @@ fn length_of(header: &Header) -> usize {
     header.frame_length()
 }
 
-/// A header is parsed and written as these bytes.
+/// Checks that a header is parsed from and written as these bytes.
 fn is_header(rt: &impl Abort, header: &Header, bytes: &[u8; 8]) {
     is(rt, parsed(bytes), Ok(*header));
     let told = written(header);
@@ -153,7 +153,7 @@ fn written(header: &Header) -> [u8; 8] {
     header.write()
 }
 
-/// A frame parsed, written and read alone.
+/// Checks that a frame is parsed, written and read on its own.
 fn both_ways(
     rt: &(impl Abort + AllocGlobal),
     header: &Header,
@@ -181,7 +181,7 @@ fn frames_of_the_layouts(rt: HostRuntime) -> Result<(), Fail> {
     Ok(())
 }
 
-/// A control message with these numbers RESP and NUM.
+/// Checks a control message with these numbers RESP and NUM.
 fn control_both_ways(
     rt: &(impl Abort + AllocGlobal),
     kind: ControlType,
@@ -195,7 +195,7 @@ fn control_both_ways(
     both_ways(rt, &Header::Control(short), &[], bytes)
 }
 
-/// A data message of up to ten bytes, with RESP 0.
+/// Checks a data message of up to ten bytes, with RESP 0.
 fn data_both_ways(
     rt: &(impl Abort + AllocGlobal),
     message: &[u8],
@@ -286,14 +286,14 @@ fn reasons_of_naks(rt: HostRuntime) {
     }
 }
 
-/// A byte that ends nothing: one more is open and kept, and none is lent.
+/// Checks a byte that completes nothing: one more is open and buffered, and there are no data.
 fn opens(rt: &impl Abort, reader: &mut Reader, byte: u8, open: usize) {
     is(rt, push(rt, reader, byte), None);
     has_open(rt, reader, open, open);
     is(rt, lent_by(reader), b"".as_slice());
 }
 
-/// A data frame byte by byte: nothing before its last byte, and its data until the next.
+/// A data frame byte by byte: no item before its last byte, and its data until the next byte.
 #[test]
 fn one_frame_byte_by_byte(rt: HostRuntime) -> Result<(), Fail> {
     let mut reader = reader_of(rt.alloc(), 16383)?;
@@ -308,7 +308,7 @@ fn one_frame_byte_by_byte(rt: HostRuntime) -> Result<(), Fail> {
     Ok(())
 }
 
-/// Its last byte.
+/// Checks its last byte.
 fn ends_with(rt: &impl Abort, reader: &mut Reader) -> Result<(), Fail> {
     let fields = Counted::new(3, NO_FLAGS, 0, 1, 1).ok_or("no header")?;
     let good = Item::Good(0, Header::Data(fields));
@@ -319,7 +319,7 @@ fn ends_with(rt: &impl Abort, reader: &mut Reader) -> Result<(), Fail> {
     Ok(())
 }
 
-/// A new reader gives these items for a text, lends nothing, and keeps the bytes that are open.
+/// Checks that a new reader yields these items for a text, has no data, and buffers the open bytes.
 fn is_read(
     rt: &(impl Abort + AllocGlobal),
     text: &[u8],
@@ -332,13 +332,13 @@ fn is_read(
     Ok(())
 }
 
-/// A control message without numbers.
+/// Returns a control message without numbers.
 fn control(kind: ControlType, flags: Flags) -> Result<Header, Fail> {
     let short = Short::new(kind, 0, flags, 0, 0, 1).ok_or("no header")?;
     Ok(Header::Control(short))
 }
 
-/// Data message 1 of this many bytes.
+/// Returns the header of data message 1 of this many bytes.
 fn data_1(count: u16) -> Result<Header, Fail> {
     let fields = Counted::new(count, NO_FLAGS, 0, 1, 1).ok_or("no header")?;
     Ok(Header::Data(fields))
@@ -363,7 +363,7 @@ fn false_start() -> &'static [u8] {
     &[0x81, 0x05, 0x01, 0x00, 0x00, 0x00, 0x01, 0xFC, 0x55]
 }
 
-/// Two headers that can't stand, and an ACK.
+/// Two invalid headers, and an ACK.
 fn bad_formats() -> &'static [u8] {
     &[
         0x81, 0x00, 0x00, 0x00, 0x01, 0x01, 0xDE, 0x41, 0x05, 0x04, 0x00, 0x00, 0x00, 0x01, 0x30,
@@ -410,7 +410,7 @@ fn long_header() -> &'static [u8] {
     &[0x81, 0xDD, 0x05, 0x00, 0x01, 0x01, 0x32, 0x9E]
 }
 
-/// The bytes of a too long frame are counted, never kept.
+/// The bytes of a too long frame are counted, never buffered.
 #[test]
 fn too_long(rt: HostRuntime) -> Result<(), Fail> {
     let mut reader = reader_of(rt.alloc(), 1500)?;
@@ -427,7 +427,7 @@ fn too_long(rt: HostRuntime) -> Result<(), Fail> {
     Ok(())
 }
 
-/// Returns why no reader has this maximum, and how many bytes are open in a new one.
+/// Returns why there can't be a reader with this maximum, or how many bytes are open in a new one.
 fn made(alloc: Global, max: u16) -> Result<(usize, u64), ReaderRefusal> {
     match Reader::new(alloc, max) {
         Ok(reader) => Ok((reader.open(), reader.offset())),
@@ -435,7 +435,7 @@ fn made(alloc: Global, max: u16) -> Result<(usize, u64), ReaderRefusal> {
     }
 }
 
-/// Returns whether memory is refused to a reader.
+/// Returns whether an allocation fails for a reader.
 fn is_refused(rt: &(impl Abort + AllocGlobal)) -> bool {
     let alloc = rt.alloc();
     is(rt, made(alloc, 0), Err(ReaderRefusal::MaxZero));
@@ -452,7 +452,7 @@ fn is_refused(rt: &(impl Abort + AllocGlobal)) -> bool {
     }
 }
 
-/// Run with one allocation refused after another, until the next test passes too.
+/// Run with one allocation after another failing, until the next test passes too.
 #[test]
 fn refused_memory(rt: HostRuntime) {
     let _either = is_refused(&rt);
@@ -463,7 +463,7 @@ fn ample_memory(rt: HostRuntime) {
     assert!(rt; !is_refused(&rt));
 }
 
-/// Every maximum in range has a reader.
+/// There is a reader for every maximum in range.
 #[test]
 fn readers_of_every_size(rt: HostRuntime) {
     for max in 1..=16383u16 {

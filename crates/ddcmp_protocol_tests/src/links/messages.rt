@@ -1,4 +1,4 @@
-//! Messages of an input, in lines and in binary, pushed in one piece and byte by byte.
+//! Messages of an input, in lines and in binary, pushed in one chunk and byte by byte.
 use ddcmp_input::{Entry, HexLines, Lengths, Pushed};
 use std::process::Abort;
 
@@ -16,7 +16,7 @@ fn lengths(rt: &(impl Abort + AllocGlobal)) -> Lengths {
     }
 }
 
-/// Returns what one line is.
+/// Returns what one line completes.
 fn entry_of(rt: &(impl Abort + AllocGlobal), line: &[u8]) -> Option<Entry> {
     let mut lines = lines(rt);
     let pushed = lines.push_all(line);

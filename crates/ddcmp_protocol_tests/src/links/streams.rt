@@ -1,11 +1,11 @@
-//! Two links over two streams of bytes: each message arrives once, in order, as it was, in pieces
-//! of any cut and with readers that are slow.
+//! Two links over two streams of bytes: each message arrives once, in order and unchanged, in
+//! chunks of any size and with slow readers.
 ghost use Rattle.std.specs.Prelude.{◌≤◌};
 
 use ddcmp_station::{Config, Link, State};
 use std::process::Abort;
 
-/// The longest message.
+/// The maximum length of a message.
 const LONGEST: usize = 40;
 
 /// An end: its link, how many of its messages were accepted, and how many of the other's taken.
@@ -36,13 +36,13 @@ impl End {
         }
     }
 
-    /// A number below 32,768 that no one foresees.
+    /// Returns a pseudorandom number below 32,768.
     fn draw(&mut self) -> u32 {
         self.drawn = self.drawn.wrapping_mul(1_103_515_245).wrapping_add(12_345);
         self.drawn >> 17
     }
 
-    /// Offers messages as long as there is room.
+    /// Sends messages as long as there is room.
     fn offer(&mut self, rt: &(impl Abort + AllocGlobal), total: u32) {
         let mut message = [0; LONGEST];
         for _offered in 0..256u32 {
@@ -55,7 +55,7 @@ impl End {
         }
     }
 
-    /// Takes a received message now and then: it is the next of the other end.
+    /// Takes a received message now and then, and checks that it is the next one of the other end.
     fn take(&mut self, rt: &(impl Abort + AllocGlobal)) {
         if self.draw() % 3 != 0 {
             return;
@@ -74,7 +74,7 @@ impl End {
     }
 }
 
-/// Message `number`, at the front of `out`: its length.
+/// Puts message `number` into the front of `out`; returns its length.
 fn spell(number: u32, out: &mut [u8; LONGEST]) -> usize
     ensures { result ≤ LONGEST }
 {
@@ -84,7 +84,7 @@ fn spell(number: u32, out: &mut [u8; LONGEST]) -> usize
     number as usize % LONGEST + 1
 }
 
-/// Frames go from an end to the other, a piece of them at once.
+/// Carries frames from an end to the other, a chunk at once.
 fn carry(from: &mut End, to: &mut End) {
     from.link.fill();
     if !to.link.wants_line() {
@@ -96,7 +96,7 @@ fn carry(from: &mut End, to: &mut End) {
     from.link.sent(fed.used);
 }
 
-/// Both ends send this many messages.
+/// Has both ends send this many messages.
 fn exchange(rt: &(impl Abort + AllocGlobal), window: u16, inbox: u16, total: u32) {
     let mut a = End::new(rt, window, inbox);
     let mut b = End::new(rt, window, inbox);
@@ -133,7 +133,7 @@ fn large_window(rt: HostRuntime) {
     exchange(&rt, 127, 3, 1000);
 }
 
-/// A link that restarts in the middle of a frame.
+/// A link restarts in the middle of a frame.
 #[test]
 fn begins_anew(rt: HostRuntime) {
     let mut a = End::new(&rt, 7, 8);

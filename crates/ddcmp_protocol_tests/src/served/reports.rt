@@ -5,7 +5,7 @@ use ddcmp_net::{ServeFault, serve};
 use ddcmp_station::{Clock, LineFault};
 use std::process::Abort;
 
-/// A clock that stands.
+/// A clock that doesn't advance.
 #[derive(Drop)]
 pub struct Standing;
 
@@ -68,9 +68,9 @@ fn counted() -> &'static [u8] {
         turns=1 state=Running read=21 written=8\n"
 }
 
-/// A served station: what comes, what it sends, for how many turns and whether it restarts; how
-/// many bytes a write takes at most, and which read, write and write of the report fails, 0 is
-/// none.
+/// A served station: what it receives and sends, for how many turns, and whether it restarts; how
+/// many bytes a write takes at most; and which read, write and write of the report fails (0 for
+/// none).
 #[derive(Clone, Copy)]
 struct Call<'a> {
     came: &'a [&'a [u8]],
@@ -84,7 +84,7 @@ struct Call<'a> {
 }
 
 impl<'a> Call<'a> {
-    /// A call without faults that sends nothing.
+    /// Returns a call without faults that sends nothing.
     fn of(came: &'a [&'a [u8]], turns: u32) -> Self {
         Call {
             came,
@@ -121,14 +121,14 @@ impl<'a> Call<'a> {
     }
 }
 
-/// What came of a call.
+/// The result of a call.
 struct ServeOutcome {
     answer: Result<(), ServeFault>,
     writer: Taken<256>,
     report: Taken<256>,
 }
 
-// Manual, since a derived `Drop` is expanded wherever an answer is dropped.
+// Manual, since a derived `Drop` would be expanded wherever a value is dropped.
 impl Drop for ServeOutcome {
     fn drop(self) {
         let ServeOutcome {
@@ -170,7 +170,7 @@ fn serves(rt: &(impl Abort + AllocGlobal), call: Call<'_>) -> ServeOutcome {
     }
 }
 
-/// A call returns, reports and writes this.
+/// Checks what a call returns, reports and writes.
 fn is_told(
     rt: &(impl Abort + AllocGlobal),
     call: Call<'_>,
@@ -184,7 +184,7 @@ fn is_told(
     is(rt, told.writer.bytes(), written);
 }
 
-/// The same in large pieces and byte by byte.
+/// Checks the same in large chunks and byte by byte.
 fn row(
     rt: &(impl Abort + AllocGlobal),
     call: Call<'_>,
@@ -204,7 +204,7 @@ fn mail_is_reported(rt: HostRuntime) {
     row(&rt, Call::of(&[], 0), &Ok(()), report, b"");
 }
 
-/// The counters stand in front of the last line, if they are asked for.
+/// The counters are before the last line, if they are requested.
 #[test]
 fn counters_are_reported(rt: HostRuntime) {
     let mut report = Taken::<1024>::new();
@@ -234,7 +234,7 @@ fn one_message_is_sent(rt: HostRuntime) {
     row(&rt, call, &Ok(()), report, strt_and_data());
 }
 
-/// The peer restarts: the station halts, or restarts itself.
+/// The peer restarts: the station halts, or restarts too.
 #[test]
 fn a_restart_is_reported(rt: HostRuntime) {
     let came = [stack(), strt()];
@@ -247,7 +247,7 @@ fn a_restart_is_reported(rt: HostRuntime) {
     row(&rt, call.restarting(), &Ok(()), report, strt_and_ack());
 }
 
-/// A line that ends leaves no last line.
+/// If the line ends, there is no last line.
 #[test]
 fn an_end_is_reported(rt: HostRuntime) {
     let ended = Err(ServeFault::Line(LineFault::Ended));
@@ -261,15 +261,15 @@ fn an_end_is_reported(rt: HostRuntime) {
     );
 }
 
-/// A write of the report fails: so much of it is kept.
+/// A write of the report fails: checks how much of it is kept.
 fn keeps(rt: &(impl Abort + AllocGlobal), at: usize, kept: usize) {
     let told = serves(rt, Call::of(&[stack_and_data()], 1).failing_at(0, 0, at));
     is(rt, &told.answer, &Err(ServeFault::Report));
     is(rt, Some(told.report.bytes()), reported().get(..kept));
 }
 
-/// Each line of the report is one write here. A report that failed is reported when the turns are
-/// over, and has nothing after the write that failed.
+/// Each line of the report is one write here. A failed report is returned after all turns, and
+/// nothing is written after the write that failed.
 #[test]
 fn a_report_fails(rt: HostRuntime) {
     keeps(&rt, 1, 0);
@@ -281,7 +281,7 @@ fn a_report_fails(rt: HostRuntime) {
     is(&rt, told.report.bytes(), reported());
 }
 
-/// The answer of a call in which a read, a write or a write of the report fails.
+/// Checks the result of a call in which a read, a write or a write of the report fails.
 fn answers(rt: &(impl Abort + AllocGlobal), fails_at: [usize; 3], fault: LineFault) {
     let [read, write, report] = fails_at;
     let told = serves(
@@ -291,7 +291,7 @@ fn answers(rt: &(impl Abort + AllocGlobal), fails_at: [usize; 3], fault: LineFau
     is(rt, &told.answer, &Err(ServeFault::Line(fault)));
 }
 
-/// A fault of the line is reported, also if the report failed.
+/// A fault of the line is returned even if the report failed.
 #[test]
 fn a_line_fails(rt: HostRuntime) {
     answers(&rt, [1, 0, 0], LineFault::Read);

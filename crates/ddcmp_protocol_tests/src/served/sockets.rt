@@ -1,4 +1,4 @@
-//! A served station over a connection, of which the test holds the other end.
+//! A served station over a connection whose other end is the test's.
 use crate::same::is;
 use crate::served::reports::{Standing, strt_and_ack};
 use ddcmp_frame::failing::Taken;

@@ -1,5 +1,5 @@
-//! A station to which things are done one after another, and whether each is answered as it should
-//! be. Each call stands alone in a function that promises nothing.
+//! A station for which calls are made one after another and their results checked. Each call has a
+//! function of its own that promises nothing.
 ghost use Rattle.std.specs.Prelude.{◌≡◌, ◌≤◌};
 
 use ddcmp_frame::{Counted, Flags};
@@ -9,7 +9,7 @@ use ddcmp_station::{
 use std::alloc::Global;
 use std::process::Abort;
 
-/// A call of a station, what it is given, and what it returns.
+/// A call of a station, with its arguments and its expected result.
 #[derive(Clone, Copy)]
 pub enum Row {
     Start(Result<u8, StartRefusal>),
@@ -18,26 +18,26 @@ pub enum Row {
     ClearLine(bool),
     Send(&'static [u8], Result<Seq, SendRefusal>),
     SendMaintenance(&'static [u8], Result<(), SendRefusal>),
-    /// A piece that comes, how many of its bytes are used, and what is reported.
+    /// A chunk that is received, how many of its bytes are used, and what is reported.
     Feed(&'static [u8], usize, Option<Notice>),
     /// The next frame; no bytes if there is none.
     Poll(&'static [u8]),
-    /// The first message of the inbox, which leaves it.
+    /// The first message in the inbox, which is removed.
     Take(&'static [u8]),
     Expire(bool),
     TakeArm(bool),
-    /// The first message of the inbox, which stays there.
+    /// The first message in the inbox, which is kept.
     Shows(&'static [u8]),
     State(State),
     /// R, N, A and T.
     Numbers([u8; 4]),
-    /// How many bytes are held and open.
+    /// How many bytes are buffered and open.
     Bytes(usize, usize),
     Open(usize),
     SendRefusal(&'static [u8], Option<SendRefusal>),
-    /// Nothing is to be sent.
+    /// There is nothing to send.
     NothingNext,
-    /// Data message 1 of three bytes is to be sent next.
+    /// Data message 1 of three bytes is sent next.
     DataNext,
     Outgoing(u8),
     Waiting(u8),
@@ -48,7 +48,7 @@ pub enum Row {
     Expiries(u32),
 }
 
-/// Data message 1 of three bytes.
+/// Returns the header of data message 1 of three bytes.
 fn header() -> Header {
     Header::Data(Counted {
         count: 3,
@@ -59,7 +59,7 @@ fn header() -> Header {
     })
 }
 
-/// Returns whether these bytes are at the front, and what was after them stays.
+/// Returns whether these bytes are at the front, and what is after them is unchanged.
 fn begins(out: &[u8], bytes: &[u8]) -> bool {
     out.starts_with(bytes) && out.get(bytes.len()) == Some(&0xAA)
 }
@@ -71,14 +71,14 @@ pub struct Bench {
     ghost syn: { station.syn ≤ 16 },
 }
 
-// Manual, since a derived `Drop` is expanded wherever a station is dropped.
+// Manual, since a derived `Drop` would be expanded wherever a value is dropped.
 impl Drop for Bench {
     fn drop(self) {
         let Bench { station: _station } = self;
     }
 }
 
-/// Calls whose contracts say more than tests want to know.
+/// Calls whose contracts state more than tests need.
 impl Bench {
     pub fn new(rt: &impl Abort, alloc: Global, syn: u8) -> Bench
         requires { syn ≤ 16 }
@@ -117,7 +117,7 @@ impl Bench {
         self.station.offset()
     }
 
-    /// Returns how many bytes are held and open.
+    /// Returns how many bytes are buffered and open.
     fn bytes(&self) -> (usize, usize) {
         (self.station.held(), self.station.open())
     }
@@ -154,7 +154,7 @@ impl Bench {
         self.station.clear_line()
     }
 
-    /// Returns what it makes of a piece; None if that is too long, or too much came before.
+    /// Feeds it a chunk; returns None if that is too long, or too much was received before.
     fn feed(&mut self, piece: &[u8]) -> Option<Fed> {
         if self.station.offset() >= 1000 || piece.len() >= 1000 {
             return None;
@@ -170,8 +170,8 @@ impl Bench {
         self.station.take(out)
     }
 
-    /// Copies the first message of the inbox, if there is one: its length as it is reported, and as
-    /// it is copied.
+    /// Copies the first message in the inbox, if there is one; returns its length as reported, and
+    /// as copied.
     fn copy_first(&self, out: &mut [u8; 1500]) -> Option<(usize, usize)> {
         if self.station.waiting() == 0 {
             return None;
@@ -184,7 +184,7 @@ impl Bench {
 }
 
 impl Bench {
-    /// Returns whether it makes this of a piece.
+    /// Returns whether a chunk has this result.
     fn is_fed(&mut self, piece: &[u8], used: usize, notice: Option<Notice>) -> bool {
         let offset = self.offset();
         self.feed(piece) == Some(Fed { used, notice })
@@ -197,20 +197,20 @@ impl Bench {
         self.poll(&mut out).unwrap_or(0) == bytes.len() && begins(&out, bytes)
     }
 
-    /// Returns whether the first message of its inbox is this one, which leaves it.
+    /// Returns whether the first message in its inbox is this one, and removes it.
     fn is_taken(&mut self, message: &[u8]) -> bool {
         let mut out = [0xAA; 1500];
         self.take(&mut out) == Some(message.len()) && begins(&out, message)
     }
 
-    /// Returns whether the first message of its inbox is this one, which stays there.
+    /// Returns whether the first message in its inbox is this one, and keeps it.
     fn is_shown(&self, message: &[u8]) -> bool {
         let mut out = [0xAA; 1500];
         let length = message.len();
         self.copy_first(&mut out) == Some((length, length)) && begins(&out, message)
     }
 
-    /// Returns whether the station has what the row has.
+    /// Returns whether the station is as in the row.
     fn is_told(&self, row: Row) -> bool {
         match row {
             Row::Shows(message) => self.is_shown(message),
@@ -232,7 +232,7 @@ impl Bench {
         }
     }
 
-    /// Returns whether the station does what the row has.
+    /// Returns whether the station does what the row expects.
     fn is_right(&mut self, row: Row) -> bool {
         match row {
             Row::Start(answer) => self.start() == answer,
@@ -253,7 +253,7 @@ impl Bench {
         }
     }
 
-    /// Each row is as it should be.
+    /// Checks that each row is as expected.
     pub fn plays(&mut self, rt: &impl Abort, rows: &[Row]) {
         for (i, row) in rows.iter().enumerate() {
             assert!(rt; self.is_right(*row), "row {i}");

@@ -1,4 +1,4 @@
-//! Each call of a station at least once, with rows worked by hand.
+//! Each call of a station at least once, with rows computed by hand.
 use crate::stations::bench::{Bench, Row};
 use ddcmp_station::{Notice, SendRefusal, Seq, StartRefusal, State};
 use std::process::Abort;
@@ -23,7 +23,7 @@ const STACK_AND_DATA: &[u8] = &[
     0x05, 0x07, 0xC0, 0x00, 0x00, 0x01, 0x48, 0x55, 0x81, 0x03, 0x00, 0x00, 0x01, 0x01, 0x9A, 0x41,
     0x61, 0x62, 0x63, 0x38, 0x97,
 ];
-/// Data message 2, `abc`, without its last byte, and that.
+/// Data message 2, `abc`, without its last byte; and that byte.
 const FRONT_OF_DATA_2: &[u8] = &[
     0x81, 0x03, 0x00, 0x00, 0x02, 0x01, 0x9A, 0xB1, 0x61, 0x62, 0x63, 0x38,
 ];
@@ -50,11 +50,11 @@ const PIECES: &[Row] = &[
     Row::Start(Err(StartRefusal::NotHalted)),
     Row::Poll(STRT),
     Row::Poll(&[]),
-    // STACK and the first message come in one piece.
+    // STACK and the first message are received in one chunk.
     Row::Feed(STACK_AND_DATA, 8, Some(Notice::Running)),
     Row::Feed(DATA, 13, Some(Notice::HandedUp)),
     Row::Take(b"abc"),
-    // The second message comes in two pieces.
+    // The second message is received in two chunks.
     Row::Feed(FRONT_OF_DATA_2, 12, None),
     Row::Bytes(12, 12),
     Row::Feed(END_OF_DATA_2, 1, Some(Notice::HandedUp)),
@@ -74,7 +74,7 @@ const FILL: &[Row] = &[
     Row::Expiries(1),
 ];
 
-/// It is started, and asked to start by its peer, which has its STACK.
+/// It is started and receives STRT; the peer gets its STACK.
 const STARTUP: &[Row] = &[
     Row::Start(Ok(0)),
     Row::Feed(STRT, 8, None),
@@ -161,12 +161,12 @@ fn kept() -> &'static [Row] {
     KEPT
 }
 
-/// A new station does what these rows have.
+/// Checks that a new station does what these rows expect.
 fn plays(rt: &(impl Abort + AllocGlobal), rows: &[Row]) {
     Bench::new(rt, rt.alloc(), 0).plays(rt, rows);
 }
 
-/// A running station does what these rows have.
+/// Checks that a running station does what these rows expect.
 fn plays_running(rt: &(impl Abort + AllocGlobal), rows: &[Row]) {
     let mut bench = Bench::new(rt, rt.alloc(), 0);
     bench.plays(rt, startup());

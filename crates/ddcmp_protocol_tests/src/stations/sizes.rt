@@ -13,7 +13,7 @@ fn config_of(window: u16, inbox: u16, max: u16, syn: u8) -> Config {
     }
 }
 
-/// Returns why no station has these sizes, and the state of one that has.
+/// Returns why there can't be a station of these sizes, or the state of a new one.
 fn made(alloc: Global, config: Config) -> Result<State, ConfigRefusal> {
     match Station::new(alloc, config) {
         Ok(station) => Ok(station.state()),
@@ -25,10 +25,11 @@ fn makes(rt: &(impl Abort + AllocGlobal), config: Config) {
     assert!(rt; made(rt.alloc(), config) == Ok(State::Halted));
 }
 
-/// Window, inbox, longest message and fill, and why no station has these sizes.
+/// Window, inbox, maximum length of a message and fill, and why these sizes are refused, if they
+/// are.
 type Sizes = (u16, u16, u16, u8, Option<ConfigRefusal>);
 
-/// What is reported of sizes that are wrong in several ways, and stations of other sizes.
+/// Which refusal is returned if several sizes are wrong, and stations of other sizes.
 const TESTED_IN_ORDER: &[Sizes] = &[
     (0, 0, 0, 17, Some(ConfigRefusal::Window)),
     (7, 0, 0, 17, Some(ConfigRefusal::Inbox)),
@@ -42,7 +43,7 @@ const TESTED_IN_ORDER: &[Sizes] = &[
     (1, 1, 1, 16, None),
 ];
 
-/// Each size at its ends and between.
+/// Each size at the ends of its range and between.
 const MANY: &[(u16, u16, u16, u8)] = &[
     (1, 8, 1500, 0),
     (128, 8, 1500, 0),
@@ -86,7 +87,7 @@ fn sizes_are_tested_in_order(rt: HostRuntime) {
     }
 }
 
-/// With both choices of a restart.
+/// With and without the restart option.
 #[test]
 fn stations_of_many_sizes(rt: HostRuntime) {
     for (window, inbox, max, syn) in many() {
@@ -97,7 +98,7 @@ fn stations_of_many_sizes(rt: HostRuntime) {
     }
 }
 
-/// Returns whether memory is refused to a station.
+/// Returns whether an allocation fails for a station.
 fn is_refused(rt: &(impl Abort + AllocGlobal)) -> bool {
     match made(rt.alloc(), config_of(2, 2, 8, 0)) {
         Ok(state) => {
@@ -111,7 +112,7 @@ fn is_refused(rt: &(impl Abort + AllocGlobal)) -> bool {
     }
 }
 
-/// Run with one allocation refused after another, until the next test passes too.
+/// Run with one allocation after another failing, until the next test passes too.
 #[test]
 fn refused_memory_makes_no_station(rt: HostRuntime) {
     let _either = is_refused(&rt);
@@ -122,7 +123,7 @@ fn ample_memory_makes_a_station(rt: HostRuntime) {
     assert!(rt; !is_refused(&rt));
 }
 
-/// Every size in range makes a station.
+/// There is a station for every size in range.
 #[test]
 fn stations_of_every_size(rt: HostRuntime) {
     for window in 1..=255u16 {

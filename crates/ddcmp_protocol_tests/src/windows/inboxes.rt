@@ -1,11 +1,10 @@
-//! An inbox to which things are done one after another, and whether each is answered as it should
-//! be.
+//! An inbox for which calls are made one after another and their results checked.
 ghost use Rattle.std.specs.Prelude.{◌≡◌, []};
 
 use ddcmp_window::{Inbox, Offer, Seq, Store};
 use std::process::Abort;
 
-/// A call of an inbox, what it is given, and what it returns.
+/// A call of an inbox, with its arguments and its expected result.
 #[derive(Clone, Copy)]
 enum Row {
     Offer(Seq, &'static [u8], Offer),
@@ -18,9 +17,9 @@ enum Row {
     Len(u8),
     Length(u8, usize),
     Copy(u8, usize),
-    /// What the buffer holds, to which messages are written.
+    /// What is in the buffer to which messages are written.
     Wrote([u8; 4]),
-    /// The buffer holds zeros from now on.
+    /// Fills the buffer with zeros.
     Clean,
 }
 
@@ -32,7 +31,7 @@ const IN_SEQUENCE: &[Row] = &[
     Row::Put(b"d", false),
     Row::Last(Seq(1)),
     Row::Bytes(2),
-    // It yields received messages.
+    // It returns received messages.
     Row::Holds,
     Row::Len(1),
     Row::Length(0, 2),
@@ -55,7 +54,7 @@ fn in_sequence() -> &'static [Row] {
     IN_SEQUENCE
 }
 
-/// Returns whether an inbox, or the buffer, has what the row has.
+/// Returns whether an inbox, or the buffer, is as in the row.
 fn is_told<S: Store>(inbox: &Inbox<S>, out: &[u8; 4], row: Row) -> bool {
     match row {
         Row::Last(answer) => inbox.last() == answer,
@@ -67,12 +66,12 @@ fn is_told<S: Store>(inbox: &Inbox<S>, out: &[u8; 4], row: Row) -> bool {
     }
 }
 
-/// Returns whether message `i` is there, has this length and goes to the buffer.
+/// Returns whether there is a message `i` with this length, and copies it to the buffer.
 fn is_copied<S: Store>(inbox: &Inbox<S>, out: &mut [u8; 4], i: u8, length: usize) -> bool {
     i < inbox.len() && inbox.length(i) <= 4 && inbox.copy(i, out) == length
 }
 
-/// Returns whether an inbox does what the row has.
+/// Returns whether an inbox does what the row expects.
 fn is_done<S: Store>(inbox: &mut Inbox<S>, out: &mut [u8; 4], row: Row) -> bool
     requires { inbox.old.longest ≡ 4 }
     ensures { inbox.new.longest ≡ inbox.old.longest }
@@ -102,7 +101,7 @@ fn is_done<S: Store>(inbox: &mut Inbox<S>, out: &mut [u8; 4], row: Row) -> bool
     }
 }
 
-/// Each row is as it should be.
+/// Checks that each row is as expected.
 fn plays<S: Store>(rt: &impl Abort, inbox: &mut Inbox<S>, rows: &[Row])
     requires { inbox.old.longest ≡ 4 }
 {

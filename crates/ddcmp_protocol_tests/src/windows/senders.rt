@@ -1,11 +1,11 @@
-//! A sender to which things are done one after another, and whether each is answered as it should
-//! be. Each call stands alone in a branch of a function that promises next to nothing.
+//! A sender for which calls are made one after another and their results checked. Each call is in a
+//! branch of a function that promises next to nothing.
 ghost use Rattle.std.specs.Prelude.{◌≡◌, []};
 
 use ddcmp_window::{SendRefusal, Sender, Seq, Store};
 use std::process::Abort;
 
-/// A call of a sender, what it is given, and what it returns.
+/// A call of a sender, with its arguments and its expected result.
 #[derive(Clone, Copy)]
 enum Row {
     Refusal(&'static [u8], Option<SendRefusal>),
@@ -24,7 +24,7 @@ enum Row {
     LastSent(Seq),
     LastAcknowledged(Seq),
     NextNumber(Seq),
-    /// What the buffer holds, to which messages are written.
+    /// What is in the buffer to which messages are written.
     Wrote([u8; 4]),
 }
 
@@ -62,11 +62,11 @@ const KEPT_UNTIL_ACKNOWLEDGED: &[Row] = &[
     // Acknowledgements inside the window and outside it.
     Row::Acknowledged(Seq(2), 2),
     Row::Acknowledged(Seq(4), 0),
-    // So with refusals.
+    // The same with NAKs.
     Row::Refused(Seq(9), None),
     Row::NextNumber(Seq(4)),
     Row::Refused(Seq(2), Some(0)),
-    // It sends again.
+    // It retransmits.
     Row::Next(Some((Seq(3), 1))),
     Row::Acknowledged(Seq(3), 1),
     Row::Len(0),
@@ -77,7 +77,7 @@ const KEPT_UNTIL_ACKNOWLEDGED: &[Row] = &[
     Row::NextNumber(Seq(1)),
 ];
 
-/// Messages that leave with no number.
+/// Messages that are removed without a number.
 const GIVEN_WITHOUT_NUMBERS: &[Row] = &[
     Row::FirstLength(None),
     Row::Pop(None),
@@ -112,7 +112,7 @@ fn full() -> &'static [Row] {
     FULL
 }
 
-/// Returns whether a sender, or the buffer, has what the row has.
+/// Returns whether a sender, or the buffer, is as in the row.
 fn is_told<S: Store>(sender: &Sender<S>, out: &[u8; 4], row: Row) -> bool {
     match row {
         Row::Refusal(message, answer) => sender.refusal(message) == answer,
@@ -130,7 +130,7 @@ fn is_told<S: Store>(sender: &Sender<S>, out: &[u8; 4], row: Row) -> bool {
     }
 }
 
-/// Returns whether a sender does what the row has.
+/// Returns whether a sender does what the row expects.
 fn is_done<S: Store>(sender: &mut Sender<S>, out: &mut [u8; 4], row: Row) -> bool
     requires { sender.old.longest ≡ 4 }
     ensures { sender.new.longest ≡ sender.old.longest }
@@ -146,7 +146,7 @@ fn is_done<S: Store>(sender: &mut Sender<S>, out: &mut [u8; 4], row: Row) -> boo
     }
 }
 
-/// The length of a message that leaves with no number; None if messages were sent.
+/// Removes a message without a number; returns its length, or None if messages were sent.
 fn pops<S: Store>(sender: &mut Sender<S>, out: &mut [u8; 4]) -> Option<Option<usize>>
     requires { sender.old.longest ≡ 4 }
     ensures { sender.new.longest ≡ sender.old.longest }
@@ -158,7 +158,7 @@ fn pops<S: Store>(sender: &mut Sender<S>, out: &mut [u8; 4]) -> Option<Option<us
     Some(sender.pop(out))
 }
 
-/// Each row is as it should be.
+/// Checks that each row is as expected.
 fn plays<S: Store>(rt: &impl Abort, sender: &mut Sender<S>, rows: &[Row])
     requires { sender.old.longest ≡ 4 }
     ensures { sender.new.longest ≡ sender.old.longest }
@@ -186,7 +186,7 @@ pub fn gives_without_numbers<S: Store + Drop>(rt: &impl Abort, store: S)
     plays(rt, &mut sender, given_without_numbers());
 }
 
-/// The number of a message that is kept, if it is the number of the next one to leave.
+/// Queues and sends a message; returns its number, if that was sent.
 fn sends_one<S: Store>(sender: &mut Sender<S>) -> Option<Seq>
     requires { sender.old.longest ≡ 4 }
     ensures { sender.new.longest ≡ sender.old.longest }
@@ -201,7 +201,7 @@ fn sends_one<S: Store>(sender: &mut Sender<S>) -> Option<Seq>
     }
 }
 
-/// Returns whether a message is kept, sent and acknowledged.
+/// Returns whether a message is queued, sent and acknowledged.
 fn is_carried<S: Store>(sender: &mut Sender<S>) -> bool
     requires { sender.old.longest ≡ 4 }
     ensures { sender.new.longest ≡ sender.old.longest }
@@ -212,7 +212,7 @@ fn is_carried<S: Store>(sender: &mut Sender<S>) -> bool
     }
 }
 
-/// 300 messages, each acknowledged before the next is kept.
+/// 300 messages, each acknowledged before the next is queued.
 pub fn numbers_wrap<S: Store + Drop>(rt: &impl Abort, store: S)
     requires empty { S.messages store ≡ [] }
     requires longest { S.longest store ≡ 4 }

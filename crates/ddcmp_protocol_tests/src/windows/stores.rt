@@ -1,4 +1,5 @@
-//! A store to which things are done one after another, and each call once with ample memory.
+//! A store for which calls are made one after another, and each call once without failing
+//! allocations.
 
 use crate::windows::inboxes::takes_in_sequence;
 use crate::windows::senders::{
@@ -9,7 +10,7 @@ use std::alloc::Global;
 use std::process::Abort;
 use std::test::Fail;
 
-/// A call of a store, what it is given, and what it returns.
+/// A call of a store, with its arguments and its expected result.
 #[derive(Clone, Copy)]
 enum Row {
     Push(&'static [u8]),
@@ -22,7 +23,7 @@ enum Row {
     Len(u8),
     Length(u8, usize),
     Copy(u8, usize),
-    /// What the buffer holds, to which messages are written.
+    /// What is in the buffer to which messages are written.
     Wrote([u8; 4]),
 }
 
@@ -54,7 +55,7 @@ fn in_order() -> &'static [Row] {
     IN_ORDER
 }
 
-/// Returns whether a store, or the buffer, has what the row has.
+/// Returns whether a store, or the buffer, is as in the row.
 fn is_told<S: Store>(store: &S, out: &[u8; 4], row: Row) -> bool {
     match row {
         Row::Limit(answer) => store.limit() == answer,
@@ -86,12 +87,12 @@ fn is_dropped<S: Store>(store: &mut S, count: u8) -> bool {
     true
 }
 
-/// Returns whether message `i` is there, has this length and goes to the buffer.
+/// Returns whether there is a message `i` with this length, and copies it to the buffer.
 fn is_copied<S: Store>(store: &S, out: &mut [u8; 4], i: u8, length: usize) -> bool {
     i < store.len() && store.length(i) <= 4 && store.copy(i, out) == length
 }
 
-/// Returns whether a store does what the row has.
+/// Returns whether a store does what the row expects.
 fn is_done<S: Store>(store: &mut S, out: &mut [u8; 4], row: Row) -> bool {
     match row {
         Row::Push(message) => is_pushed(store, message),
@@ -105,7 +106,7 @@ fn is_done<S: Store>(store: &mut S, out: &mut [u8; 4], row: Row) -> bool {
     }
 }
 
-/// Each row is as it should be.
+/// Checks that each row is as expected.
 fn keeps_in_order<S: Store + Drop>(rt: &impl Abort, mut store: S) {
     let mut out = [0; 4];
     for (i, row) in in_order().iter().enumerate() {
@@ -135,7 +136,7 @@ fn a_ring_serves_a_window(rt: HostRuntime) -> Result<(), Fail> {
     Ok(())
 }
 
-/// Returns whether a ring of these sizes is made, each of which is in its range.
+/// Returns whether a ring of these sizes is made, if they are in range.
 fn is_made(alloc: Global, limit: u8, longest: u16) -> bool {
     if limit == 0 || longest == 0 || longest > 16383 {
         return false;
@@ -146,7 +147,7 @@ fn is_made(alloc: Global, limit: u8, longest: u16) -> bool {
     }
 }
 
-/// With ample memory.
+/// No allocation fails.
 #[test]
 fn rings_are_made(rt: HostRuntime) {
     for limit in [1, 2, 7, 127, 255] {
@@ -156,7 +157,7 @@ fn rings_are_made(rt: HostRuntime) {
     }
 }
 
-/// Run with one allocation refused after another; the other tests want all of them.
+/// Run with one allocation after another failing; in the other tests none may fail.
 #[test]
 fn refused_memory_is_told(rt: HostRuntime) {
     match SlotStore::new(rt.alloc(), 3, 4) {
@@ -173,7 +174,7 @@ fn refused_memory_for_a_ring_is_told(rt: HostRuntime) {
     }
 }
 
-/// If no memory is refused, a run under refusals returns what any other does.
+/// If no allocation fails, a run of these tests is like any other.
 #[test]
 fn ample_memory_is_enough(rt: HostRuntime) {
     assert!(rt; SlotStore::new(rt.alloc(), 3, 4).is_ok());

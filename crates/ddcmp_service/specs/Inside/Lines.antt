@@ -1,4 +1,4 @@
--- What a line is, and what an error of it means.
+-- The kinds of line, and what an error of a call on one means.
 use Rattle.std.specs.Prelude.{ℕ, Bool, true, false}
 use Rattle.std.specs.declared.io.ErrorKind.{ErrorKind}
 use Rattle.std.specs.declared.io.ErrorKind.TheVariants as kind
@@ -8,25 +8,26 @@ use Rattle.ddcmp_session.specs.declared.devices.Down.TheVariants.{Failed}
 use Rattle.ddcmp_session.specs.declared.devices.Transfer.{Transfer}
 use Rattle.ddcmp_session.specs.declared.devices.Transfer.TheVariants.{Bytes, Nothing, Interrupted, Ended}
 
--- what is written at once arrives at once, or not at all
+-- whether each write arrives as a whole, or not at all
 abbrev pub has_datagrams : Line → Bool
 has_datagrams (Stream stream) = false
 has_datagrams (Datagrams socket remote) = true
 has_datagrams (Device file) = false
 
--- only a call that was interrupted, or would wait, leaves a line up
+-- Only a call that was interrupted, or would block, leaves a line up.
 abbrev pub moved_by_error : ErrorKind → Transfer
 moved_by_error kind.WouldBlock = Nothing
 moved_by_error kind.Interrupted = Interrupted
 moved_by_error other = Ended (Failed other)
 
--- a datagram of a peer that isn't there yet is none; other errors say that nothing came
+-- An error because the peer isn't there yet counts as an empty datagram; after other errors nothing
+-- was received.
 abbrev pub received_by_error : ErrorKind → Transfer
 received_by_error kind.ConnectionRefused = Bytes 0
 received_by_error kind.Interrupted = Interrupted
 received_by_error _ = Nothing
 
--- a datagram that an error takes is lost
+-- A datagram whose sending fails is lost.
 abbrev pub sent_by_error : ℕ → ErrorKind → Transfer
 sent_by_error length kind.WouldBlock = Nothing
 sent_by_error length kind.Interrupted = Interrupted

@@ -1,4 +1,4 @@
--- What may come of opening a line, by its kind, whatever the addresses; and what is reported of it.
+-- The possible results of opening a line, by its kind, and what is reported about them.
 use Rattle.std.specs.Prelude.{⊤, ◌≡◌, Option, Some, None}
 use Rattle.ddcmp_service.specs.declared.event.Event.{Event}
 use Rattle.ddcmp_service.specs.declared.event.Event.TheVariants as event
@@ -10,7 +10,7 @@ use Rattle.ddcmp_service.specs.declared.opener.Opened.TheVariants.{Listening, No
 use Rattle.ddcmp_session.specs.declared.options.LineKind.{LineKind}
 use Rattle.ddcmp_session.specs.declared.options.LineKind.TheVariants as kind
 
--- what is reported: nothing of a line that isn't a connection
+-- what is reported: nothing if the line isn't a connection
 abbrev pub event_of : Opened → Option Event
 event_of (Line it) = None
 event_of (Connected it peer) = Some (event.Connected peer)
@@ -26,7 +26,7 @@ line_of (Connecting peer) = None
 line_of (Listening address) = None
 line_of NotYet = None
 
--- only a line of callers listens
+-- Only a line for callers listens.
 abbrev pub Begins : LineKind → Opened → Type 0
 Begins kind.Listen (Listening address) = ⊤
 Begins kind.Connect NotYet = ⊤
@@ -34,8 +34,8 @@ Begins kind.Datagrams NotYet = ⊤
 Begins kind.Device NotYet = ⊤
 Begins _ _ = ⊥
 
--- a connection is begun and made, and one from a caller listened for and made; other lines are open
--- at once
+-- A connection is begun and then made; a listener waits for a caller, who then connects; other
+-- lines are open at once.
 abbrev pub Opens : LineKind → Opened → Type 0
 Opens kind.Connect (Connected (line.Stream stream) peer) = ⊤
 Opens kind.Connect (Connecting peer) = ⊤
@@ -47,7 +47,7 @@ Opens kind.Datagrams (Line (line.Datagrams socket peer)) = ⊤
 Opens kind.Device (Line (line.Device file)) = ⊤
 Opens _ _ = ⊥
 
--- If nothing came of it yet, the connection or the listener stays the same, if there is one.
+-- If there is no result yet, the connection or the listener is unchanged, if there is one.
 abbrev pub SameIfNotYet : {C : Type 0} → C → C → Opened → Type 0
 SameIfNotYet old new NotYet = new ≡ old
 SameIfNotYet old new _ = ⊤

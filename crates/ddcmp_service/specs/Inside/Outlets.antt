@@ -1,9 +1,9 @@
--- What the owner of an outlet writes at once.
+-- What the owner of an outlet writes in one call.
 use Rattle.std.specs.Prelude.{ℕ, List, take}
 use Rattle.ddcmp_service.specs.declared.outlet.Outlet.{Outlet}
 use Rattle.ddcmp_service.specs.declared.outlet.Outlet.TheVariants.{Again, File, Other}
 
--- to a file all; elsewhere, once it is ready, a write of 4096 bytes doesn't wait for room
+-- to a file all bytes; elsewhere 4096, a write of which doesn't block once the outlet is ready
 abbrev pub at_once : Outlet → List ℕ → List ℕ
 at_once File bytes = bytes
 at_once (Again file) bytes = take 4096 bytes

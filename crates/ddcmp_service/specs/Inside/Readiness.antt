@@ -1,11 +1,11 @@
--- Which of the devices that are wanted are known to be ready.
+-- Which of the requested devices are known to be ready.
 use Rattle.std.specs.Prelude.{Bool, ◌&&◌, ◌||◌, Option, Some, None}
 use Rattle.ddcmp_service.specs.declared.poller.Descriptor.{Descriptor}
 use Rattle.ddcmp_service.specs.declared.poller.Ready.{Ready}
 use Rattle.ddcmp_service.specs.declared.poller.Poller.{Poller}
 use Rattle.ddcmp_session.specs.declared.devices.Wanted.{Wanted}
 
--- a serial device, or else a socket
+-- of the serial device, if the line is one, or else of the socket
 abbrev pub ready_of : Option Descriptor → Ready → Ready
 ready_of (Some device) socket = device.ready
 ready_of None socket = socket
@@ -13,7 +13,7 @@ ready_of None socket = socket
 abbrev pub line_ready : Poller → Ready
 line_ready w = ready_of w.device w.socket
 
--- a device that is wanted is ready
+-- a requested device is ready
 abbrev pub is_any_ready : Wanted → Poller → Bool
 is_any_ready wanted w =
     wanted.input && w.input.ready.to_read

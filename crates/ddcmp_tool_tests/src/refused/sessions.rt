@@ -1,4 +1,4 @@
-//! A session takes all its memory when it is made: it is refused there, or it does all.
+//! A session allocates all its memory when it is made: that fails, or the session does everything.
 use ddcmp_session::{End, Form, LineKind, Options, Session};
 use ddcmp_station::{Config, ConfigRefusal};
 use std::process::Abort;
@@ -28,7 +28,7 @@ fn options(form: Form) -> Options {
     }
 }
 
-/// A session; none if memory was refused.
+/// Returns a session, or none if an allocation failed.
 fn session(rt: &(impl Abort + AllocGlobal), form: Form, kind: LineKind) -> Option<Session> {
     match Session::new(rt.alloc(), options(form), kind) {
         Ok(mut session) => {
@@ -42,8 +42,8 @@ fn session(rt: &(impl Abort + AllocGlobal), form: Form, kind: LineKind) -> Optio
     }
 }
 
-/// Passes what waits for the line to the other end, and takes what both write: whether anything
-/// moved.
+/// Passes what is pending for the line to the other end, and takes what both write; returns whether
+/// anything moved.
 fn passes(from: &mut Session, to: &mut Session) -> bool {
     from.fill();
     let sent = from.to_line();
@@ -66,7 +66,7 @@ fn settles(a: &mut Session, b: &mut Session) {
     }
 }
 
-/// The text of the longest message in this form.
+/// Returns the text of the longest message in this form.
 fn longest(rt: &(impl Abort + AllocGlobal), form: Form) -> Option<Vec<u8>> {
     let (front, byte, count, back): (&[u8], &[u8], u32, &[u8]) = match form {
         Form::Digits => (b"", b"61", 16_383, b"\n"),
@@ -81,8 +81,8 @@ fn longest(rt: &(impl Abort + AllocGlobal), form: Form) -> Option<Vec<u8>> {
     Some(text)
 }
 
-/// Runs two ends over one line after another, with a longest message on each: whether memory was
-/// refused before.
+/// Runs two ends over one line after another, with a longest message on each; returns whether an
+/// allocation failed before.
 fn is_refused(rt: &(impl Abort + AllocGlobal), form: Form, kind: LineKind) -> bool {
     let Some(text) = longest(rt, form) else {
         return true;
@@ -109,7 +109,7 @@ fn is_refused(rt: &(impl Abort + AllocGlobal), form: Form, kind: LineKind) -> bo
     false
 }
 
-/// The end of what a session wrote is a message, with its mark if it is of digits.
+/// Checks that the end of what a session wrote is a message, with its mark if it is in digits.
 fn is_written(rt: &impl Abort, session: &mut Session, text: &[u8]) {
     let told = session.to_output();
     let n = told.len();
@@ -129,12 +129,12 @@ fn ends(rt: &impl Abort, a: &mut Session, b: &mut Session) {
     assert!(rt; (a.lost(), a.has_run()) == (0, true));
 }
 
-/// Returns whether memory is refused to two ends of a connection with messages of digits.
+/// Returns whether an allocation fails in two ends of a connection with messages in digits.
 fn is_refused_digits(rt: &(impl Abort + AllocGlobal)) -> bool {
     is_refused(rt, Form::Digits, LineKind::Connect)
 }
 
-/// Returns whether memory is refused to two ends of a line of datagrams with messages in binary.
+/// Returns whether an allocation fails in two ends of a line of datagrams, with binary messages.
 fn is_refused_binary(rt: &(impl Abort + AllocGlobal)) -> bool {
     is_refused(rt, Form::Binary, LineKind::Datagrams)
 }

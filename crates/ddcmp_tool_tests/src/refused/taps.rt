@@ -1,5 +1,5 @@
-//! A tap takes the memory of its queues when it is made, and that of its log as this grows: when it
-//! is refused, what was forwarded and what was logged is a beginning.
+//! A tap allocates its queues when it is made, and its log as this grows. If an allocation fails,
+//! what was forwarded and what was logged are prefixes.
 ghost use Rattle.std.specs.Prelude.{◌≡◌, false};
 
 use ddcmp_io::failing::{Pieces, Taken};
@@ -8,11 +8,11 @@ use ddcmp_tap::{Direction, Flow, Notation, Outlet, Readiness, Side, TapFault, pu
 use std::cell::Cell;
 use std::process::Abort;
 
-/// Three ACKs, and what is no frame before each.
+/// Three ACKs, each after bytes that aren't a frame.
 const BYTES: &[u8] = b"\x81\x05\x05\x01\x00\x00\x00\x01\xfc\x55\
     \x00\x96\x05\x01\x00\x00\x00\x01\xfc\x55\x81\x05\x01\x00\x00\x00\x01\xfc\x55";
 
-/// The way to a side that takes bytes as long as they are those that it waits for.
+/// An output to a side that takes bytes only if they are those that it expects.
 #[derive(Drop)]
 struct Way<'a> {
     waits_for: &'a Cell<&'static [u8]>,
@@ -33,7 +33,7 @@ impl<'a> Way<'a> {
 impl Outlet for Way<'_> {
     ghost use Rattle.std.specs.Prelude.{None};
 
-    // What a cell holds, no contract can say.
+    // No contract can state what a cell holds.
     ghost contents = { λ _. None };
 
     ghost closed = { λ way. way.closed };
@@ -63,7 +63,7 @@ impl Readiness for Ready {
     }
 }
 
-/// A clock at the beginning.
+/// A clock at its start.
 #[derive(Drop)]
 struct Beginning;
 
@@ -73,7 +73,7 @@ impl Clock for Beginning {
     }
 }
 
-/// Returns how a tap over memory ends that writes to this log.
+/// Returns how a tap in memory ends that writes to this log.
 fn tapped(
     rt: &impl AllocGlobal,
     notation: Notation,
@@ -99,7 +99,7 @@ fn tapped(
     )
 }
 
-/// Returns whether memory is refused to a tap that logs like this.
+/// Returns whether an allocation fails in a tap that logs like this.
 fn is_refused(rt: &(impl Abort + AllocGlobal), notation: Notation) -> bool {
     let ways = [Cell::new(BYTES), Cell::new(BYTES)];
     let mut log = Taken::new();

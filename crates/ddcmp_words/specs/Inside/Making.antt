@@ -1,4 +1,4 @@
--- A parser in the making.
+-- A parser that is being built.
 use Rattle.std.specs.Prelude.{◌≡◌, ◌∷◌, [], IfOk, List, false}
 use Rattle.clap.specs.Words.{App, Rule, Text, app_of, with_rule}
 use Rattle.clap.specs.declared.builder.command.Command.TheViews.{out-Command as fields_of}
@@ -9,25 +9,24 @@ use Rattle.ddcmp_words.specs.declared.options.Takes.TheVariants.{Place}
 use Rattle.ddcmp_words.specs.Words.{flag_rule, number_rule, place_rule, text_rule}
 use Rattle.ddcmp_words.specs.declared.parser.Parser.{Parser}
 
--- If there was memory, the command that is made has this shape, and no option that its subcommands
--- have too.
+-- If no allocation failed, the command that was built has this shape, and no global options.
 abbrev pub Makes : Parser → App → Type 0
 Makes parser app =
     IfOk parser.made (λ command. (app_of command ≡ app) × ((fields_of command).has_globals ≡ false))
 
--- the rule of an option by its name and what it takes
+-- the rule of an option, by its name and its value
 abbrev pub rule_by : Text → Takes → Rule
 rule_by name Nothing = flag_rule name
 rule_by name (Number low high) = number_rule name low high
 rule_by name (TakesText value) = text_rule name
 rule_by name (Place value) = place_rule name
 
--- the rule of an option of a table
+-- the rule of an option in a table
 abbrev pub rule_of_option : CommandOption → Rule
 rule_of_option option =
     record (rule_by option.name.now option.takes) { required = option.is_required }
 
--- a command with these rules more, in their order
+-- a command with these rules added, in order
 unfoldable pub with_rules : App → List Rule → App
 with_rules app [] = app
 with_rules app (rule ∷ rules) = with_rules (with_rule app rule) rules

@@ -1,9 +1,9 @@
-//! A carrier that fails, or gives less or other bytes than it was handed.
+//! A carrier that fails, or returns fewer or other bytes than it was passed.
 ghost use Rattle.std.specs.Prelude.{◌≡◌, false};
 
 use ddcmp_line::{Carrier, End, LineFault};
 
-/// Gives at most this many bytes, the first changed by exclusive or, and fails at one carry.
+/// Returns at most this many bytes, the first changed by exclusive or, and fails at one carry.
 pub struct Bad {
     most: usize,
     by: u8,
@@ -12,7 +12,7 @@ pub struct Bad {
     broken: bool,
 }
 
-// Manual, since a derived `Drop` is expanded wherever a carrier is dropped.
+// Manual, since a derived `Drop` would be expanded wherever a value is dropped.
 impl Drop for Bad {
     fn drop(self) {
         let Bad {
@@ -26,7 +26,7 @@ impl Drop for Bad {
 }
 
 impl Bad {
-    /// Carries are counted from 1; 0 is none.
+    /// Makes a carrier. Carries are counted from 1; 0 stands for none.
     pub fn new(most: usize, by: u8, fails_at: usize) -> Self
         ensures { result.broken ≡ false }
     {

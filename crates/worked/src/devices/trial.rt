@@ -1,33 +1,33 @@
-//! A script over devices that fail, are idle, or go in small steps.
+//! A script over devices that fail, are idle, or move a few bytes at a time.
 use crate::devices::bad::Bad;
 use ddcmp_frame::failing::{Pieces, Taken};
 use ddcmp_line::{Config, Pair, ScriptFault, script};
 use std::alloc::Global;
 use std::io::{self, Write};
 
-/// What the devices do. Calls are counted from 1; 0 is none.
+/// What the devices do. Calls are counted from 1; 0 stands for none.
 #[derive(Clone, Copy)]
 struct Trial {
-    /// How many bytes a read gives at most, which read is idle and which fails.
+    /// How many bytes a read returns at most, which read is idle and which fails.
     read: usize,
     idle_at: usize,
     read_fails_at: usize,
     /// How many bytes a write takes at most, and which fails.
     write: usize,
     write_fails_at: usize,
-    /// How many bytes the carrier gives at most, how it changes the first, and which carry fails.
+    /// How many bytes the carrier returns at most, how it changes the first, and which carry fails.
     given: usize,
     by: u8,
     carry_fails_at: usize,
 }
 
-/// What came of it.
+/// The result of a script.
 struct ScriptOutcome {
     answer: Result<(), ScriptFault>,
     writer: Taken<512>,
 }
 
-// Manual, since a derived `Drop` is expanded wherever an answer is dropped.
+// Manual, since a derived `Drop` would be expanded wherever a value is dropped.
 impl Drop for ScriptOutcome {
     fn drop(self) {
         let ScriptOutcome {
@@ -45,7 +45,7 @@ const DEFAULT: Config = Config {
     restart: false,
 };
 
-/// The words of a line, in the order of `Trial`.
+/// Parses a line, in the order of `Trial`.
 fn trial_of(line: &str) -> Option<Trial> {
     let mut words = line.split(' ');
     Some(Trial {
@@ -60,7 +60,7 @@ fn trial_of(line: &str) -> Option<Trial> {
     })
 }
 
-/// The script, between two new ends.
+/// Runs the script between two new ends.
 fn plays(alloc: Global, pair: &mut Pair, lines: &str, trial: Trial) -> Option<ScriptOutcome> {
     if trial.read == 0 || trial.write == 0 {
         return None;
@@ -77,7 +77,7 @@ fn plays(alloc: Global, pair: &mut Pair, lines: &str, trial: Trial) -> Option<Sc
     Some(ScriptOutcome { answer, writer })
 }
 
-/// Tries the script as a line says, and returns what it wrote and its answer.
+/// Runs the script as a line requests, and prints what it wrote and its result.
 pub fn perform(rt: &HostRuntime, lines: &str, line: &str) -> io::Result<()> {
     let Some(trial) = trial_of(line) else {
         return println!(rt; "no trial");

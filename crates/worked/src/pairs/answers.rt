@@ -1,8 +1,8 @@
-//! Replies, as text.
+//! Prints replies as text.
 use ddcmp_pair::{Memory, Recovered, Reply, Settled, Station};
 use std::io;
 
-/// A word, and bytes in hexadecimal.
+/// Prints a word, and bytes in hexadecimal.
 pub fn bytes(rt: &HostRuntime, word: &str, bytes: &[u8]) -> io::Result<()> {
     println!(rt; "{word} {}", hex::encode(rt.alloc(), bytes)?)
 }
@@ -46,8 +46,8 @@ pub fn recovered(rt: &HostRuntime, recovered: Result<Recovered, Memory>) -> io::
     }
 }
 
-/// The state and the numbers; how many messages are kept, and how many wait in the inbox; whether
-/// the timer is on.
+/// Prints the state and the numbers; how many messages are queued and received; and whether the
+/// timer is on.
 pub fn look(rt: &HostRuntime, station: &Station) -> io::Result<()> {
     let numbers = station.numbers();
     println!(rt;

@@ -1,10 +1,10 @@
-//! What concerns both ends: a clear, settles, and what has been done since the line was cleared.
+//! Words about both ends: a clear, settles, and a summary since the line was cleared.
 use crate::pairs::answers;
 use crate::pairs::table::{LONGEST, Table};
 use ddcmp_pair::{End, Event};
 use std::io;
 
-/// Runs a word, and returns the answer.
+/// Runs a word, and prints the reply.
 pub fn perform(rt: &HostRuntime, table: &mut Table, word: &str) -> io::Result<()> {
     match word {
         "clear" => answers::replied(rt, table.step(Event::Clear)),
@@ -19,7 +19,7 @@ pub fn perform(rt: &HostRuntime, table: &mut Table, word: &str) -> io::Result<()
     }
 }
 
-/// The messages that each end accepted, those delivered at it, and how many it reported
+/// Prints the messages that each end accepted, those delivered at it, and how many it reported
 /// acknowledged.
 fn histories(rt: &HostRuntime, table: &Table) -> io::Result<()> {
     for end in [End::A, End::B] {

@@ -1,17 +1,17 @@
-//! A pair, and what is looked at of it.
+//! A pair, and the values of it that are printed.
 use ddcmp_pair::{Config, End, Event, Memory, Pair, Recovered, Reply, Settled, Station};
 use std::alloc::Global;
 
-/// The most bytes of a message at any end.
+/// The maximum length of a message at any end.
 pub const LONGEST: usize = 16383;
 
-/// A pair to which events happen. Its calls' contracts say more than is asked for here, so each
-/// stands alone and promises nothing.
+/// A pair for events. The contracts of its calls state more than is needed here, so each call has a
+/// function of its own that promises nothing.
 pub struct Table {
     pair: Pair,
 }
 
-// Manual, since a derived `Drop` is expanded wherever a pair is dropped.
+// Manual, since a derived `Drop` would be expanded wherever a value is dropped.
 impl Drop for Table {
     fn drop(self) {
         let Table { pair: _pair } = self;
@@ -66,7 +66,7 @@ impl Table {
         self.pair.acknowledged(end)
     }
 
-    /// Message `i` of those that an end accepted, if there are this many.
+    /// Returns message `i` of those that an end accepted, if there is one.
     pub fn given_at(&self, end: End, i: usize) -> Option<&[u8]> {
         if i < self.pair.given(end) {
             Some(self.pair.given_at(end, i))
@@ -75,7 +75,7 @@ impl Table {
         }
     }
 
-    /// Message `i` of those delivered at an end, in `out`, if there are this many.
+    /// Copies message `i` of those delivered at an end to `out`, if there is one.
     pub fn handed_up_at<'a>(
         &self,
         end: End,

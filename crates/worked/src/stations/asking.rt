@@ -1,4 +1,4 @@
-//! What a station is asked, and what it returns.
+//! Calls of a station, and what they return.
 use ddcmp_station::Station;
 use std::io;
 use test_kit::bytes_of;
@@ -12,7 +12,7 @@ pub fn perform(rt: &HostRuntime, station: &mut Station, word: &str) -> io::Resul
     }
 }
 
-/// Prints what a word asks for, and changes nothing.
+/// Prints a value of the station, by a word.
 fn tell(rt: &HostRuntime, station: &Station, word: &str) -> io::Result<()> {
     match word {
         "outgoing" => println!(rt; "{}", station.outgoing()),
@@ -22,7 +22,7 @@ fn tell(rt: &HostRuntime, station: &Station, word: &str) -> io::Result<()> {
     }
 }
 
-/// Prints what was counted.
+/// Prints a counter.
 fn count(rt: &HostRuntime, station: &Station, word: &str) -> io::Result<()> {
     let counters = *station.counters();
     match word {
@@ -33,7 +33,7 @@ fn count(rt: &HostRuntime, station: &Station, word: &str) -> io::Result<()> {
     }
 }
 
-/// Hands it the bytes of a line or of a message.
+/// Passes it the bytes of a line or of a message.
 pub fn with_bytes(
     rt: &HostRuntime,
     station: &mut Station,
@@ -50,7 +50,7 @@ pub fn with_bytes(
     }
 }
 
-/// Prints how many bytes it used.
+/// Feeds it bytes, and prints how many it used.
 fn feed(rt: &HostRuntime, station: &mut Station, piece: &[u8]) -> io::Result<()> {
     if station.offset() >= 1_000_000 || piece.len() >= 1_000_000 {
         return println!(rt; "too many bytes");

@@ -1,4 +1,4 @@
-//! A call of `drive` over memory.
+//! A call of `drive` in memory.
 use crate::stations::reading::{moments_of, pieces_of, slices_of};
 use ddcmp_frame::failing::{Pieces, Taken};
 use ddcmp_station::{Driven, LineFault, Station, drive};
@@ -6,8 +6,8 @@ use std::alloc::Global;
 use std::io;
 use test_kit::{Moments, Recorder, number};
 
-/// What goes in: the turns; the read and the write that fail (counted from 1; 0 is none); how many
-/// bytes the sink takes; what the line brings; the clock; the messages of the user.
+/// The parameters: the turns; the read and the write that fail (counted from 1; 0 stands for none);
+/// how many bytes the sink takes; the input from the line; the clock; the messages of the user.
 #[derive(Clone, Copy)]
 struct Call<'a> {
     turns: u32,
@@ -19,7 +19,7 @@ struct Call<'a> {
     offers: &'a str,
 }
 
-/// What came of it.
+/// The result of a call.
 #[derive(Drop)]
 struct DriveOutcome<'a> {
     answer: Result<Driven, LineFault>,
@@ -27,7 +27,7 @@ struct DriveOutcome<'a> {
     user: Recorder<'a>,
 }
 
-/// The words of a line, in the order of `Call`.
+/// Parses a line, in the order of `Call`.
 fn call_of(rest: &str) -> Option<Call<'_>> {
     let mut words = rest.split(' ');
     Some(Call {
@@ -41,7 +41,7 @@ fn call_of(rest: &str) -> Option<Call<'_>> {
     })
 }
 
-/// The call, with a line that takes three bytes at a time and a timer of 1000 ms.
+/// Makes the call, with a line that takes three bytes at a time and a timer of 1000 ms.
 fn drives<'a>(
     alloc: Global,
     station: &mut Station,
@@ -76,7 +76,7 @@ fn drives<'a>(
     })
 }
 
-/// Makes the call of a line, and returns what came of it.
+/// Makes the call of a line, and prints its result.
 pub fn perform(rt: &HostRuntime, station: &mut Station, rest: &str) -> io::Result<()> {
     match performed(rt, station, rest)? {
         Some(()) => println!(rt; "{:?}", station.state()),

@@ -1,11 +1,11 @@
-//! Lists in a line of words.
+//! Parses lists in a line of words.
 use std::alloc::Global;
 use test_kit::bytes_of;
 
-/// What stands for a list of nothing.
+/// Stands for an empty list.
 const NONE: &str = ".";
 
-/// The bytes of each word.
+/// Decodes each word.
 pub fn pieces_of(alloc: Global, words: &str) -> Option<Vec<Vec<u8>>> {
     let mut pieces = Vec::new(alloc);
     if words != NONE {
@@ -16,7 +16,7 @@ pub fn pieces_of(alloc: Global, words: &str) -> Option<Vec<Vec<u8>>> {
     Some(pieces)
 }
 
-/// The same pieces, lent.
+/// Returns the same chunks as slices.
 pub fn slices_of<'a>(alloc: Global, pieces: &'a [Vec<u8>]) -> Option<Vec<&'a [u8]>> {
     let mut slices = Vec::new(alloc);
     for piece in pieces {
@@ -25,7 +25,7 @@ pub fn slices_of<'a>(alloc: Global, pieces: &'a [Vec<u8>]) -> Option<Vec<&'a [u8
     Some(slices)
 }
 
-/// The numbers of a list.
+/// Parses a list of numbers.
 pub fn moments_of(alloc: Global, words: &str) -> Option<Vec<u64>> {
     let mut moments = Vec::new(alloc);
     for word in words.split(',') {
