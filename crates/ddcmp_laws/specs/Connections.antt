@@ -70,14 +70,14 @@ delivered_since c = drop (length (mail_in c.shown_before)) (mail_in c.history.sh
 abbrev pub PipesAnew : Made → Connection → Connection → Type 0
 PipesAnew made giver taker = IsPrefixOf (delivered_since taker) (read_since made giver)
 
--- If `is_delivered` holds for one session, the other has received all messages read from its input
--- since then: these, and no others.
+-- If `is_delivered` holds for one session, the other has received all messages read from that one's
+-- input since then: these, and no others.
 abbrev pub PipesAllAnew : Made → Connection → Connection → Type 0
 PipesAllAnew made giver taker = is_delivered giver.history.session ≡ true
     → delivered_since taker ++ undelivered taker.history ≡ read_since made giver
 
--- If one session is closed and nothing was lost, the other has received all messages read from its
--- input since then, and the rest of the input has no message.
+-- If one session is closed and nothing was lost, the other has received all messages read from that
+-- one's input since then, and the rest of that input has no message.
 abbrev pub PipesClosedAnew : Made → Connection → Connection → Type 0
 PipesClosedAnew made giver taker =
     (left : List ℕ) (is_at_end is_reported : Bool) (closed : SessionView)

@@ -32,8 +32,8 @@ abbrev pub last_text : Form → SessionView → List ℕ
 last_text form.Digits s = end_text s.options.counters s.link
 last_text form.Binary s = []
 
--- Nothing is queued. The text of all that was written to the output, and then the last lines,
--- unless there was no room for these.
+-- Nothing is queued, and no received message is left. The output is the text of all that was
+-- delivered and reported, and then the last lines (in lines, if there was room for these).
 pub record TookAll (is_reported : Bool) (ran : Ran) (last : SessionView) (after : Traffic) : Type 0
   where
     pub none_waits : last.output.waiting ≡ []

@@ -42,7 +42,8 @@ DevicesPipe made other giver taker = made.options.form ≡ form.Binary
     → Begins t.read (in_binary messages) → Begins other_t.written (in_binary messages)
 
 -- And if the whole file was read and none of it is held, and `is_delivered` holds for that session,
--- then the whole file was written to the other's output, once nothing is queued there.
+-- then the whole file was written to the other's output, once no received message is undelivered
+-- and nothing is queued there.
 abbrev pub DevicesPipeAll : Made → Made → SessionHistory → SessionHistory → Type 0
 DevicesPipeAll made other giver taker = made.options.form ≡ form.Binary
     → other.options.form ≡ form.Binary
@@ -71,7 +72,7 @@ DevicesDeliver made giver taker = (held : BuffersView) (t : Traffic) (closed : S
     → mail_in taker.shown ++ undelivered taker ≡ messages_given made t
 
 -- And in binary, if the input was a whole file of messages that fit, that file was written to the
--- other's output, once nothing is queued there.
+-- other's output, once no received message is undelivered and nothing is queued there.
 abbrev pub DevicesPipeClosed : Made → Made → SessionHistory → SessionHistory → Type 0
 DevicesPipeClosed made other giver taker = made.options.form ≡ form.Binary
     → other.options.form ≡ form.Binary

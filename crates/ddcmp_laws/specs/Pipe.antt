@@ -135,15 +135,15 @@ Pipes made giver taker =
     IsPrefixOf (mail_in taker.shown)
     (messages_of made.options.form made.options.config.max giver.input)
 
--- If `is_delivered` holds for one session, the other has received all messages read from its input:
--- these, and no others.
+-- If `is_delivered` holds for one session, the other has received all messages read from that one's
+-- input: these, and no others.
 abbrev pub PipesAll : Made → SessionHistory → SessionHistory → Type 0
 PipesAll made giver taker = is_delivered giver.session ≡ true
     → mail_in taker.shown ++ undelivered taker
     ≡ messages_of made.options.form made.options.config.max giver.input
 
--- If one session is closed and nothing was lost, the other has received all messages read from its
--- input, and the rest of the input has no message.
+-- If one session is closed and nothing was lost, the other has received all messages read from that
+-- one's input, and the rest of that input has no message.
 abbrev pub PipesClosed : Made → SessionHistory → SessionHistory → Type 0
 PipesClosed made giver taker = (left : List ℕ) (is_at_end is_reported : Bool) (closed : SessionView)
     → HasClosed left is_at_end is_reported giver.session closed → closed.course.lost ≡ 0
@@ -162,7 +162,8 @@ PipesBytes made other giver taker = made.options.form ≡ form.Binary
     → Begins taker.written (in_binary messages)
 
 -- And if the whole file was read, and `is_delivered` holds for that session, then the whole file
--- was written to the other's output, once nothing is queued there.
+-- was written to the other's output, once no received message is undelivered and nothing is queued
+-- there.
 abbrev pub PipesWhole : Made → Made → SessionHistory → SessionHistory → Type 0
 PipesWhole made other giver taker = made.options.form ≡ form.Binary
     → other.options.form ≡ form.Binary

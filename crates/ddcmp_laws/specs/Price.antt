@@ -85,7 +85,7 @@ items_on_way l =
 
 -- ---- frames that events yield, and what events add
 
--- whether a poll yields a frame
+-- 1 if a poll yields a frame, otherwise 0
 abbrev pub frames_of : Reply → ℕ
 frames_of (reply.Wrote bytes) = 1
 frames_of _ = 0

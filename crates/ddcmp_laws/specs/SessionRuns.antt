@@ -113,7 +113,7 @@ FilesBegin giver taker = InFiles giver taker
     → Begins t.read (in_binary messages) → Begins other_t.written (in_binary messages)
 
 -- If the whole file was read, and that run was ended and lost nothing, the whole file was written
--- to the other's output, once nothing is queued there.
+-- to the other's output, once no received message is undelivered and nothing is queued there.
 abbrev pub FilesPass : Ran → Ran → Type 0
 FilesPass giver taker = InFiles giver taker
     → (messages : List (List ℕ)) → All (Fits giver.made.options.config.max) messages

@@ -129,7 +129,7 @@ abbrev pub IsNoMaintenance : Received → Type 0
 IsNoMaintenance (Good (Maint message)) = ⊥
 IsNoMaintenance _ = Unit {0}
 
--- ---- faults that are answered by a NAK
+-- ---- what is answered by a NAK
 
 -- An input that can't be received, and the SUBTYPE of the NAK for it: 1 for a header with a wrong
 -- CRC, 2 for damaged data, 16 for a message that is too long, 17 for a header of no known form.
@@ -163,8 +163,8 @@ pub record HaltsAtRestart (before after : StationState) (notice_told : Option No
 
 -- ---- the numbers of messages
 
--- A station has a message queued under a number: the message is at some place in the queue, and its
--- number is that many after A, modulo 256.
+-- A station has a message queued under a number: the message is at some place in the queue, counted
+-- from 0, and its number is A + place + 1, modulo 256.
 pub record KeepsUnder (s : StationState) (number : ℕ) (message : List ℕ) : Type 0 where
   pub place : ℕ
   pub there : place < length s.out

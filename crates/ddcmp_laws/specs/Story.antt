@@ -217,8 +217,8 @@ answer =
     ∷ (event.Expire B, reply.Expired false)
     ∷ []
 
--- A message is damaged in flight, and B sends a NAK at once. Then the ACK is lost, so A sends a
--- REP, which is answered by an ACK: nothing is retransmitted.
+-- A message is damaged in flight, B sends a NAK at once, and A retransmits it. Then the ACK is
+-- lost, so A sends a REP, which is answered by an ACK: the message isn't retransmitted again.
 abbrev pub damage : List Happening
 damage =
     (event.Send A g, reply.Accepted (number 3))

@@ -30,8 +30,8 @@ unfoldable pub drives_at : End → List (End × DriveCall) → List DriveCall
 drives_at e [] = []
 drives_at e (step ∷ rest) = drives_if e step.0 step.1 ++ drives_at e rest
 
--- A call at one end reads a prefix of what the other had written. The numbers are the fill of each
--- end, and the last arguments how each was driven so far.
+-- After a call at one end, the bytes that it has read are a prefix of those that the other had
+-- written. The numbers are the fill of each end, and the last arguments how each was driven so far.
 abbrev pub ReadsWhatIsWritten : End → ℕ → ℕ → DriveCall → Driving → Driving → Type 0
 ReadsWhatIsWritten A m n call a b = Begins (after_drive m call a).text b.written
 ReadsWhatIsWritten B m n call a b = Begins (after_drive n call b).text a.written

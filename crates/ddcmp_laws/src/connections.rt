@@ -34,7 +34,8 @@ pub fn sessions_over_connections_are_runs()
 /// the other's input, and it has received all of them if the other's run was ended and lost
 /// nothing, as when `run_lines` returns `Ok`. In binary, if the bytes read from the input are a
 /// prefix of a file of messages that fit, the output is a prefix of that file; and it is the whole
-/// file if that was read, the run ended and lost nothing, and nothing is queued.
+/// file if that was read, the run ended and lost nothing, and nothing is left to be delivered or
+/// written at the one.
 pub fn runs_over_connections()
     ensures to_b { IsKeptOverOneConnection (λ a b. DeliversFirst a b) }
     ensures to_a { IsKeptOverOneConnection (λ a b. DeliversFirst b a) }

@@ -13,8 +13,8 @@ ghost use Rattle.ddcmp_pair.specs.Run.{reply_to, run, handed_up};
 ghost use Rattle.ddcmp_laws.specs.Starts.{started};
 
 /// A frame that a station sends, another reads as that frame and as nothing else, whatever was read
-/// before and with any fill, if it accepts messages of that length and no frame was unfinished. Nor
-/// is one unfinished then.
+/// before and with any fill, if it accepts messages as long as that station does and no frame was
+/// unfinished. Nor is one unfinished then.
 pub fn reads_what_another_sends()
     ensures read { (l : Limits) (s u : StationState) (f : Frame) (max fill : ℕ) (text : List ℕ)
         → IsSound l s → next s ≡ Sends f u → l.longest ≤ max → open_at_end max text ≡ 0

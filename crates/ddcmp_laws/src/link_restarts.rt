@@ -10,11 +10,11 @@ ghost use Rattle.ddcmp_laws.specs.StationRuns.{has_heard_none, run_station_calls
 /// Two new links that restart any number of times, over an honest line, in a clean run: the
 /// messages that each received since its last restart are a prefix of those that the other accepted
 /// since its own, each once and unchanged, and no more is reported acknowledged than was received;
-/// and if one reports that all is delivered, the other has received all messages accepted since. A
-/// link that restarts leaves the line honest, and counts as started once, however often it was
-/// started before, if the other end has received no good frame since that one's line was cleared,
-/// and no received message is left to be taken. So a link that listens may restart for each caller
-/// that goes away.
+/// and if one reports that all is delivered, the other has received all that the one accepted since
+/// its last restart. A link that restarts leaves the line honest, and counts as started once,
+/// however often it was started before, if the other end has received no good frame since that
+/// one's line was cleared, and no received message is left to be taken. So a link that listens may
+/// restart for each caller that goes away.
 pub fn links_begin_anew()
     ensures to_b { IsKeptAnew (λ p. LinkReaches p.a p.b) }
     ensures to_a { IsKeptAnew (λ p. LinkReaches p.b p.a) }

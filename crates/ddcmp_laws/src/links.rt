@@ -42,7 +42,7 @@ pub fn links_in_order()
 {}
 
 /// If one of two such links reports that all is delivered, the other has received all messages that
-/// it accepted: these, in their order, each once and unchanged, and no others.
+/// the one accepted: these, in their order, each once and unchanged, and no others.
 pub fn delivered_over_an_honest_line()
     ensures to_b { IsKeptOverHonestLines
         (λ p. delivered p.a.link ≡ true → received p.b ≡ p.a.accepted) }
@@ -72,7 +72,7 @@ pub fn links_over_a_stream()
 {}
 
 /// If one of two such links reports that all is delivered, the other has received all messages that
-/// it accepted: these, in their order, each once and unchanged, and no others.
+/// the one accepted: these, in their order, each once and unchanged, and no others.
 pub fn delivered_is_received()
     ensures to_b { IsKeptOverStreams
         (λ p. delivered p.a.link ≡ true → received p.b ≡ p.a.accepted) }

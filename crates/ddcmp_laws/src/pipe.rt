@@ -33,7 +33,7 @@ pub fn pipe()
 {}
 
 /// If `is_delivered` holds for one of two such sessions, the other has received all messages read
-/// from its input: these, in their order, each once and unchanged, and no others.
+/// from that one's input: these, in their order, each once and unchanged, and no others.
 pub fn pipe_is_whole()
     ensures to_b { IsKeptByPipes (λ first second p. PipesAll first p.a p.b) }
     ensures to_a { IsKeptByPipes (λ first second p. PipesAll second p.b p.a) }
@@ -41,8 +41,9 @@ pub fn pipe_is_whole()
 
 /// If one of two such sessions is closed and had lost nothing by then, as when
 /// `ddcmp_session::Buffers::run_lines` returns `Ok`, the other has received all messages read from
-/// its input, even if the line ended, or the time was over, before it saw the last acknowledgement
-/// answered. The same holds for sessions that are connected again, since they were last.
+/// that one's input, even if the line ended, or the time was over, before it saw the last
+/// acknowledgement answered. The same holds for sessions that are connected again, since they were
+/// connected last.
 pub fn closed_without_loss()
     ensures to_b { IsKeptByPipes (λ first second p. PipesClosed first p.a p.b) }
     ensures to_a { IsKeptByPipes (λ first second p. PipesClosed second p.b p.a) }

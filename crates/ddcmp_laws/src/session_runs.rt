@@ -56,11 +56,11 @@ pub fn runs_are_calls()
 
 /// Two such runs, in an order of their calls over an honest line in a clean run: the messages that
 /// one has delivered since it was connected last are a prefix of those read from the other's input
-/// since then, and it has received all of them if the other's run was ended and lost nothing, as
-/// when `run_lines` returns `Ok`. In binary, if before that the one delivered nothing and the other
-/// read nothing, and the bytes read from the input are a prefix of a file of messages that fit: the
-/// output is a prefix of that file; and it is the whole file if that was read, the run ended and
-/// lost nothing, and nothing is queued.
+/// since that was, and it has received all of them if the other's run was ended and lost nothing,
+/// as when `run_lines` returns `Ok`. In binary, if before that the one delivered nothing and the
+/// other read nothing, and the bytes read from the input are a prefix of a file of messages that
+/// fit: the output is a prefix of that file; and it is the whole file if that was read, the run
+/// ended and lost nothing, and nothing is left to be delivered or written at the one.
 pub fn runs_are_pipes()
     ensures to_b { IsKeptByRuns (λ a b. DeliversFirst a b) }
     ensures to_a { IsKeptByRuns (λ a b. DeliversFirst b a) }

@@ -217,10 +217,10 @@ pub fn answers_no_answer()
 /// The timer isn't starved: data start a timer that is off, and leave one that is running as it is;
 /// a STRT, a STACK and a REP restart it. Input that acknowledges all that was sent stops it, and so
 /// does a NAK, which withdraws a REP, too; an ACK or data that acknowledge a part restart it. If it
-/// expires while a message is unacknowledged and no NAK is pending, the station sends a REP; if
-/// none is, no REP becomes pending. Over any number of calls a timer that is on stays on, and so
-/// expires in the end, whatever is sent and received, until something is acknowledged or a NAK
-/// arrives, or the peer restarts.
+/// expires while a message is unacknowledged and no NAK is pending, the station sends a REP; if all
+/// are acknowledged, no REP becomes pending. Over any number of calls a timer that is on stays on,
+/// and so expires in the end, whatever is sent and received, until something is acknowledged or a
+/// NAK arrives, or the peer restarts.
 pub fn timer_is_not_starved()
     ensures running { (s u : StationState) (r num : ℕ) (message : List ℕ)
         → next s ≡ Sends (Data r num message) u → s.timer ≢ Off → u.timer ≡ s.timer }

@@ -73,7 +73,7 @@ restarts_in notices = sum_by restarts_by notices
 
 -- ---- what an event does to the end where it happens
 
--- a frame with its header and its data
+-- the header and the data of a frame
 abbrev pub whole_frame : Frame → WholeFrame
 whole_frame f = (header_of f, message_of f)
 

@@ -88,8 +88,8 @@ impl Pair {
         // An allocation failure changes nothing, and happens only for an event that allocates.
         ensures memory { OnErr result (self.new ≡ self.old) }
         ensures asks { asks_memory event self.old ≡ false → IsOk result }
-        // Messages are delivered in order, once, unchanged, or not at all; and an end that was
-        // clean before an honest arrival doesn't report that its peer restarted.
+        // Messages are delivered in order, once, unchanged, or not at all; and if the pair was
+        // clean before an honest arrival, no end reports that its peer restarted.
         ensures order { IsInOrder self.new }
         ensures no_restart { is_clean self.old ≡ true → self.new.honest ≡ true
             → IfOk result NoRestart }

@@ -35,7 +35,7 @@ use Rattle.ddcmp_session.specs.declared.session.TheConstants.{OUTPUT_ROOM}
 use Rattle.ddcmp_io.specs.Queue.{QueueView, no_bytes}
 
 -- The options and the kind of line; the link, whether it has a line, and how the run proceeds; what
--- was read of the input so far, whether its end was read, and whether a part of it was refused; and
+-- was read of the input so far, whether all of it was, and whether a part of it was refused; and
 -- the bytes queued for standard output.
 pub record SessionView : Type 0 where
   pub options : Options
@@ -166,8 +166,8 @@ reports_loss s = nat_le LOST_ROOM s.output.room
 
 -- ---- the line is opened and its timers are handled
 
--- A session that is connected starts if all received messages were delivered. If not, its
--- unacknowledged messages are lost when it starts, or when the line ends.
+-- A session that is connected starts if all received messages were delivered. If not, messages
+-- unacknowledged on the line before are lost once it starts, or when this line ends.
 abbrev pub starts : SessionView → Bool
 starts s = is_ok (answer_to_start (after_halt s.link.station.core.station))
 

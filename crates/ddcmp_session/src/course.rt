@@ -99,8 +99,8 @@ impl Course {
         }
     }
 
-    /// Notes the moment, and returns whether a report is due. The next report is due a whole number
-    /// of periods after the last.
+    /// Notes the moment, and returns whether a report is due. The next one is due a whole number of
+    /// periods after this one was.
     pub(crate) fn pass(&mut self, now: u64, report_ms: u64) -> bool
         ensures state { self.new ≡ after_moment report_ms now self.old }
         ensures due { result ≡ reports_at report_ms now self.old }

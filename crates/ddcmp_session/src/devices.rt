@@ -80,8 +80,8 @@ pub trait Devices {
     fn write_errors(&mut self, bytes: &[u8]) -> Transfer
         ensures { traffic self.new ≡ traffic self.old };
 
-    /// Waits until a device is ready that the session wants, at most this many milliseconds.
-    /// Nothing is left to do without a device. Returns false if the wait failed.
+    /// Waits until a device is ready that the session wants, at most this many milliseconds. Called
+    /// when nothing is left to do without a device. Returns false if the wait failed.
     fn rest(&mut self, session: &Session, buffers: &Buffers, most_ms: u64) -> bool
         requires rests { Rests buffers.now session.now.state }
         requires goes_on { end session.now.state ≡ None }

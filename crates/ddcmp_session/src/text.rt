@@ -49,7 +49,7 @@ fn put(out: &mut ByteQueue, bytes: &[u8])
 /// How many bytes are converted to digits at once.
 const CHUNK: usize = 512;
 
-/// Appends the digits of a few bytes.
+/// Appends the digits of at most `CHUNK` bytes.
 fn put_chunk(out: &mut ByteQueue, bytes: &[u8])
     requires { length bytes.now ≤ CHUNK }
     ensures { Puts (encode_lower bytes.now) out.old out.new }

@@ -99,7 +99,7 @@ impl Trace {
         }
     }
 
-    /// Reports the end of the line, and restarts on another.
+    /// Reports what was discarded by the end of the line, and restarts on another.
     pub(crate) fn restart(&mut self, errors: &mut Errors)
         ensures { BeginsAnew self.old self.new errors.old errors.new }
     {

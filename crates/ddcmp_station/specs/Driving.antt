@@ -172,7 +172,7 @@ ReadsInTurns worst (turn ∷ rest) =
 -- ---- what `drive` did
 
 -- What a source has left, what a sink holds, the moments of the clock and the results of the reads,
--- before and after; and the status of the source after.
+-- before and after; and the worst status of the source after.
 pub record Devices : Type 0 where
   pub left : Option (List ℕ)
   pub left_after : Option (List ℕ)

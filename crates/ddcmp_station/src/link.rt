@@ -350,7 +350,7 @@ impl Link {
           station = self.new.station;
           totals = totals_after_feed result.used result.notice self.old.totals;
         } }
-        // The same with no text.
+        // Whatever the text.
         ensures offset { self.new.station.line.offset
             ≡ self.old.station.line.offset + result.used }
         ensures limits { self.new.station.core.limits ≡ self.old.station.core.limits }

@@ -44,7 +44,7 @@ impl Station {
         // Messages that are reported acknowledged have left the queue.
         ensures leaves { acknowledged_by result.notice + length self.new.core.station.out
             ≤ length self.old.core.station.out }
-        // The same with no text.
+        // Whatever the text.
         ensures offset { self.new.line.offset ≡ self.old.line.offset + result.used }
         ensures limits { self.new.core.limits ≡ self.old.core.limits }
         ensures syn { self.new.syn ≡ self.old.syn }

@@ -286,8 +286,8 @@ fn is_over<R>(ran: &Result<(), Stop<R>>) -> bool
     matches!(ran, Err(Stop::Left | Stop::Device(Fault::Time)))
 }
 
-/// Returns how a run ended, from how its lines ended, the number of lost messages and whether more
-/// input is unread.
+/// Returns how a run ended, from how its lines ended, whether the station has run, the number of
+/// lost messages and whether there is more input than was read.
 fn verdict<R: Copy>(
     ran: Result<(), Stop<R>>,
     has_run: bool,

@@ -21,7 +21,8 @@ impl Session {
     ghost use Rattle.ddcmp_session.specs.Text.{Wrote, reported_lost};
 
     /// Ends the run and halts the station. The messages left in the input, and those that were sent
-    /// and aren't acknowledged, are lost. Returns whether standard output had room to report that.
+    /// and aren't acknowledged, are lost. Returns whether standard output had room to report the
+    /// latter.
     pub fn close(&mut self, input: &[u8], input_is_at_end: bool) -> bool
         ensures link { self.new.state.link
             ≡ with_state (after_halt self.old.state.link.station.core.station) self.old.state.link }

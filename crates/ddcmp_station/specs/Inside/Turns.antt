@@ -97,7 +97,7 @@ pub record BreaksTurn (milliseconds : ℕ) (old new : StationView) (before : Tal
         seen = seen ++ sights;
       }
 
--- either of the two; `worst` is the status of the source before
+-- either of the two; `worst` is the worst status of the source before
 abbrev pub TurnEnds : ℕ → StationView → StationView → Tally → Tally → Worst → Devices
     → (List UserCall → Type 0) → Result (Unit {0}) LineFault → Type 0
 TurnEnds milliseconds old new before after worst devices saw (Ok u) =
