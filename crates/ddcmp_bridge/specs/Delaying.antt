@@ -33,7 +33,7 @@ abbrev pub first_length : Frames → ℕ
 first_length [] = 0
 first_length (frame ∷ rest) = length frame.1
 
--- the same, but a frame of which all bytes were taken is removed
+-- the frames after `n` bytes of the first were taken, which is removed if it has no more
 abbrev pub after_taking : ℕ → Frames → Frames
 after_taking n [] = []
 after_taking n (frame ∷ rest) =

@@ -63,7 +63,7 @@ left_of (frame ∷ rest) (fate ∷ others) =
     after_fate fate (wire frame.0 frame.1) ++ left_of rest others
 left_of _ _ = []
 
--- whether a frame of this fate was lost, as 1 or 0; and whether it was damaged
+-- whether a frame of this fate was lost, as 1 or 0; and whether it was altered
 abbrev pub loses : Fate → ℕ
 loses Lost = 1
 loses Passed = 0

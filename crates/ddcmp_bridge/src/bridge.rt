@@ -106,7 +106,7 @@ impl Bridge {
         went || came
     }
 
-    /// Returns whether a line is down, and nothing received over it is left to be passed on.
+    /// Returns whether a line is down, and nothing received over it can be passed on any more.
     fn is_over<L: Lines>(&self, lines: &L) -> bool
         ensures { IsTrue result → IsOver self.now (L.down lines.now) }
     {

@@ -14,7 +14,7 @@ use crate::relay::Taken;
 use std::alloc::Global;
 use std::marker::Model;
 
-/// How many bytes are read at once: at least a whole datagram.
+/// The maximum number of bytes that are read at once: no datagram has more.
 const MOST: usize = 65536;
 
 /// A direction, and the bytes that were read for it.

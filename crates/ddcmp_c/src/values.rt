@@ -94,7 +94,7 @@ pub(crate) const OPEN: u32 = 7;
 /// The buffer is too short.
 pub(crate) const ROOM: u32 = 14;
 
-/// The line has had the maximum number of bytes that can be counted.
+/// The line would have more bytes than can be counted.
 pub(crate) const LONG_LINE: u32 = 15;
 
 /// There is no such message.

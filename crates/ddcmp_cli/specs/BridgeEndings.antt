@@ -41,13 +41,14 @@ BridgeEnds old new (Ok end) ending = Reports old new end ending
 BridgeEnds old new (Err (bridging.Open why)) ending = IsUnopened ending × Keeps old new
 BridgeEnds old new (Err bridging.Memory) ending = (ending ≡ Faulted Memory) × Keeps old new
 
--- a usage error for a LINE argument that isn't one, or an allocation failure
+-- a usage error, as for a LINE argument that isn't one, or an allocation failure
 abbrev pub IsNoLine : Ending → Type 0
 IsNoLine (Usage text) = ⊤
 IsNoLine (Faulted Memory) = ⊤
 IsNoLine _ = ⊥
 
--- There is a usage error and nothing is written; or the program ends as a bridge did.
+-- There is a usage error, or an allocation failed, and nothing is written; or the program ends as a
+-- bridge did.
 abbrev pub Bridges : Known → Known → Ending → Type 0
 Bridges old new ending =
     (IsNoLine ending × Keeps old new)

@@ -248,7 +248,8 @@ is_misused form.Raw (Some word) = true
 is_misused form.Hex (Some word) = is_none (origin_of word.now)
 is_misused form.Text (Some word) = is_none (origin_of word.now)
 
--- If misused, a usage error, and `Refused` holds; else `Explained` holds.
+-- If misused, there is a usage error or an allocation failure, and `Refused` holds; else
+-- `Explained` holds.
 abbrev pub UnlessMisused : Bool → (Ending → Type 0) → (Ending → Type 0) → Ending → Type 0
 UnlessMisused true Refused Explained ending = (is_refusal ending ≡ true) × Refused ending
 UnlessMisused false Refused Explained ending = Explained ending
@@ -414,8 +415,8 @@ PairsAsked held it s ending =
     ShowsFrom held it.file it.view (DrawsPaired it.from) (Pairs it.from it.view.counters) s
     ending
 
--- The ending is a failed read exactly if the source's state isn't Fine or it has returned 2^64 - 1
--- bytes, and a failed write exactly if a write failed.
+-- The ending is a failed read if the source's state isn't Fine; and only then, or if it has
+-- returned 2^64 - 1 bytes. It is a failed write exactly if a write failed.
 pub record TellsDevices (source : SourceChange) (broken : Bool) (ending : Ending) : Type 0 where
   pub read : source.state ≢ Fine → ending ≡ Faulted Read
   pub read_only : ending ≡ Faulted Read

@@ -23,7 +23,7 @@ pub enum Ending {
     NotText,
     /// The file of this name can't be opened, with the system's error.
     Unopened(String, ErrorKind),
-    /// Reading the file of this name failed, of two that are read.
+    /// Of two files that are read, the one of this name had a fault.
     Unread(String, Fault),
     /// A command failed.
     Fault(Fault),

@@ -164,7 +164,7 @@ none_text Plain false = codes "no good frame was found\n"
 none_text Plain true = []
 none_text Json is_found = []
 
--- if `discarded` is set: the lines after the last item, and whether no frame was good
+-- if `discarded` is set: the lines after the last item, and `none_text` if no frame was good
 abbrev pub rest_by : Bool → Notation → ℕ → List ℕ → List ℕ
 rest_by false notation max bytes = []
 rest_by true notation max bytes =

@@ -1,5 +1,5 @@
--- What explain writes and returns for a dump: what it does for the hexadecimal digits that `shown`
--- leaves of the dump's text.
+-- What explain writes and returns for a dump: what it does for the text that `shown` makes of the
+-- dump, as hexadecimal digits.
 use Rattle.std.specs.Prelude.{◌≡◌, ◌≢◌, ◌⊎◌, ◌↔◌, ℕ, ◌-◌, ◌<◌, ◌^◌, List, ◌++◌, length, false}
 use Rattle.std.specs.Prelude.{IsOk, IsTrue, Some, None, Result, Ok, Err}
 use Rattle.ddcmp_input.specs.Dump.{DumpView, dump_after, dump_begun, not_dumped, shown}

@@ -97,8 +97,7 @@ pub fn explain_detected<R: Source, W: Sink>(
         × (length input < 2 ^ 64 - 1) × (R.state reader.new ≡ Worst.Fine)
         × (W.broken writer.new ≡ false) × (result ≢ Err DetectedFault.Memory)) }
 
-    // Err Read: exactly if the reader's state isn't Fine, or it returned 2^64 - 1 bytes and no
-    // write failed.
+    // Err Read: if the reader's state isn't Fine; and only then, or if it returned 2^64 - 1 bytes.
     ensures read { R.state reader.new ≢ Worst.Fine → result ≡ Err DetectedFault.Read }
     ensures read_only { result ≡ Err DetectedFault.Read
         → (R.state reader.new ≢ Worst.Fine) ⊎ GaveMost (R.left reader.old) (R.left reader.new) }

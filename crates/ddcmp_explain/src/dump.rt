@@ -155,8 +155,7 @@ pub fn explain_dump<R: Source, W: Sink>(
         × (R.state reader.new ≡ Worst.Fine) × (W.broken writer.new ≡ false)
         × (result ≢ Err DumpFault.Memory)) }
 
-    // Err Read: exactly if the reader's state isn't Fine, or it returned 2^64 - 1 bytes and no
-    // write failed.
+    // Err Read: if the reader's state isn't Fine; and only then, or if it returned 2^64 - 1 bytes.
     ensures read { R.state reader.new ≢ Worst.Fine → result ≡ Err DumpFault.Read }
     ensures read_only { result ≡ Err DumpFault.Read
         → (R.state reader.new ≢ Worst.Fine) ⊎ GaveMost (R.left reader.old) (R.left reader.new) }

@@ -26,7 +26,7 @@ kind_of_byte c =
     else if c == 13 then kind.Return
     else kind.Other
 
--- A line begins with its address, or is empty.
+-- A line begins with its address, or is empty; one that begins with `*` stands for omitted lines.
 abbrev pub start_then : Kind → Place
 start_then kind.Digit = Address 1
 start_then kind.LineFeed = Start

@@ -66,7 +66,7 @@ abbrev pub after_second : Option ℕ → ℕ → HexView → HexView
 after_second None digit v = record v { high = Some digit }
 after_second (Some high) digit v = after_spelled (byte_of_digits high digit) v
 
--- A digit of a line. After the line is refused, nothing more is read.
+-- A character of a line. Once the line is refused, the rest of it is ignored.
 abbrev pub after_digit_in : Option Entry → ℕ → HexView → HexView
 after_digit_in None digit v = after_second v.high digit v
 after_digit_in (Some why) digit v = v

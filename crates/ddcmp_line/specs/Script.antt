@@ -101,8 +101,8 @@ abbrev pub part_of : Option ℕ → List ℕ → List ℕ
 part_of None front = front
 part_of (Some n) front = take n front
 
--- what is left after `n` bytes of the first frame were taken off: without its bytes the frame is
--- gone
+-- what is left after `n` bytes of the first frame were taken off; the frame is removed if it has no
+-- more
 abbrev pub left_behind : ℕ → List ℕ → List (List ℕ) → List (List ℕ)
 left_behind n front later = if nat_lt n (length front) then drop n front ∷ later else later
 

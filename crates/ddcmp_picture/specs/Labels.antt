@@ -76,7 +76,7 @@ numbers_label s =
     (words (state_text s.state)) (codes " R=")) s.r) (codes " N=")) s.n) (codes " A=")) s.a)
     (codes " T=")) s.t
 
--- how many messages it has queued and received, and whether its timer is on
+-- how many messages are in its send queue and in its inbox, and whether its timer is on
 abbrev pub holding_label : StationState → ShortText
 holding_label s =
     with_text (with_number (with_text (with_number (words (codes "out=")) (length s.out))

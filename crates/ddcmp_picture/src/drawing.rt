@@ -232,7 +232,7 @@ impl<P: Paper + Drop> Drawing<P> {
         self.states = States::of(pair);
     }
 
-    /// Drops all frames, before both ends settle or the line recovers.
+    /// Drops all frames and draws them as lost, before both ends settle or the line recovers.
     #[tactic(auto, using(crate::proofs::NoteLaws::logs_then))]
     fn begin_settle(&mut self, name: &[u8])
         ensures marks { Logs (P.drawn self.old.paper) (P.drawn self.new.paper)

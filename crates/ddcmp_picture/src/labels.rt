@@ -123,7 +123,8 @@ pub(crate) fn numbers_text(station: &Station) -> ShortText
         .with_number(numbers.t.0 as u64)
 }
 
-/// Returns how many messages a station has queued and received, and whether its timer is on.
+/// Returns how many messages are in a station's send queue and in its inbox, and whether its timer
+/// is on.
 pub(crate) fn holding_text(station: &Station) -> ShortText
     ensures { result ≡ holding_label station.now.core.station }
 {

@@ -154,7 +154,8 @@ pub(crate) fn report<P: Paper>(
     draw_state(paper, to, is_beside, notices, before.state, now.state);
 }
 
-/// Draws the state and the numbers of a station, and what it has queued.
+/// Draws the state and the numbers of a station; how many messages are in its send queue and in its
+/// inbox; and whether its timer is on.
 #[tactic(auto, using(crate::proofs::NoteLaws::logs_then))]
 pub(crate) fn look<P: Paper>(paper: &mut P, at: End, station: &Station)
     ensures { Logs (P.drawn paper.old) (P.drawn paper.new)

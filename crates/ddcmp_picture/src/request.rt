@@ -9,7 +9,8 @@ pub(crate) enum Request {
     Event,
     /// The first `part` of the `of` bytes that are left of an end's first frame arrive.
     Carry { part: usize, of: usize },
-    /// A settle or a recovery: frames arrive whole, and an end without a frame isn't drawn.
+    /// A settle or a recovery: frames arrive whole, and neither an end without a frame nor the
+    /// expiry of a timer that was off is drawn.
     Settle,
 }
 

@@ -108,7 +108,7 @@ fn save_in<'a, S: Files<File = File>>(
     }
 }
 
-/// Returns the fault if it can't wait for several lines.
+/// Returns the fault of a bridge that can't wait for several lines.
 fn no_poller<'a>(kind: ErrorKind) -> BridgeFault<'a> {
     match kind {
         ErrorKind::OutOfMemory => BridgeFault::Memory,

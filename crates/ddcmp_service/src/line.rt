@@ -75,7 +75,8 @@ fn received_by(answer: io::Result<(usize, SocketAddr)>, remote: SocketAddr) -> T
     }
 }
 
-/// Converts the result of sending a datagram. If it failed the datagram is lost, as on a line.
+/// Converts the result of sending a datagram. If it failed, and wasn't just interrupted or would
+/// block, the datagram is lost, as on a line.
 fn sent_by(answer: io::Result<usize>, length: usize) -> Transfer
     ensures sent { IfOk answer (λ n. result ≡ Transfer.Bytes length) }
     ensures error { IfErr answer (λ error. result ≡ sent_by_error length (error_kind error)) }

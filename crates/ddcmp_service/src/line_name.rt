@@ -11,9 +11,10 @@ use ddcmp_session::LineKind;
 pub enum LineName<'a> {
     /// `connect:HOST:PORT`: one TCP connection to this address.
     Connect(&'a str),
-    /// `listen:HOST:PORT`: one TCP connection, from a caller to this address.
+    /// `listen:HOST:PORT`: one TCP connection, from a caller to this address that starts (sends a
+    /// STRT or STACK).
     Listen(&'a str),
-    /// `udp:LOCAL,REMOTE`: each frame is a datagram from the local address to the remote one.
+    /// `udp:LOCAL,REMOTE`: each frame is a datagram between the local and the remote address.
     Udp { local: &'a str, remote: &'a str },
     /// `device:PATH`: a serial device that is configured already, for instance by stty.
     Device(&'a str),

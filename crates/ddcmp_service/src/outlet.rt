@@ -71,7 +71,7 @@ fn front(bytes: &[u8]) -> &[u8]
 }
 
 /// Opens a pipe or a terminal for nonblocking writes. Opening a pipe would block if it had no
-/// reader any more; so it is first opened for reading too, which is closed then.
+/// reader any more; so it is opened for reading too meanwhile.
 fn open_again<F: Files<File = File>>(files: &F, name: &str) -> Option<File> {
     let mut opening = OpenOptions::new();
     let _reader = opening.read(true).write(true).open(files, name).ok()?;

@@ -40,7 +40,7 @@ where
 }
 
 /// Returns how a service over a line of this name ends: with a fault of the output if there is one,
-/// or else of the input.
+/// else with one of the input, else as the run ended.
 fn ending_of<'a, R: Source, W: Sink>(
     ended: Result<LinkOutcome, Ended>,
     line: LineName<'a>,
@@ -102,7 +102,7 @@ fn serve<S: System, R: Source, W: Sink>(
     }
 }
 
-/// Returns the fault if it can't wait for several devices.
+/// Returns why the run of a link that can't wait for several devices ended.
 fn no_poller(kind: ErrorKind) -> Ended
     ensures memory { kind ≡ ErrorKind.OutOfMemory → result ≡ Ended.Memory }
     ensures other { kind ≢ ErrorKind.OutOfMemory → result ≡ Ended.CannotWait kind }

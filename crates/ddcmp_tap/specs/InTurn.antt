@@ -15,7 +15,8 @@ pub record Carried : Type 0 where
   pub pieces : List Piece
   pub stamp : Option ℕ
 
--- the logs of connections, each with its head and its last lines; the last connection is first
+-- the logs of connections in order, each with its heading and its last lines; the list has the last
+-- connection first
 unfoldable pub carried_text : Notation → ℕ → List Carried → List ℕ
 carried_text notation max [] = []
 carried_text notation max (c ∷ before) =

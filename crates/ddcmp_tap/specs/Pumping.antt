@@ -28,7 +28,7 @@ of_side Caller Called bytes = []
 of_side Called Caller bytes = []
 of_side Called Called bytes = bytes
 
--- the bytes of a side in some pieces, of which the last is first
+-- the bytes of a side in some pieces, in order; the list has the last piece first
 unfoldable pub said : Side → List Piece → List ℕ
 said side [] = []
 said side (p ∷ before) = said side before ++ of_side side p.side p.bytes

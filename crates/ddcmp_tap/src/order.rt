@@ -114,7 +114,7 @@ pub struct SideSummary {
     pub starts: bool,
     /// Whether it had a REP since the other's last ACK or NAK.
     pub asks: bool,
-    /// Whether it had anything else since then that may get a reply, new data messages apart.
+    /// Whether it had anything since then that may get a reply, new data messages apart.
     pub repeats: bool,
     /// Whether the message after `num` is to be retransmitted, since the other side sent a NAK.
     pub goes_back: bool,

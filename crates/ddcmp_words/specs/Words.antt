@@ -393,7 +393,7 @@ pub record IsOutOfOrder (words : List Text) : Type 0 where
   pub no_help : ¬ IsAmong DisplayHelp (fault_of program words)
   pub no_version : ¬ IsAmong DisplayVersion (fault_of program words)
 
--- why no command is run after an error of this kind of clap; an allocation may fail at any
+-- why no command is run after an error of clap of this kind; an allocation may fail for any kind
 abbrev pub Declines : ErrorKind → NoCommand → Type 0
 Declines kind (Help text) = kind ≡ DisplayHelp
 Declines kind (Version text) = kind ≡ DisplayVersion

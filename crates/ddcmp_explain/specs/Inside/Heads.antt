@@ -9,7 +9,7 @@ pub record Heads (head : Head) (rest : List ℕ) : Type 0 where
   pub short : length rest < 8 → take head.count head.bytes ≡ rest
   pub full : 8 ≤ length rest → head.bytes ≡ take 8 rest
 
--- What is incomplete after one more byte: the end of what was, and this byte. A frame whose header
+-- What is incomplete after one more byte: a suffix of what was and this byte. A frame whose header
 -- is complete stays incomplete or ends.
 pub record Follows (rest : List ℕ) (b : ℕ) (more : List ℕ) : Type 0 where
   pub within : length more ≤ length rest + 1

@@ -63,8 +63,8 @@ LineEnds is_direct log log_after r old new before after (Err Memory) =
     HandsOver before after []
     × (IsUntouched is_direct log log_after old new ⊎ HasBegun is_direct log log_after r old new)
 
--- What a result implies for the sink and the carrier: either a write failed, or the carrier did,
--- and then all buffered text was written.
+-- What a result implies for the sink and the carrier: Err Write, that a write failed; Err Carrier,
+-- that the carrier did, after all buffered text was written.
 pub record TellsDevices (output : Output) (is_down : Bool) (result : Result (Unit {0}) Stop)
     : Type 0 where
   pub write : result ≡ Err Write → IsTrue output.broken

@@ -27,7 +27,7 @@ received_by_error kind.ConnectionRefused = Bytes 0
 received_by_error kind.Interrupted = Interrupted
 received_by_error _ = Nothing
 
--- A datagram whose sending fails is lost.
+-- A datagram whose sending fails is lost, unless the call was interrupted or would block.
 abbrev pub sent_by_error : ℕ → ErrorKind → Transfer
 sent_by_error length kind.WouldBlock = Nothing
 sent_by_error length kind.Interrupted = Interrupted

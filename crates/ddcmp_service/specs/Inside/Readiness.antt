@@ -5,7 +5,7 @@ use Rattle.ddcmp_service.specs.declared.poller.Ready.{Ready}
 use Rattle.ddcmp_service.specs.declared.poller.Poller.{Poller}
 use Rattle.ddcmp_session.specs.declared.devices.Wanted.{Wanted}
 
--- of the serial device, if the line is one, or else of the socket
+-- the readiness of the line: of the serial device, if it is one, or else of the socket
 abbrev pub ready_of : Option Descriptor → Ready → Ready
 ready_of (Some device) socket = device.ready
 ready_of None socket = socket

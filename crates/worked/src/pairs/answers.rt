@@ -46,8 +46,8 @@ pub fn recovered(rt: &HostRuntime, recovered: Result<Recovered, Memory>) -> io::
     }
 }
 
-/// Prints the state and the numbers; how many messages are queued and received; and whether the
-/// timer is on.
+/// Prints the state and the numbers; how many messages are queued, and how many are in the inbox;
+/// and whether the timer is on.
 pub fn look(rt: &HostRuntime, station: &Station) -> io::Result<()> {
     let numbers = station.numbers();
     println!(rt;
