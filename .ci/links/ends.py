@@ -192,9 +192,8 @@ def unread_input():
         time.sleep(0.2)
         peer.send(ack(1))
         peer.close()
-        wants(f"{lines[:2]} {len(lines)}", link, 3, None)
-        if link.errors()[-1] not in [f"ddcmp: {it}" for it in lasts]:
-            wrong(f"{lines[:2]} {len(lines)}: {link.errors()[-2:]}")
+        if link.ended(5) != 3 or link.errors()[-1] not in [f"ddcmp: {it}" for it in lasts]:
+            wrong(f"{lines[:2]} {len(lines)}: status {link.run.returncode}, {link.errors()[-2:]}")
 
 
 def stay():
