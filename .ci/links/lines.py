@@ -155,6 +155,16 @@ def gone_for_good():
     it.close()
     peer.close()
     wants("lost", link, 3, "ddcmp: 2 messages lost", 10)
+    with server() as it:
+        link = Link(f"connect:127.0.0.1:{it.getsockname()[1]}", "--again", "--linger-ms", "1500")
+        link.give(b"61\n62\n")
+        peer = Peer(it.accept()[0], no_ack)
+        peer.waits(lambda it: len(it.mail) == 2, 5)
+        time.sleep(2)
+        peer.close()
+        peer = Peer(it.accept()[0], good)  # it is heard out from the end of its line on
+    peer.runs()
+    wants("back after a loss", link, 3, "ddcmp: 2 messages lost", 10)
     it = server()
     link = Link(f"connect:127.0.0.1:{it.getsockname()[1]}", "--again", "--linger-ms", "1500")
     link.give(b"61\n")

@@ -165,13 +165,18 @@ module _ {R : Type 0} {ran : Result (Unit {0}) (the_data R)} {h0 h1 : BuffersVie
   may-stop (inr (inl is)) = inr (inl (left-kept s over keeps (left is)))
   may-stop (inr (inr is)) = inr (inr (time-kept s over keeps (time is)))
 
+  unread-kept : (ran ≡ Err Left) ⊎ (ran ≡ Err (Device fault.Time))
+      → IsLeft h0 s0 k0 s k2 ⊎ IsTimeOver h0 s0 k0 s k2
+  unread-kept (inl is) = inl (left-kept s over keeps (left is))
+  unread-kept (inr is) = inr (time-kept s over keeps (time is))
+
   pub stops : {result : Result (Unit {0}) (the_data R)} → Judges ran result
       → Stops result h0 s0 k0 s k2
   stops judges = record {
     well = λ e. may-stop (judges.well e);
     lost = λ count e. may-stop (judges.lost count e);
     left = λ e. left-kept s over keeps (left (judges.left e));
-    unread = λ e. may-stop (judges.unread e);
+    unread = λ e. unread-kept (judges.unread e);
     shut = λ refusal e. shut refusal (judges.shut refusal e ∙ e);
     time = λ e. time-kept s over keeps (time (judges.time e));
   }

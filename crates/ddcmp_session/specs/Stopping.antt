@@ -55,7 +55,8 @@ pub record Stops {R : Type 0} (result : Result (Unit {0}) (the_data R)) (held : 
   pub well : result ≡ Ok tt → MayStop held old before s after
   pub lost : (count : ℕ) → result ≡ Err (Lost count) → MayStop held old before s after
   pub left : result ≡ Err Left → IsLeft held old before s after
-  pub unread : result ≡ Err Unread → MayStop held old before s after
+  pub unread : result ≡ Err Unread
+      → IsLeft held old before s after ⊎ IsTimeOver held old before s after
   pub shut : IfNotOpened result (s.options.again ≡ false)
   pub time : result ≡ Err (Device fault.Time) → IsTimeOver held old before s after
 
@@ -67,7 +68,8 @@ pub record StopsToEnd {R : Type 0} (result : Result (Unit {0}) (the_data R)) (he
   pub well : result ≡ Ok tt → MayStop held old before s after
   pub lost : (count : ℕ) → result ≡ Err (Lost count) → MayStop held old before s after
   pub left : result ≡ Err Left → IsLeft held old before s after
-  pub unread : result ≡ Err Unread → MayStop held old before s after
+  pub unread : result ≡ Err Unread
+      → IsLeft held old before s after ⊎ IsTimeOver held old before s after
   pub shut : IfNotOpened result (s.options.again ≡ false)
   pub time : result ≡ Err (Device fault.Time) → MayStop held old before s after
 
@@ -81,6 +83,6 @@ pub record Judges {R : Type 0} (ran result : Result (Unit {0}) (the_data R)) : T
   pub well : result ≡ Ok tt → MayBeWell ran
   pub lost : (count : ℕ) → result ≡ Err (Lost count) → MayBeWell ran
   pub left : result ≡ Err Left → ran ≡ Err Left
-  pub unread : result ≡ Err Unread → MayBeWell ran
+  pub unread : result ≡ Err Unread → (ran ≡ Err Left) ⊎ (ran ≡ Err (Device fault.Time))
   pub shut : IfNotOpened result (ran ≡ result)
   pub time : result ≡ Err (Device fault.Time) → ran ≡ Err (Device fault.Time)

@@ -105,7 +105,8 @@ reopens s = s.options.again || (is_listener s.kind && not s.course.peer_has_star
 abbrev pub after_line : SessionView → SessionView
 after_line s = record s {
   course =
-      if s.course.has_run_here then record s.course { retry_seconds = 0; opens_at = 0 }
+      if s.course.has_run_here
+      then record s.course { retry_seconds = 0; opens_at = 0; quiet_since = s.course.moment }
       else if is_listener s.kind then s.course
       else after_opening_failed s.course;
 }

@@ -257,12 +257,17 @@ impl Course {
         self.retry_seconds
     }
 
-    /// Lets the line be opened at once.
+    /// Lets the line be opened at once, and its peer be heard out from now on.
     pub(crate) fn retry_at_once(&mut self)
-        ensures { self.new ≡ record self.old { retry_seconds = 0; opens_at = 0 } }
+        ensures { self.new ≡ record self.old {
+          retry_seconds = 0;
+          opens_at = 0;
+          quiet_since = self.old.moment;
+        } }
     {
         self.retry_seconds = 0;
         self.opens_at = 0;
+        self.quiet_since = self.moment;
     }
 }
 

@@ -15,7 +15,7 @@ pub struct Options {
     /// The number of tries without progress after which a line is left; 0 is never, and `u32::MAX`
     /// is 7 until the station runs and never from then on.
     pub attempts: u32,
-    /// How long it waits for more from a quiet peer once all of the input was delivered, in
+    /// How long it waits for more from a quiet peer once nothing of the input is left, in
     /// milliseconds.
     pub linger_ms: u32,
     /// After how many seconds the run ends.
@@ -26,7 +26,7 @@ pub struct Options {
     /// Whether messages are sent as maintenance messages, each once: none is numbered, acknowledged
     /// or retransmitted.
     pub maintenance: bool,
-    /// Whether it continues once all of the input was delivered.
+    /// Whether it continues once nothing of the input is left.
     pub stay: bool,
     /// Whether the line is opened again if it ends or can't be opened.
     pub again: bool,
