@@ -282,6 +282,7 @@ def bridged_last():
         if sends_on:
             threading.Thread(target=floods, args=(two,), daemon=True).start()
         one.sendall(frames)
+        closed = time.monotonic()  # before the bridge sees that, while `began` may be late
         one.close()
         bridge.waits(lambda it: b"first line down" in it.told)
         began, used = time.monotonic(), bridge.processor_time()
@@ -295,11 +296,12 @@ def bridged_last():
         if closes:
             with contextlib.suppress(OSError):  # it is gone already
                 two.shutdown(socket.SHUT_RDWR)
-        status, took = bridge.ended(), time.monotonic() - began
+        status, took, whole = bridge.ended(), time.monotonic() - began, time.monotonic() - closed
         if status != 0 or got != frames or was_reset and closes:
             wrong(f"{sends_on} {closes}: {status}, {len(got)} bytes, {bridge.errors()}")
         is_left = sends_on and not closes
-        if is_left != (took > late + 0.3) or took > 1.5 or bridge.used - used > 0.1 and not sends_on:
+        if (is_left and whole < 0.3 or not is_left and took > late + 0.3 or took > 1.5
+                or bridge.used - used > 0.1 and not sends_on):
             wrong(f"{sends_on} {closes}: {took} s, {bridge.used - used} s of processor time")
         for it in (first, second, two):
             it.close()
