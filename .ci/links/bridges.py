@@ -311,6 +311,7 @@ def floods(peer):
     with contextlib.suppress(OSError):
         while True:
             peer.sendall(b"\x96" * (1 << 16))
+            time.sleep(0.001)  # else the reads are over before their time
 
 
 def faulty(*faults):
