@@ -1,4 +1,4 @@
-//! A station behind a pointer that C owns.
+//! A station that C owns by a pointer.
 ghost use Rattle.std.specs.Prelude.{◌≡◌, Option, Some, None, option_map};
 ghost use Rattle.ddcmp_proto.specs.Station.{StationView};
 ghost use Rattle.ddcmp_c.specs.Owned.{handle_owns};

@@ -1,4 +1,4 @@
-//! A reader behind a pointer that C owns.
+//! A reader that C owns by a pointer.
 ghost use Rattle.std.specs.Prelude.{◌≡◌, Option, Some, None, option_map};
 ghost use Rattle.ddcmp_frame.specs.Reader.{ReaderView};
 ghost use Rattle.ddcmp_c.specs.Owned.{reader_handle_owns};

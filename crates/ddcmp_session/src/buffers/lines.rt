@@ -23,7 +23,7 @@ pub enum Stop<R> {
     Left,
     /// The number of messages that were read and never acknowledged.
     Lost(u64),
-    /// The lines have ended, or the time is over, and there is more input than was read.
+    /// The lines have ended, or the time is over, and there may be more input than was read.
     Unread,
 }
 
