@@ -190,6 +190,44 @@ def gone_for_good():
     wants("listener", listener, 0, None, 10)
 
 
+def full_window():
+    """With --again a link sees the end of its input though the window was full as its line ended: at once, later, and of
+    messages in binary. What was read and not sent waits for the next line, also a last line without LF."""
+    def lost_with(text, count, *options, later=False):
+        """Such a link, after its line ended with this many messages unacknowledged; its listener is gone, or returned."""
+        it = server()
+        link = Link(f"connect:127.0.0.1:{it.getsockname()[1]}", "--again", "--linger-ms", "800", *options)
+        link.give(text, close=not later)
+        peer = Peer(it.accept()[0], no_ack)
+        if not peer.waits(lambda it: len(it.mail) == count, 5):
+            wrong(f"{options}: {peer.mail}")
+        if not later:
+            it.close()
+        peer.close()
+        return link, it
+
+    seven = b"".join(b"%02x\n" % it for it in range(1, 8))
+    wants("lines", lost_with(seven, 7)[0], 3, "ddcmp: 7 messages lost", 8)
+    wants("one", lost_with(b"61\n", 1, "--window", "1")[0], 3, "ddcmp: 1 message lost", 8)
+    wants("binary", lost_with(b"\0\1a", 1, "--window", "1", "--binary")[0], 3, "ddcmp: 1 message lost", 8)
+    wants("cut", lost_with(b"\0\1a\0", 1, "--window", "1", "--binary")[0], 3, "ddcmp: 1 message lost", 8)
+    link, it = lost_with(b"61\n", 1, "--window", "1", later=True)
+    it.close()
+    time.sleep(1.5)
+    if not link.is_running():
+        wrong(f"it ended before its input: {link.errors()}")
+    link.give(b"")
+    wants("later", link, 3, "ddcmp: 1 message lost", 8)
+    for text in (b"61\n62", b"61\n62\n"):
+        link, it = lost_with(text, 1, "--window", "1", later=True)
+        link.give(b"")
+        peer = Peer(it.accept()[0], good)
+        wants(text, link, 3, "ddcmp: 1 message lost", 8)
+        if peer.mail != [b"b"]:
+            wrong(f"{text} {peer.mail}")
+        it.close()
+
+
 def seconds_in_pause():
     """--seconds ends a link in a pause before its next try."""
     link = Link(f"connect:127.0.0.1:{free_port()}", "--again", "--seconds", "4")
@@ -382,6 +420,6 @@ def pace_of_lines():
     it.close()
 
 
-TRIALS = [again, closed_at_once, late_server, taken_address, server_away, gone_for_good, udp_pair, datagrams, cut_datagrams,
-          datagram_names, no_device, pace, first_nak, pace_of_lines, seconds_in_pause]
+TRIALS = [again, closed_at_once, late_server, taken_address, server_away, gone_for_good, full_window, udp_pair, datagrams,
+          cut_datagrams, datagram_names, no_device, pace, first_nak, pace_of_lines, seconds_in_pause]
 LONG_TRIALS = [restarts, longest_pause]

@@ -45,7 +45,7 @@ impl Model for HexLines {
 
 impl HexLines {
     ghost use Rattle.std.specs.Prelude.{◌≡◌, ◌+◌, ◌<◌, ◌≤◌, ℕ, [], Some, IfOk, None, length, take};
-    ghost use Rattle.std.specs.Prelude.{option_to_list};
+    ghost use Rattle.std.specs.Prelude.{is_some, option_to_list};
     ghost use Rattle.ddcmp_input.specs.HexLines.{begun, line_begun, after_digit, return_taken};
     ghost use Rattle.ddcmp_input.specs.HexLines.{line_ended, entry_of_line, after_byte};
     ghost use Rattle.ddcmp_input.specs.HexLines.{entry_of_byte, after_bytes, entries_of_bytes};
@@ -173,6 +173,14 @@ impl HexLines {
             used: piece.len(),
             entry: None,
         }
+    }
+
+    /// Returns whether the input, if it ends here, has a last line without LF that isn't empty.
+    pub fn has_last_line(&self) -> bool
+        ensures { result ≡ is_some (entry_of_byte 10 self.now) }
+    {
+        let is_empty = self.refused.is_none() && self.high.is_none() && self.message.is_empty();
+        !self.ended && !is_empty
     }
 
     /// Returns the message of the line, if its end completed one.

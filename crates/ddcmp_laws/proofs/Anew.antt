@@ -16,7 +16,7 @@ use Rattle.ddcmp_pair.specs.Prefix.{IsPrefixOf}
 use Rattle.ddcmp_pair.specs.Run.{new_pair, is_clean}
 use Rattle.ddcmp_session.specs.Messages.{message_in, after_input, entries_of_input, after_last}
 use Rattle.ddcmp_session.specs.Messages.{entry_of_last}
-use Rattle.ddcmp_session.specs.Session.{SessionView, wants_input}
+use Rattle.ddcmp_session.specs.Session.{SessionView, takes_end}
 use Rattle.ddcmp_laws.specs.Links.{LinkCall, Starts, BeginsAnew, Halts, Wakes, Offers, FillsOne}
 use Rattle.ddcmp_laws.specs.Links.{IsSent, Feeds, Takes, LinkHistory, LinkStep, Links, link_at}
 use Rattle.ddcmp_laws.specs.Links.{IsHistory, after_history, LinkReaches, HasDone, used_by}
@@ -306,7 +306,7 @@ follows made one c k does stays = by one.call one.session does
         (message_in (after_input used c.history.session.messages)) new.link)
     by InputEnded new d =
         goes_on made (record { call = InputEnded; session = new }) c k d stays
-        (ended (wants_input c.history.session) new)
+        (ended (takes_end c.history.session) new)
     by Connected new d = begins_anew made new c k d stays
     by (LineEnded r) new d =
         goes_on made (record { call = LineEnded r; session = new }) c k d stays (tt, tt)

@@ -33,7 +33,7 @@ use Rattle.ddcmp_laws.proofs.StationRuns.{Kept}
 use Rattle.ddcmp_laws.proofs.TwoLinks.{AreSame}
 use Rattle.ddcmp_session.specs.Messages.{after_input, after_last, entries_of_input, entry_of_last}
 use Rattle.ddcmp_session.specs.Messages.{message_in}
-use Rattle.ddcmp_session.specs.Session.{SessionView, starts, wants_input}
+use Rattle.ddcmp_session.specs.Session.{SessionView, starts, takes_end}
 use Rattle.ddcmp_session.specs.Calls.{Closed, Connected, Delivered, Filled, InputEnded, LineEnded}
 use Rattle.ddcmp_session.specs.Calls.{LineTook, OutputTook, Received, SessionCall, SessionStep}
 use Rattle.ddcmp_session.specs.Calls.{TimePassed, TimedOut, Typed, after_session_step}
@@ -192,7 +192,7 @@ calm-steps Connected i s new = absurd i
 calm-steps (Received used) i s new = absurd i
 calm-steps (Typed used) i s new =
     offers-calm (entries_of_input used s.messages) (message_in (after_input used s.messages)) new
-calm-steps InputEnded i s new = by (wants_input s)
+calm-steps InputEnded i s new = by (takes_end s)
   where
     by : (b : Bool)
         → AreCalmSteps

@@ -20,7 +20,7 @@ use Rattle.ddcmp_session.specs.declared.messages.Form.TheVariants as form
 use Rattle.ddcmp_session.specs.declared.messages.Messages.{Messages}
 use Rattle.ddcmp_session.specs.Messages.{messages_begun, message_in, after_input, entries_of_input}
 use Rattle.ddcmp_session.specs.Messages.{after_last, entry_of_last}
-use Rattle.ddcmp_session.specs.Session.{SessionView, form_of, wants_input}
+use Rattle.ddcmp_session.specs.Session.{SessionView, form_of, takes_end}
 use Rattle.ddcmp_session.specs.Session.{after_last_line, after_unfinished, after_input_end}
 use Rattle.ddcmp_session.specs.declared.course.Course.{Course}
 use Rattle.ddcmp_session.specs.declared.options.LineKind.{LineKind}
@@ -75,12 +75,12 @@ pub ended_step : (f : Form) (max : ℕ) (h : SessionHistory) (new : SessionView)
     → new ≡ after_input_end h.session
     → StepLeads f max (record { call = InputEnded; session = new }) h k
 unfolding offered_in
-ended_step f max h new k holds e = by (wants_input h.session) refl e
+ended_step f max h new k holds e = by (takes_end h.session) refl e
   where
     m : Messages
     m = h.session.messages
 
-    by : (w : Bool) → wants_input h.session ≡ w
+    by : (w : Bool) → takes_end h.session ≡ w
         → new ≡ cond w (after_unfinished (after_last_line h.session)) h.session
         → Leads
         (cond w

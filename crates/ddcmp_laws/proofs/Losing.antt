@@ -40,14 +40,15 @@ use Rattle.ddcmp_session.specs.Calls.{SessionCall, Typed, InputEnded, Connected,
 use Rattle.ddcmp_session.specs.Calls.{Received as Heard, Filled, LineTook, TimedOut, TimePassed}
 use Rattle.ddcmp_session.specs.Calls.{Delivered, OutputTook, Closed, SessionDoes, HasClosed, HasLeft}
 use Rattle.ddcmp_session.specs.Messages.{after_input, after_last, entries_of_input}
-use Rattle.ddcmp_session.specs.Messages.{entry_of_last, is_message_unfinished}
+use Rattle.ddcmp_session.specs.Messages.{entry_of_last, has_last_line, is_message_unfinished}
 use Rattle.ddcmp_session.specs.declared.course.Course.{Course}
 use Rattle.ddcmp_session.specs.declared.course.Progress.{Progress}
 use Rattle.ddcmp_session.specs.Session.{SessionView, after_connected, after_entry, after_entries}
 use Rattle.ddcmp_session.specs.Session.{after_input_end, after_last_line, after_time, after_timeout}
 use Rattle.ddcmp_session.specs.Session.{after_typed, after_unfinished, awaits_peer, expires}
 use Rattle.ddcmp_session.specs.Session.{course_received, lost_among, lost_at_end, lost_by_end}
-use Rattle.ddcmp_session.specs.Session.{wants_input, wants_line, after_connecting_in, anew_in}
+use Rattle.ddcmp_session.specs.Session.{takes_end, wants_input, wants_line, after_connecting_in}
+use Rattle.ddcmp_session.specs.Session.{anew_in}
 use Rattle.ddcmp_session.specs.Session.{after_offered_in, has_gone, lost_by_start, lost_in}
 use Rattle.ddcmp_session.specs.Session.{starts, takes_in}
 use Rattle.ddcmp_session.specs.Course.{after_looked, after_notice, after_notices, lost_more}
@@ -200,10 +201,9 @@ and-false : (a b : Bool) → b ≡ false → a && b ≡ false
 and-false true b e = e
 and-false false b e = refl
 
-pub input-halted : (s : SessionView) → s.link.station.core.station.state ≡ Halted
-    → wants_input s ≡ false
-input-halted s halted =
-    and-false (not s.is_read) (takes_in s.options.maintenance s.link) (by s.options.maintenance)
+takes-halted : (s : SessionView) → s.link.station.core.station.state ≡ Halted
+    → takes_in s.options.maintenance s.link ≡ false
+takes-halted s halted = by s.options.maintenance
   where
     by : (b : Bool) → takes_in b s.link ≡ false
     by true = ap (λ st. is_maintenance st && has_gone s.link) halted
@@ -211,6 +211,20 @@ input-halted s halted =
         ap
         (λ st. is_running st
         && nat_lt (length s.link.station.core.station.out) s.link.station.core.limits.window) halted
+
+pub input-halted : (s : SessionView) → s.link.station.core.station.state ≡ Halted
+    → wants_input s ≡ false
+input-halted s halted =
+    and-false (not s.is_read) (takes_in s.options.maintenance s.link) (takes-halted s halted)
+
+-- nor its end, if the station has never run
+pub end-halted : (s : SessionView) → s.link.station.core.station.state ≡ Halted
+    → s.course.has_run ≡ false → takes_end s ≡ false
+end-halted s halted never =
+    and-false (not s.is_read)
+    (takes_in s.options.maintenance s.link || (s.course.has_run && not (has_last_line s.messages)))
+    (ap (λ b. b || (s.course.has_run && not (has_last_line s.messages))) (takes-halted s halted)
+    ∙ ap (λ b. b && not (has_last_line s.messages)) never)
 
 -- ---- what is counted as lost
 
@@ -373,7 +387,7 @@ last-keeps s = by (is_message_unfinished s.messages)
 
 end-keeps : (s : SessionView)
     → ((after_input_end s).has_line ≡ s.has_line) × ((after_input_end s).course ≡ s.course)
-end-keeps s = by (wants_input s)
+end-keeps s = by (takes_end s)
   where
     last : SessionView
     last = record s { messages = after_last s.messages; is_read = true }
@@ -391,6 +405,28 @@ end-keeps s = by (wants_input s)
     by true = (u.0 ∙ k.0, u.1 ∙ k.1)
     by false = (refl, refl)
 
+unfinished-station : (s : SessionView) → station_of (after_unfinished s) ≡ station_of s
+unfinished-station s = by (is_message_unfinished s.messages)
+  where
+    by : (b : Bool) → station_of (cond b (record s { was_refused = true }) s) ≡ station_of s
+    by true = refl
+    by false = refl
+
+ended-station : (s : SessionView) → s.link.station.core.station.state ≡ Halted
+    → station_of (after_input_end s) ≡ station_of s
+ended-station s halted = by (takes_end s)
+  where
+    last : SessionView
+    last = record s { messages = after_last s.messages; is_read = true }
+
+    by : (b : Bool)
+        → station_of (cond b (after_unfinished (after_last_line s)) s) ≡ station_of s
+    by true =
+        unfinished-station (after_last_line s)
+        ∙ ap (λ (d : LinkView). d.station.core.station)
+        (entries-halted (option_to_list (entry_of_last s.messages)) last halted)
+    by false = refl
+
 input-ended : (old new : SessionView) → new ≡ after_input_end old → Outcome old new
 input-ended old new does =
     let k = end-keeps old in
@@ -399,9 +435,7 @@ input-ended old new does =
       ap (λ (x : SessionView). x.course.lost) does ∙ ap (λ (c : Course). c.lost) k.1,
     )
     (λ halted. same-stays (station_of old) (station_of new) halted
-    (ap station_of does
-    ∙ ap (λ b. station_of (cond b (after_unfinished (after_last_line old)) old))
-    (input-halted old halted)))
+    (ap station_of does ∙ ended-station old halted))
 
 pub line-ended : (r : Bool) (old new : SessionView) → HasLeft r old new → LosesLine old new
 line-ended r old new does = record {

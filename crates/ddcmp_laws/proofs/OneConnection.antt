@@ -131,7 +131,13 @@ first-once made steps once =
     inr (
       once,
       record {
-        idle = record { shut = refl; halted = refl; inbox = refl; waiting = refl };
+        idle = record {
+          shut = refl;
+          halted = refl;
+          inbox = refl;
+          waiting = refl;
+          never = refl;
+        };
         used = refl;
         gone = refl;
         input = refl;

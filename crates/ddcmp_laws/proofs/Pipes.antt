@@ -10,7 +10,7 @@ use Rattle.ddcmp_pair.specs.declared.event.End.{End}
 use Rattle.ddcmp_pair.specs.declared.event.End.TheVariants.{A, B}
 use Rattle.ddcmp_session.specs.Messages.{message_in, after_input, entries_of_input, after_last}
 use Rattle.ddcmp_session.specs.Messages.{entry_of_last}
-use Rattle.ddcmp_session.specs.Session.{SessionView, wants_input}
+use Rattle.ddcmp_session.specs.Session.{SessionView, takes_end}
 use Rattle.ddcmp_laws.specs.Links.{LinkStep, IsHistory, after_history, after_step}
 use Rattle.ddcmp_laws.specs.Links.{Links, after_steps, starts_in_call, link_starts}
 use Rattle.ddcmp_laws.specs.LinkLines.{AreLinkCalls}
@@ -155,7 +155,7 @@ unfolding starts_in_steps
 call_starts (Typed used) s new =
     offers_start_none (entries_of_input used s.messages) (message_in (after_input used s.messages))
     new
-call_starts InputEnded s new = by (wants_input s)
+call_starts InputEnded s new = by (takes_end s)
   where
     by : (b : Bool)
         → starts_in_steps

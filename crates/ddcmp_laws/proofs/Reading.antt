@@ -2,7 +2,7 @@
 use Rattle.std.proofs.Common.{◌≡◌, ℕ, ◌+◌, Bool, true, false, cond, List, [], ◌∷◌}
 use Rattle.std.proofs.Common.{◌++◌, refl, sym, ◌∙◌, ap, subst}
 use Rattle.std.proofs.Common.{append-nil, option_to_list}
-use Rattle.std.specs.Prelude.{◌&&◌, not}
+use Rattle.std.specs.Prelude.{◌&&◌, ◌||◌, not, is_some, Option, None, Some}
 use Rattle.ddcmp_input.specs.declared.entry.Entry.{Entry}
 use Rattle.ddcmp_input.specs.declared.entry.Entry.TheVariants.{Message, NotHexadecimal, TooLong}
 use Rattle.ddcmp_input.specs.declared.entry.Entry.TheVariants.{Empty}
@@ -15,8 +15,10 @@ use Rattle.ddcmp_session.specs.declared.messages.Form.{Form}
 use Rattle.ddcmp_session.specs.declared.messages.Messages.{Messages}
 use Rattle.ddcmp_session.specs.declared.messages.Messages.TheVariants.{Digits, Binary}
 use Rattle.ddcmp_session.specs.Messages.{message_in, after_input, entries_of_input}
-use Rattle.ddcmp_session.specs.Messages.{after_last, entry_of_last, is_message_unfinished}
-use Rattle.ddcmp_session.specs.Session.{SessionView, form_of, wants_input, after_entries}
+use Rattle.ddcmp_session.specs.Messages.{after_last, entry_of_last, has_last_line}
+use Rattle.ddcmp_session.specs.Messages.{is_message_unfinished}
+use Rattle.ddcmp_session.specs.Session.{SessionView, form_of, takes_end, wants_input}
+use Rattle.ddcmp_session.specs.Session.{after_entries}
 use Rattle.ddcmp_session.specs.Session.{after_last_line, after_unfinished, after_offered_in}
 use Rattle.ddcmp_session.specs.Session.{takes_in}
 use Rattle.ddcmp_laws.specs.Links.{Offers}
@@ -315,12 +317,19 @@ pub not_true : (b : Bool) → not b ≡ true → b ≡ false
 not_true true e = cc
 not_true false e = refl
 
+last_taken : (takes ran : Bool) (e : Option Entry) → takes || (ran && not (is_some e)) ≡ true
+    → IfMessage (option_to_list e) (takes ≡ true)
+last_taken true ran e taken = if_message (option_to_list e) refl
+last_taken false ran None taken = tt
+last_taken false true (Some e) taken = cc
+last_taken false false (Some e) taken = cc
+
 pub ended_reads : (f : Form) (max : ℕ) (h : SessionHistory) (new : SessionView) → Holds f max h
-    → wants_input h.session ≡ true → new ≡ after_unfinished (after_last_line h.session)
+    → takes_end h.session ≡ true → new ≡ after_unfinished (after_last_line h.session)
     → HasRead f max h (end_in (form_of h.session.messages))
     (option_to_list (entry_of_last h.session.messages))
     (message_in (after_last h.session.messages)) new
-ended_reads f max h new k wants is =
+ended_reads f max h new k takes is =
     let m = h.session.messages in
     let used = end_in (form_of m) in
     let es = option_to_list (entry_of_last m) in
@@ -329,8 +338,10 @@ ended_reads f max h new k wants is =
     let last = record h.session { messages = after_last m; is_read = true } in
     let e = entered es last mid k.of_data refl in
     let u = unfinished_keeps mid in
-    let w = both (not h.session.is_read) (takes_message h.session.link)
-    (sym (ap (λ b. not h.session.is_read && takes_in b h.session.link) k.of_data) ∙ wants) in
+    let late = h.session.course.has_run && not (has_last_line m) in
+    let w = both (not h.session.is_read) (takes_message h.session.link || late)
+    (sym (ap (λ b. not h.session.is_read && (takes_in b h.session.link || late)) k.of_data)
+    ∙ takes) in
     let going = not_true h.session.is_read w.0 in
     record {
       messages = ap (λ (x : SessionView). x.messages) is ∙ u.0 ∙ e.0 ∙ r.state;
@@ -346,7 +357,9 @@ ended_reads f max h new k wants is =
           subst (λ xs. IfMessage xs (Fits max (message_in (after_last m)))) (sym r.entries)
           (subst (λ x. IfMessage (entries_of_input used m) (Fits max (message_in x)))
           (sym r.state) (read_fits f max h.input used m (k.reads going) r.part));
-      takes = if_message es w.1;
+      takes =
+          last_taken (takes_message h.session.link) h.session.course.has_run (entry_of_last m)
+          w.1;
       more =
           read_more f max h.input used m (k.reads going) r.part
           ∙ ap (λ xs. messages_of f max h.input ++ read_by xs (message_in (after_input used m)))

@@ -9,7 +9,7 @@ use Rattle.ddcmp_laws.specs.Faithful.{Begins}
 use Rattle.ddcmp_pair.specs.declared.event.End.{End}
 use Rattle.ddcmp_pair.specs.declared.event.End.TheVariants.{A, B}
 use Rattle.ddcmp_session.specs.declared.messages.Form.TheVariants as form
-use Rattle.ddcmp_session.specs.Session.{SessionView, wants_input, after_last_line}
+use Rattle.ddcmp_session.specs.Session.{SessionView, takes_end, after_last_line}
 use Rattle.ddcmp_session.specs.Session.{after_unfinished}
 use Rattle.ddcmp_session.specs.Calls.{SessionCall, Typed, InputEnded, Connected, LineEnded}
 use Rattle.ddcmp_session.specs.Calls.{Received, Filled, LineTook, TimedOut, TimePassed, Delivered}
@@ -83,7 +83,7 @@ read-step (Typed used) h new of d =
     (same-at (λ x. x.is_read) new _ d.state
     ∙ entries-read (entries_of_input used h.session.messages) s)
 read-step InputEnded h new of d =
-    ended-read (wants_input h.session) h.is_told h.session
+    ended-read (takes_end h.session) h.is_told h.session
     (after_unfinished (after_last_line h.session)) new d
 read-step Connected h new of d = same-read h.is_told h.session new (same-at (λ s. s.is_read) new _ d)
 read-step (LineEnded r) h new of d =

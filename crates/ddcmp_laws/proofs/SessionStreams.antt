@@ -10,7 +10,7 @@ use Rattle.ddcmp_pair.specs.declared.event.End.{End}
 use Rattle.ddcmp_pair.specs.declared.event.End.TheVariants.{A, B}
 use Rattle.ddcmp_session.specs.Messages.{message_in, after_input, entries_of_input, after_last}
 use Rattle.ddcmp_session.specs.Messages.{entry_of_last}
-use Rattle.ddcmp_session.specs.Session.{SessionView, wants_input}
+use Rattle.ddcmp_session.specs.Session.{SessionView, takes_end}
 use Rattle.ddcmp_laws.specs.Faithful.{Begins}
 use Rattle.ddcmp_laws.specs.Links.{LinkHistory, LinkStep, IsHistory, after_history, after_step}
 use Rattle.ddcmp_laws.specs.Links.{LinkCall, Starts, BeginsAnew, Halts, Wakes, Offers, FillsOne}
@@ -113,7 +113,7 @@ pub shape : (call : SessionCall) (s : SessionView) (new : LinkView)
 shape (Typed used) s new =
     inl
     (offers_still (entries_of_input used s.messages) (message_in (after_input used s.messages)) new)
-shape InputEnded s new = by (wants_input s)
+shape InputEnded s new = by (takes_end s)
   where
     by : (b : Bool)
         → Shape

@@ -2,7 +2,8 @@
 -- to its history.
 use Rattle.std.proofs.Common.{◌≡◌, ◌∙◌, ap, sym, subst, refl, ℕ, zero, suc}
 use Rattle.std.proofs.Common.{Bool, true, false, cond, List, [], ◌++◌, drop, take, Some, None}
-use Rattle.std.specs.Prelude.{◌&&◌}
+use Rattle.std.proofs.Common.{◌⊎◌, inl, inr}
+use Rattle.std.specs.Prelude.{◌&&◌, not}
 use Rattle.std.proofs.Math.Seq.{drop-nil}
 use Rattle.ddcmp_window.specs.Store.{first_message}
 use Rattle.ddcmp_core.specs.Core.{CoreView}
@@ -18,8 +19,13 @@ use Rattle.ddcmp_station.specs.Linking.{LinkView, after_frame, after_frames, aft
 use Rattle.ddcmp_station.specs.Linking.{after_sent, after_wake, bytes_of, frame_of_link, polls}
 use Rattle.ddcmp_station.specs.Linking.{with_state}
 use Rattle.ddcmp_session.specs.Messages.{after_input, entries_of_input}
-use Rattle.ddcmp_session.specs.Session.{SessionView, after_last_line, after_timeout}
-use Rattle.ddcmp_session.specs.Session.{after_unfinished, form_of, wants_line}
+use Rattle.ddcmp_session.specs.declared.course.Course.{Course}
+use Rattle.ddcmp_session.specs.Course.{after_looked, after_moment, after_notices}
+use Rattle.ddcmp_session.specs.Course.{after_opening_failed, after_pause, try_counted}
+use Rattle.ddcmp_session.specs.Session.{SessionView, after_last_line, after_time, after_timeout}
+use Rattle.ddcmp_session.specs.Session.{after_tried, after_unfinished, after_unheard, awaits_peer}
+use Rattle.ddcmp_session.specs.Session.{expires, form_of, report_ms, wants_line}
+use Rattle.ddcmp_session.specs.Timing.{after_failure, after_line, is_listener}
 use Rattle.ddcmp_session.specs.Calls.{Closed, Connected, Delivered, Filled, HasDelivered}
 use Rattle.ddcmp_session.specs.Calls.{HasReceived, HasTyped, InputEnded, LineEnded, LineTook}
 use Rattle.ddcmp_session.specs.Calls.{OutputTook, Received, SessionCall, SessionDoes, TimePassed}
@@ -27,7 +33,8 @@ use Rattle.ddcmp_session.specs.Calls.{TimedOut, Typed, end_in, gone_in, input_in
 use Rattle.ddcmp_session.proofs.GoingLaws.{same-at}
 use Rattle.ddcmp_laws.specs.Pipe.{connects_in_call}
 use Rattle.ddcmp_laws.specs.Sessions.{mail_in}
-use Rattle.ddcmp_laws.proofs.Losing.{entries-halted, entries-keep, frames-halted, input-halted}
+use Rattle.ddcmp_laws.proofs.Losing.{end-halted, entries-halted, entries-keep, frames-halted}
+use Rattle.ddcmp_laws.proofs.Losing.{input-halted}
 use Rattle.ddcmp_laws.proofs.Losing.{items-halted, station_of, wake-halted}
 use Rattle.ddcmp_laws.proofs.Texts.{no_mail, nothing_lost}
 
@@ -38,30 +45,33 @@ pub record IsIdle (s : SessionView) : Type 0 where
   pub halted : s.link.station.core.station.state ≡ Halted
   pub inbox : s.link.station.core.station.inbox ≡ []
   pub waiting : s.link.outbox.waiting ≡ []
+  pub never : s.course.has_run ≡ false
 
 still : (old new : SessionView) → new.has_line ≡ old.has_line
     → (station_of new).state ≡ Halted → (station_of new).inbox ≡ (station_of old).inbox
-    → new.link.outbox.waiting ≡ old.link.outbox.waiting → IsIdle old → IsIdle new
-still old new line halted inbox waiting was = record {
+    → new.link.outbox.waiting ≡ old.link.outbox.waiting
+    → new.course.has_run ≡ old.course.has_run → IsIdle old → IsIdle new
+still old new line halted inbox waiting ran was = record {
   shut = line ∙ was.shut;
   halted = halted;
   inbox = inbox ∙ was.inbox;
   waiting = waiting ∙ was.waiting;
+  never = ran ∙ was.never;
 }
 
 -- its station is the same
 same-station : (old new : SessionView) → new.has_line ≡ old.has_line
     → station_of new ≡ station_of old → new.link.outbox.waiting ≡ old.link.outbox.waiting
-    → IsIdle old → IsIdle new
-same-station old new line station waiting was =
+    → new.course.has_run ≡ old.course.has_run → IsIdle old → IsIdle new
+same-station old new line station waiting ran was =
     still old new line (ap (λ (x : StationState). x.state) station ∙ was.halted)
-    (ap (λ (x : StationState). x.inbox) station) waiting was
+    (ap (λ (x : StationState). x.inbox) station) waiting ran was
 
 same-link : (old new : SessionView) → new.has_line ≡ old.has_line → new.link ≡ old.link
-    → IsIdle old → IsIdle new
-same-link old new line link was =
+    → new.course.has_run ≡ old.course.has_run → IsIdle old → IsIdle new
+same-link old new line link ran was =
     same-station old new line (ap (λ (d : LinkView). d.station.core.station) link)
-    (ap (λ (d : LinkView). d.outbox.waiting) link) was
+    (ap (λ (d : LinkView). d.outbox.waiting) link) ran was
 
 -- ---- what its link leaves as it is
 
@@ -123,6 +133,58 @@ wake-inbox now d halted =
         (core_after_take_arm d.station.core).station halted
     by false = refl
 
+-- no moment lets a station run
+timed-run : (now : ℕ) (s : SessionView)
+    → (after_timeout now s).course.has_run ≡ s.course.has_run
+timed-run now s =
+    unheard (after_tried (expires now s) passed) ∙ tried (expires now s && not (awaits_peer passed))
+  where
+    passed : SessionView
+    passed = record s {
+      link = after_wake now s.link;
+      course = after_pause (after_moment (report_ms s.options) now s.course);
+    }
+
+    unheard : (x : SessionView) → (after_unheard x).course.has_run ≡ x.course.has_run
+    unheard x = by (wants_line x)
+      where
+        by : (b : Bool)
+            → (cond b x.course (record x.course { quiet_since = x.course.moment })).has_run
+            ≡ x.course.has_run
+        by true = refl
+        by false = refl
+
+    tried : (b : Bool)
+        → (cond b (try_counted None passed.course) passed.course).has_run ≡ s.course.has_run
+    tried true = refl
+    tried false = refl
+
+passed-run : (s : SessionView) (c : Course) (now : ℕ)
+    → (c ≡ (after_time now s).course)
+    ⊎ ((c ≡ (after_failure (after_time now s)).course)
+    ⊎ (c ≡ (after_line (after_time now s)).course))
+    → c.has_run ≡ s.course.has_run
+passed-run s c now (inl is) = ap (λ (x : Course). x.has_run) is
+passed-run s c now (inr (inl is)) = ap (λ (x : Course). x.has_run) is
+passed-run s c now (inr (inr is)) =
+    ap (λ (x : Course). x.has_run) is ∙ by passed.course.has_run_here (is_listener passed.kind)
+  where
+    passed : SessionView
+    passed = after_time now s
+
+    by : (here listens : Bool)
+        → (cond here
+        (record passed.course {
+          retry_seconds = 0;
+          opens_at = 0;
+          quiet_since = passed.course.moment;
+        })
+        (cond listens passed.course (after_opening_failed passed.course))).has_run
+        ≡ s.course.has_run
+    by true listens = refl
+    by false true = refl
+    by false false = refl
+
 -- ---- each call before it is connected
 
 -- it is idle again, and the call has added nothing to its history
@@ -143,7 +205,9 @@ typed-none used text old new d was =
       idle =
           same-link old new
           (ap (λ (x : SessionView). x.has_line) d.state ∙ (entries-keep es s).0)
-          (ap (λ (x : SessionView). x.link) d.state ∙ entries-halted es s was.halted) was;
+          (ap (λ (x : SessionView). x.link) d.state ∙ entries-halted es s was.halted)
+          (ap (λ (x : SessionView). x.course.has_run) d.state
+          ∙ ap (λ (c : Course). c.has_run) (entries-keep es s).1) was;
       used = refl;
       gone = refl;
       input = d.wanted (input-halted old was.halted);
@@ -157,37 +221,48 @@ ended-none text old new d was =
     let e : new ≡ old =
     d
     ∙ ap (λ b. cond b (after_unfinished (after_last_line old)) old)
-    (input-halted old was.halted) in
+    (end-halted old was.halted was.never) in
     record {
       idle = subst IsIdle (sym e) was;
       used = refl;
       gone = refl;
-      input = ap (λ b. cond b (end_in (form_of old.messages)) []) (input-halted old was.halted);
+      input =
+          ap (λ b. cond b (end_in (form_of old.messages)) [])
+          (end-halted old was.halted was.never);
       mail = refl;
     }
 
 -- the station is halted, and there is no line
 halted-idle : (old new : SessionView) → new.has_line ≡ false
-    → new.link ≡ with_state (after_halt old.link.station.core.station) old.link → IsIdle old
-    → IsIdle new
-halted-idle old new shut link was = record {
+    → new.link ≡ with_state (after_halt old.link.station.core.station) old.link
+    → new.course.has_run ≡ old.course.has_run → IsIdle old → IsIdle new
+halted-idle old new shut link ran was = record {
   shut = shut;
   halted = ap (λ (d : LinkView). d.station.core.station.state) link;
   inbox = ap (λ (d : LinkView). d.station.core.station.inbox) link ∙ was.inbox;
   waiting = ap (λ (d : LinkView). d.outbox.waiting) link ∙ was.waiting;
+  never = ran ∙ was.never;
 }
 
 received-none : (used text : List ℕ) (old new : SessionView) → HasReceived text used old new
     → IsIdle old → AddsNone (Received used) text old new
 received-none used text old new d was =
     let to = record old { link = new.link; course = new.course; output = new.output } in
+    let notices = notices_of_piece text used old.link.station.core in
+    let looked =
+    after_looked old.options.timer_ms old.link.station.core.counters.nak_received new.link
+    old.course in
     record {
       idle =
           same-station old new (same-at (λ x. x.has_line) new to d.stays)
           (ap (λ (k : CoreView). k.station) d.core
           ∙ items-halted (items_added old.link.station.core.limits.longest text used)
           old.link.station.core was.halted)
-          (ap (λ (k : LinkView). k.outbox.waiting) d.link) was;
+          (ap (λ (k : LinkView). k.outbox.waiting) d.link)
+          (ap (λ (c : Course). c.has_run)
+          (d.course
+          ∙ ap (λ b. cond b (after_notices notices looked) old.course) (unwanted old was.shut)))
+          was;
       used = d.wanted (unwanted old was.shut);
       gone = refl;
       input = refl;
@@ -210,7 +285,9 @@ call-none Connected none text old new d was = cc
 call-none (Typed used) none text old new d was = typed-none used text old new d was
 call-none InputEnded none text old new d was = ended-none text old new d was
 call-none (LineEnded r) none text old new d was = record {
-  idle = halted-idle old new (ap (λ (x : SessionView). x.has_line) d.stays) d.link was;
+  idle =
+      halted-idle old new (ap (λ (x : SessionView). x.has_line) d.stays) d.link
+      (ap (λ (x : SessionView). x.course.has_run) d.stays) was;
   used = refl;
   gone = refl;
   input = refl;
@@ -224,7 +301,7 @@ call-none (Filled n) none text old new d was = record {
       (ap station_of d.0 ∙ frames-halted n old.link was.halted)
       (ap (λ (x : SessionView). x.link.outbox.waiting) d.0
       ∙ frames-waiting n old.link was.halted was.waiting
-      ∙ sym was.waiting) was;
+      ∙ sym was.waiting) (ap (λ (x : SessionView). x.course.has_run) d.0) was;
   used = refl;
   gone = refl;
   input = refl;
@@ -238,7 +315,7 @@ call-none (LineTook n) none text old new d was = record {
       (ap (λ (x : SessionView). x.link.outbox.waiting) d
       ∙ ap (drop n) was.waiting
       ∙ drop-nil n
-      ∙ sym was.waiting) was;
+      ∙ sym was.waiting) (ap (λ (x : SessionView). x.course.has_run) d) was;
   used = refl;
   gone = ap (take n) was.waiting ∙ take-none n;
   input = refl;
@@ -251,7 +328,8 @@ call-none (TimedOut now) none text old new d was = record {
       ∙ (wake-halted now old.link was.halted).0)
       (same-at (λ x. (station_of x).inbox) new (after_timeout now old) d
       ∙ wake-inbox now old.link was.halted)
-      (same-at (λ x. x.link.outbox.waiting) new (after_timeout now old) d) was;
+      (same-at (λ x. x.link.outbox.waiting) new (after_timeout now old) d)
+      (ap (λ (x : SessionView). x.course.has_run) d ∙ timed-run now old) was;
   used = refl;
   gone = refl;
   input = refl;
@@ -261,7 +339,7 @@ call-none TimePassed none text old new d was = record {
   idle =
       same-link old new
       (same-at (λ x. x.has_line) new (record old { course = new.course }) d.stays)
-      (ap (λ (x : SessionView). x.link) d.stays) was;
+      (ap (λ (x : SessionView). x.link) d.stays) (passed-run old new.course d.now d.course) was;
   used = refl;
   gone = refl;
   input = refl;
@@ -272,7 +350,8 @@ call-none (Delivered false) none text old new d was = record {
   idle =
       same-link old new
       (same-at (λ x. x.has_line) new (record old { output = new.output }) d.stays)
-      (ap (λ (x : SessionView). x.link) d.stays) was;
+      (ap (λ (x : SessionView). x.link) d.stays)
+      (ap (λ (x : SessionView). x.course.has_run) d.stays) was;
   used = refl;
   gone = refl;
   input = refl;
@@ -282,14 +361,16 @@ call-none (OutputTook n) none text old new d was = record {
   idle =
       same-link old new
       (same-at (λ x. x.has_line) new (record old { output = after_taken n old.output }) d)
-      (ap (λ (x : SessionView). x.link) d) was;
+      (ap (λ (x : SessionView). x.link) d) (ap (λ (x : SessionView). x.course.has_run) d) was;
   used = refl;
   gone = refl;
   input = refl;
   mail = refl;
 }
 call-none (Closed left over r) none text old new d was = record {
-  idle = halted-idle old new (ap (λ (x : SessionView). x.has_line) d.stays) d.link was;
+  idle =
+      halted-idle old new (ap (λ (x : SessionView). x.has_line) d.stays) d.link
+      (ap (λ (c : Course). c.has_run) d.course) was;
   used = refl;
   gone = refl;
   input = refl;

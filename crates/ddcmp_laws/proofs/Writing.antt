@@ -15,7 +15,7 @@ use Rattle.ddcmp_session.specs.declared.options.LineKind.{LineKind}
 use Rattle.ddcmp_session.specs.declared.options.Options.{Options}
 use Rattle.ddcmp_session.specs.Messages.{messages_begun, after_input, entries_of_input, after_last}
 use Rattle.ddcmp_session.specs.Messages.{entry_of_last, is_message_unfinished}
-use Rattle.ddcmp_session.specs.Session.{SessionView, form_of, wants_input, after_entries}
+use Rattle.ddcmp_session.specs.Session.{SessionView, form_of, takes_end, after_entries}
 use Rattle.ddcmp_session.specs.Session.{after_last_line, after_unfinished, after_input_end}
 use Rattle.ddcmp_session.specs.Session.{lost_by_end}
 use Rattle.ddcmp_session.specs.Text.{reported_lost, mail_text, notices_text}
@@ -62,7 +62,7 @@ last_form (Digits v) = refl
 last_form (Binary v) = refl
 
 pub ended_keeps : (s : SessionView) → Keeps s (after_input_end s)
-ended_keeps s = by (wants_input s)
+ended_keeps s = by (takes_end s)
   where
     last : SessionView
     last = record s { messages = after_last s.messages; is_read = true }

@@ -9,7 +9,7 @@ use Rattle.ddcmp_session.specs.declared.messages.Form.{Form}
 use Rattle.ddcmp_session.specs.declared.messages.Form.TheVariants.{Digits, Binary}
 use Rattle.ddcmp_session.specs.Messages.{message_in, after_input, entries_of_input, after_last}
 use Rattle.ddcmp_session.specs.Messages.{entry_of_last}
-use Rattle.ddcmp_session.specs.Session.{SessionView, wants_input}
+use Rattle.ddcmp_session.specs.Session.{SessionView, takes_end}
 use Rattle.ddcmp_session.specs.Text.{mail_text, notice_text, lost_text}
 use Rattle.ddcmp_laws.specs.Links.{LinkCall, BeginsAnew, Halts, Wakes, Offers, FillsOne}
 use Rattle.ddcmp_laws.specs.Links.{IsSent, Feeds, Takes, LinkStep, LinkHistory}
@@ -76,7 +76,7 @@ abbrev pub link_steps_of : SessionCall → SessionView → LinkView → List Lin
 link_steps_of (Typed used) s new =
     offers_of (entries_of_input used s.messages) (message_in (after_input used s.messages)) new
 link_steps_of InputEnded s new =
-    if wants_input s
+    if takes_end s
     then offers_of (option_to_list (entry_of_last s.messages)) (message_in (after_last s.messages))
     new
     else []

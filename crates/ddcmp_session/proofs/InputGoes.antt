@@ -13,7 +13,7 @@ use Rattle.ddcmp_station.specs.Linking.{total_plus}
 use Rattle.ddcmp_session.specs.declared.messages.Messages.{Messages}
 use Rattle.ddcmp_session.specs.declared.messages.Messages.TheVariants.{Digits, Binary}
 use Rattle.ddcmp_session.specs.Messages.{message_in, after_input, entries_of_input, after_last}
-use Rattle.ddcmp_session.specs.Messages.{entry_of_last, is_message_unfinished}
+use Rattle.ddcmp_session.specs.Messages.{entry_of_last, has_last_line, is_message_unfinished}
 use Rattle.ddcmp_session.specs.Session.{after_entry, after_entries, after_typed, after_unfinished}
 use Rattle.ddcmp_session.specs.Session.{after_offered_in, takes_in}
 use Rattle.ddcmp_session.proofs.InputLaws.{form-stays}
@@ -21,7 +21,8 @@ use Rattle.std.proofs.Common.{cond}
 use Rattle.ddcmp_frame.specs.Reader.{StandsFor}
 use Rattle.ddcmp_io.specs.declared.device.Got.TheVariants as got
 use Rattle.ddcmp_station.specs.Linking.{LinkView}
-use Rattle.ddcmp_session.specs.Session.{SessionView, form_of, wants_input, after_input_end}
+use Rattle.ddcmp_session.specs.Session.{SessionView, form_of, takes_end, wants_input}
+use Rattle.ddcmp_session.specs.Session.{after_input_end}
 use Rattle.ddcmp_session.specs.Calls.{Typed, InputEnded}
 use Rattle.ddcmp_session.specs.Calls.{HasTyped}
 use Rattle.ddcmp_session.specs.Calls.{SessionHistory, end_in}
@@ -114,9 +115,9 @@ typed-goes {held} {known} old new n does form reads line = λ h t is was a.
           }),
     )
 
--- a session that wants input was told of its end
+-- a session that accepts the end of the input was told of it
 pub ended-goes : {held : BuffersView} {known : Option Traffic} (old new : SessionView)
-    → new ≡ after_input_end old → wants_input old ≡ true → old.is_read ≡ false
+    → new ≡ after_input_end old → takes_end old ≡ true → old.is_read ≡ false
     → held.input ≡ [] → held.is_over ≡ true
     → form_of new.messages ≡ form_of old.messages → new.is_read ≡ true
     → new.link.station.line ≡ old.link.station.line
@@ -130,7 +131,7 @@ ended-goes {held} {known} old new does wants unread empty over form reads line =
         read =
             ap (λ xs. t.read ++ xs)
             (ap (λ b. cond (b || h.is_told) (end_in (form_of new.messages)) [])
-            (same-at wants_input h.session old is ∙ wants)
+            (same-at takes_end h.session old is ∙ wants)
             ∙ ap end_in form)
             ∙ ap (λ xs. xs ++ end_in (form_of old.messages))
             (nothing-more (none-ended h (untold h is a)) ∙ a.read
@@ -277,7 +278,7 @@ unfinished-read s = by (is_message_unfinished s.messages)
     by false = refl
 
 pub ends : {held : BuffersView} {known : Option Traffic} (old new : SessionView)
-    → new ≡ after_input_end old → wants_input old ≡ true
+    → new ≡ after_input_end old → takes_end old ≡ true
     → held.input ≡ [] → held.is_over ≡ true
     → GoesOn held old known held new known
 ends {held} {known} old new does wants empty over =
@@ -293,9 +294,24 @@ ends {held} {known} old new does wants empty over =
     (same-at (λ x. x.link.station.line) new to done
     ∙ unfinished-line (after_entries es s) ∙ entries-line es s)
   where
-    unread : (b : Bool) → not b && takes_in old.options.maintenance old.link ≡ true → b ≡ false
+    unread : (b : Bool)
+        → not b
+        && (takes_in old.options.maintenance old.link
+        || (old.course.has_run && not (has_last_line old.messages)))
+        ≡ true
+        → b ≡ false
     unread true e = cc
     unread false e = refl
+
+-- Where input is wanted its end is, too.
+pub takes-wanted : (s : SessionView) → wants_input s ≡ true → takes_end s ≡ true
+takes-wanted s = by s.is_read (takes_in s.options.maintenance s.link)
+  where
+    by : (is_read takes : Bool) → not is_read && takes ≡ true
+        → not is_read && (takes || (s.course.has_run && not (has_last_line s.messages))) ≡ true
+    by true takes e = e
+    by false true e = refl
+    by false false e = cc
 
 -- the same of bytes that are those held
 pub types-held : {held : BuffersView} {known : Option Traffic} (old new : SessionView) (n : ℕ)

@@ -2,7 +2,7 @@
 use Rattle.std.proofs.Common.{◌≡◌, ◌∙◌, ap, arith, sym, subst, ℕ, Bool, true, false, cond}
 use Rattle.std.proofs.Common.{nat_le, List, [], ◌∷◌, ◌++◌, append_assoc, Option, Some, Result}
 use Rattle.std.proofs.Common.{Ok, Err, ◌⊎◌, inl, inr, refl, None}
-use Rattle.std.specs.Prelude.{◌≢◌, ◌&&◌, ◌||◌, not}
+use Rattle.std.specs.Prelude.{◌&&◌, ◌||◌, not}
 use Rattle.std.proofs.lemmas.Bool.{le-leb}
 use Rattle.ddcmp_io.specs.declared.device.Got.{Got}
 use Rattle.ddcmp_io.specs.declared.device.Got.TheVariants as got
@@ -103,14 +103,7 @@ keeps-read (got.Bytes n) space becomes = λ t is.
 keeps-read got.Idle space becomes = λ t is. (t, becomes t is, λ f has. has)
 keeps-read got.Failed space becomes = keeps-fault Input becomes
 
--- ---- a time, of a run that went on before or reported more
-
-pub time-later : {h0 h1 : BuffersView} {s0 s1 : SessionView} {k0 k1 k2 : Option Traffic}
-    (s : SessionView)
-    → GoesOver h0 s0 k0 h1 s1 k1 → IsTimeOver h1 s1 k1 s k2 → IsTimeOver h0 s0 k0 s k2
-time-later s over (inl ends) = inl ends
-time-later s over (inr (inl waits)) = inr (inl waits)
-time-later s over (inr (inr failed)) = inr (inr (reports-later over failed))
+-- ---- why a line was left, of a run that went on before or reported more
 
 some-is : {t t' : Traffic} → ◌≡◌ {A = Option Traffic} (Some t) (Some t') → t ≡ t'
 some-is e = cc
@@ -122,14 +115,6 @@ reports-kept {h0} {h1} {s0} {s1} {k0} {k1} {k2} {f} over keeps reports = λ c t 
     let a = over c t is was agrees in
     let b = keeps a.0 a.1 in
     subst (HasReported f) (some-is (sym b.1 ∙ at)) (b.2 f (reports c t a.0 is was agrees a.1))
-
-pub time-kept : {h0 h1 : BuffersView} {s0 s1 : SessionView} {k0 k1 k2 : Option Traffic}
-    (s : SessionView)
-    → GoesOver h0 s0 k0 h1 s1 k1 → KeepsFaults k1 k2 → IsTimeOver h0 s0 k0 s k1
-    → IsTimeOver h0 s0 k0 s k2
-time-kept s over keeps (inl ends) = inl ends
-time-kept s over keeps (inr (inl waits)) = inr (inl waits)
-time-kept s over keeps (inr (inr failed)) = inr (inr (reports-kept over keeps failed))
 
 pub line-later : {h0 h1 : BuffersView} {s0 s1 : SessionView} {k0 k1 k2 : Option Traffic}
     (s : SessionView) → GoesOver h0 s0 k0 h1 s1 k1 → LeavesLine h1 s1 k1 s k2
@@ -147,11 +132,6 @@ left-kept s over keeps (inr (shut, inr (inl given_up))) = inr (shut, inr (inl gi
 left-kept s over keeps (inr (shut, inr (inr down))) =
     inr (shut, inr (inr (down.0, reports-kept over keeps down.1)))
 
-pub of-leave : {h : BuffersView} {s0 : SessionView} {k k' : Option Traffic} (s : SessionView)
-    → (end s ≡ Some end_of.Time) ⊎ (s.output.waiting ≢ []) → IsTimeOver h s0 k s k'
-of-leave s (inl ends) = inl ends
-of-leave s (inr waits) = inr (inl waits)
-
 -- ---- the run as a whole
 
 module _ {R : Type 0} {ran : Result (Unit {0}) (the_data R)} {h0 h1 : BuffersView}
@@ -159,16 +139,16 @@ module _ {R : Type 0} {ran : Result (Unit {0}) (the_data R)} {h0 h1 : BuffersVie
     (keeps : KeepsFaults k1 k2) (ended : ran ≡ Ok tt → end s ≡ Some end_of.Delivered)
     (left : ran ≡ Err Left → IsLeft h0 s0 k0 s k1)
     (shut : IfNotOpened ran (s.options.again ≡ false))
-    (time : ran ≡ Err (Device fault.Time) → IsTimeOver h0 s0 k0 s k1) where
+    (time : ran ≡ Err (Device fault.Time) → IsTimeOver s) where
   may-stop : MayBeWell ran → MayStop h0 s0 k0 s k2
   may-stop (inl ok) = inl (ended ok)
   may-stop (inr (inl is)) = inr (inl (left-kept s over keeps (left is)))
-  may-stop (inr (inr is)) = inr (inr (time-kept s over keeps (time is)))
+  may-stop (inr (inr is)) = inr (inr (time is))
 
   unread-kept : (ran ≡ Err Left) ⊎ (ran ≡ Err (Device fault.Time))
-      → IsLeft h0 s0 k0 s k2 ⊎ IsTimeOver h0 s0 k0 s k2
+      → IsLeft h0 s0 k0 s k2 ⊎ IsTimeOver s
   unread-kept (inl is) = inl (left-kept s over keeps (left is))
-  unread-kept (inr is) = inr (time-kept s over keeps (time is))
+  unread-kept (inr is) = inr (time is)
 
   pub stops : {result : Result (Unit {0}) (the_data R)} → Judges ran result
       → Stops result h0 s0 k0 s k2
@@ -178,7 +158,7 @@ module _ {R : Type 0} {ran : Result (Unit {0}) (the_data R)} {h0 h1 : BuffersVie
     left = λ e. left-kept s over keeps (left (judges.left e));
     unread = λ e. unread-kept (judges.unread e);
     shut = λ refusal e. shut refusal (judges.shut refusal e ∙ e);
-    time = λ e. time-kept s over keeps (time (judges.time e));
+    time = λ e. time (judges.time e);
   }
 
 not-left : {R : Type 0} {f : Fault}

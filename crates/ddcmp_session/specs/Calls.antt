@@ -13,7 +13,8 @@ use Rattle.ddcmp_session.specs.declared.messages.Form.TheVariants.{Digits, Binar
 use Rattle.ddcmp_session.specs.declared.messages.Messages.{Messages}
 use Rattle.ddcmp_session.specs.Messages.{entries_of_input}
 use Rattle.ddcmp_io.specs.Queue.{after_taken}
-use Rattle.ddcmp_session.specs.Session.{SessionView, session_made, form_of, wants_input, wants_line}
+use Rattle.ddcmp_session.specs.Session.{SessionView, session_made, form_of, takes_end, wants_input}
+use Rattle.ddcmp_session.specs.Session.{wants_line}
 use Rattle.ddcmp_session.specs.Session.{after_typed, after_input_end, lost_by_end, IsFilled}
 use Rattle.ddcmp_session.specs.Course.{lost_more}
 use Rattle.ddcmp_session.specs.Session.{after_connected, after_timeout, course_received}
@@ -186,11 +187,11 @@ end_in Binary = []
 
 abbrev pub input_in : SessionCall → SessionView → List ℕ
 input_in (Typed used) s = used
-input_in InputEnded s = if wants_input s then end_in (form_of s.messages) else []
+input_in InputEnded s = if takes_end s then end_in (form_of s.messages) else []
 input_in _ s = []
 
 abbrev pub is_told_in : SessionCall → SessionView → Bool
-is_told_in InputEnded s = wants_input s
+is_told_in InputEnded s = takes_end s
 is_told_in _ s = false
 
 abbrev pub written_in : SessionCall → SessionView → List ℕ

@@ -1,5 +1,5 @@
 -- The messages of an input, in either form.
-use Rattle.std.specs.Prelude.{ℕ, ◌+◌, Bool, false, List, [], ◌∷◌, Option, Some, None}
+use Rattle.std.specs.Prelude.{ℕ, ◌+◌, Bool, false, List, [], ◌∷◌, Option, Some, None, is_some}
 use Rattle.ddcmp_input.specs.declared.entry.Entry.{Entry}
 use Rattle.ddcmp_input.specs.declared.entry.Entry.TheVariants.{Message}
 use Rattle.ddcmp_input.specs.HexLines as lines
@@ -36,6 +36,10 @@ after_last (Binary v) = Binary v
 abbrev pub entry_of_last : Messages → Option Entry
 entry_of_last (Digits v) = lines.entry_of_byte 10 v
 entry_of_last (Binary v) = None
+
+-- The input, if it ends here, has a last line without LF that isn't empty.
+abbrev pub has_last_line : Messages → Bool
+has_last_line m = is_some (entry_of_last m)
 
 -- how many of them are messages
 abbrev pub count_message : Entry → ℕ

@@ -30,7 +30,7 @@ use Rattle.ddcmp_session.specs.Course.{try_counted, after_looked, after_notices}
 use Rattle.ddcmp_session.specs.Messages.{messages_begun, message_in, after_input}
 use Rattle.ddcmp_session.specs.Messages.{entries_of_input, after_last, entry_of_last}
 use Rattle.ddcmp_session.specs.Messages.{is_message_unfinished, is_question, count_of}
-use Rattle.ddcmp_session.specs.Messages.{messages_among}
+use Rattle.ddcmp_session.specs.Messages.{has_last_line, messages_among}
 use Rattle.ddcmp_session.specs.declared.session.TheConstants.{OUTPUT_ROOM}
 use Rattle.ddcmp_io.specs.Queue.{QueueView, no_bytes}
 
@@ -104,6 +104,13 @@ lost_in maintenance d =
 abbrev pub wants_input : SessionView → Bool
 wants_input s = not s.is_read && takes_in s.options.maintenance s.link
 
+-- Its end is accepted if a message is, and once the station has run if it completes none.
+abbrev pub takes_end : SessionView → Bool
+takes_end s =
+    not s.is_read
+    && (takes_in s.options.maintenance s.link
+    || (s.course.has_run && not (has_last_line s.messages)))
+
 -- A message is sent, and a line `?` asks for a report; any other part is refused.
 abbrev pub after_entry : Entry → SessionView → SessionView
 after_entry Message s = record s {
@@ -132,7 +139,7 @@ after_last_line s = after_entries (option_to_list (entry_of_last s.messages))
     (record s { messages = after_last s.messages; is_read = true })
 
 abbrev pub after_input_end : SessionView → SessionView
-after_input_end s = if wants_input s then after_unfinished (after_last_line s) else s
+after_input_end s = if takes_end s then after_unfinished (after_last_line s) else s
 
 -- ---- the line
 

@@ -30,19 +30,16 @@ abbrev pub IsLeft : BuffersView → SessionView → Option Traffic → SessionVi
 IsLeft held old before s after =
     HasNotStarted s ⊎ ((reopens s ≡ false) × LeavesLine held old before s after)
 
--- The time of the run is over, or an output with queued bytes timed out, or a wait failed.
-abbrev pub IsTimeOver : BuffersView → SessionView → Option Traffic → SessionView → Option Traffic
-    → Type 0
-IsTimeOver held old before s after =
-    (end s ≡ Some end_of.Time)
-    ⊎ ((s.output.waiting ≢ []) ⊎ ReportsOver held old before after fault.Input)
+-- The time of the run is over, or an output with queued bytes timed out.
+abbrev pub IsTimeOver : SessionView → Type 0
+IsTimeOver s = (end s ≡ Some end_of.Time) ⊎ (s.output.waiting ≢ [])
 
 -- all is delivered, or the line was left, or a time limit was reached
 abbrev pub MayStop : BuffersView → SessionView → Option Traffic → SessionView → Option Traffic
     → Type 0
 MayStop held old before s after =
     (end s ≡ Some end_of.Delivered)
-    ⊎ (IsLeft held old before s after ⊎ IsTimeOver held old before s after)
+    ⊎ (IsLeft held old before s after ⊎ IsTimeOver s)
 
 -- if a line couldn't be opened
 abbrev pub IfNotOpened : {A R : Type 0} → Result A (the_data R) → Type 0 → Type 0
@@ -56,9 +53,9 @@ pub record Stops {R : Type 0} (result : Result (Unit {0}) (the_data R)) (held : 
   pub lost : (count : ℕ) → result ≡ Err (Lost count) → MayStop held old before s after
   pub left : result ≡ Err Left → IsLeft held old before s after
   pub unread : result ≡ Err Unread
-      → IsLeft held old before s after ⊎ IsTimeOver held old before s after
+      → IsLeft held old before s after ⊎ IsTimeOver s
   pub shut : IfNotOpened result (s.options.again ≡ false)
-  pub time : result ≡ Err (Device fault.Time) → IsTimeOver held old before s after
+  pub time : result ≡ Err (Device fault.Time) → IsTimeOver s
 
 -- The same for a run to its end; but it may also time out if the output took nothing after its
 -- lines had ended for such a reason.
@@ -69,7 +66,7 @@ pub record StopsToEnd {R : Type 0} (result : Result (Unit {0}) (the_data R)) (he
   pub lost : (count : ℕ) → result ≡ Err (Lost count) → MayStop held old before s after
   pub left : result ≡ Err Left → IsLeft held old before s after
   pub unread : result ≡ Err Unread
-      → IsLeft held old before s after ⊎ IsTimeOver held old before s after
+      → IsLeft held old before s after ⊎ IsTimeOver s
   pub shut : IfNotOpened result (s.options.again ≡ false)
   pub time : result ≡ Err (Device fault.Time) → MayStop held old before s after
 

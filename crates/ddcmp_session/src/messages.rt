@@ -3,7 +3,8 @@ ghost use Rattle.std.specs.Prelude.{◌≡◌, ◌+◌, ◌≤◌, ℕ, [], IfOk
 ghost use Rattle.std.specs.Prelude.{option_to_list};
 ghost use Rattle.ddcmp_session.specs.Messages.{messages_begun, message_in, after_input};
 ghost use Rattle.ddcmp_session.specs.Messages.{entries_of_input, is_message_unfinished};
-ghost use Rattle.ddcmp_session.specs.Messages.{after_last, entry_of_last, is_question};
+ghost use Rattle.ddcmp_session.specs.Messages.{after_last, entry_of_last, has_last_line};
+ghost use Rattle.ddcmp_session.specs.Messages.{is_question};
 ghost use Rattle.ddcmp_session.specs.Reported.{line_number};
 
 use ddcmp_input::{Entry, HexLines, Lengths, Pushed};
@@ -79,6 +80,16 @@ impl Messages {
         match self {
             Messages::Digits(lines) => lines.push(b'\n'),
             Messages::Binary(_lengths) => None,
+        }
+    }
+
+    /// Returns whether the input, if it ends here, has a last line without LF that isn't empty.
+    pub(crate) fn has_last_line(&self) -> bool
+        ensures { result ≡ has_last_line self.now }
+    {
+        match self {
+            Messages::Digits(lines) => lines.has_last_line(),
+            Messages::Binary(_lengths) => false,
         }
     }
 

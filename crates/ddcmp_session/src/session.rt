@@ -43,9 +43,9 @@ pub enum End {
 /// the current time in milliseconds since it was made, and write what it returns.
 ///
 /// Once a line is open call `connected`. Then, in any order: `typed` with bytes of the input while
-/// `wants_input`, and `input_ended` at its end; `received` with bytes of the line while
-/// `wants_line`; `fill`, then write what `to_line` returns and call `line_took`; the same with
-/// `to_output` and `to_errors`; `deliver` after each of these, until it returns false. Call
+/// `wants_input`, and `input_ended` at its end if `takes_end`; `received` with bytes of the line
+/// while `wants_line`; `fill`, then write what `to_line` returns and call `line_took`; the same
+/// with `to_output` and `to_errors`; `deliver` after each of these, until it returns false. Call
 /// `handle_timeout` before and after each wait, and wait until `wakes_at` at most. If `end` returns
 /// a reason, or the line ends, call `line_ended`, which reports what is lost; without that call the
 /// loss is only counted, once the session starts on another line. `close` and `finish` end the run.

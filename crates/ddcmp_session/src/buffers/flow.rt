@@ -115,7 +115,7 @@ impl Buffers {
     }
 
     /// Reads the input, if it has bytes or has ended.
-    fn read_now<D: Devices>(&mut self, devices: &mut D) -> Result<bool, Fault>
+    pub(super) fn read_now<D: Devices>(&mut self, devices: &mut D) -> Result<bool, Fault>
         requires empty { self.old.input ≡ [] }
         requires goes_on { self.old.is_over ≡ false }
         ensures on { (session : SessionView) → GoesOn self.old session (D.traffic devices.old)

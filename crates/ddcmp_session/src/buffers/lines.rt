@@ -29,10 +29,12 @@ pub enum Stop<R> {
 
 impl Buffers {
     ghost use Rattle.std.specs.Prelude.{◌≡◌, ◌≢◌, ◌⊎◌, ◌<◌, Err, Ok, Some, ℕ, false, is_ok, true};
-    ghost use Rattle.ddcmp_session.specs.Devices.{GoesOn, KeepsFaults, Reports};
-    ghost use Rattle.ddcmp_session.specs.Session.{SessionView};
+    ghost use Rattle.std.specs.Prelude.{[]};
+    ghost use Rattle.ddcmp_session.specs.Devices.{Becomes, GoesOn, KeepsFaults, Reports};
+    ghost use Rattle.ddcmp_session.specs.Devices.{after_wait};
+    ghost use Rattle.ddcmp_session.specs.Session.{SessionView, takes_end};
     ghost use Rattle.ddcmp_session.specs.Lines.{Closes, Ends, GoesOver, IsReady, MayEndWell};
-    ghost use Rattle.ddcmp_session.specs.Lines.{ReportsOver};
+    ghost use Rattle.ddcmp_session.specs.Lines.{ReportsOver, StaysOver};
     ghost use Rattle.ddcmp_session.specs.Stopping.{HasNotStarted, IfNotOpened, IsLeft};
     ghost use Rattle.ddcmp_session.specs.Stopping.{IsTimeOver, Judges, LeavesLine, Stops};
     ghost use Rattle.ddcmp_session.specs.Timing.{end};
@@ -84,8 +86,7 @@ impl Buffers {
         ensures left { result ≡ Err Stop.Left → IsLeft self.old session.old.state
             (D.traffic devices.old) session.new.state (D.traffic devices.new) }
         ensures shut { IfNotOpened result (session.new.state.options.again ≡ false) }
-        ensures time { result ≡ Err (Stop.Device Fault.Time) → IsTimeOver self.old session.old.state
-            (D.traffic devices.old) session.new.state (D.traffic devices.new) }
+        ensures time { result ≡ Err (Stop.Device Fault.Time) → IsTimeOver session.new.state }
         ensures unjudged { (count : ℕ) → result ≢ Err (Stop.Lost count) }
         ensures read { result ≢ Err Stop.Unread }
     {
@@ -123,8 +124,7 @@ impl Buffers {
             (D.traffic devices.old) session.new.state (D.traffic devices.new) }
         ensures left { result ≡ Err Stop.Left → HasNotStarted session.new.state }
         ensures shut { IfNotOpened result (session.new.state.options.again ≡ false) }
-        ensures time { result ≡ Err (Stop.Device Fault.Time) → IsTimeOver self.old session.old.state
-            (D.traffic devices.old) session.new.state (D.traffic devices.new) }
+        ensures time { result ≡ Err (Stop.Device Fault.Time) → IsTimeOver session.new.state }
         ensures unjudged { (count : ℕ) → result ≢ Err (Stop.Lost count) }
         ensures read { result ≢ Err Stop.Unread }
     {
@@ -155,13 +155,13 @@ impl Buffers {
     ) -> Result<bool, Stop<D::Refusal>>
         ensures over { GoesOver self.old session.old.state (D.traffic devices.old)
             self.new session.new.state (D.traffic devices.new) }
+        ensures reports { (fault : FaultValue) → fault ≢ Fault.Time
+            → result ≡ Err (Stop.Device fault) → ReportsOver self.old session.old.state
+            (D.traffic devices.old) (D.traffic devices.new) fault }
         ensures ended { result ≡ Ok false → end session.new.state ≡ Some End.Delivered }
-        ensures device { (fault : FaultValue) → result ≡ Err (Stop.Device fault)
-            → fault ≡ Fault.Time }
         ensures left { result ≡ Err Stop.Left → HasNotStarted session.new.state }
         ensures shut { IfNotOpened result (session.new.state.options.again ≡ false) }
-        ensures time { result ≡ Err (Stop.Device Fault.Time) → IsTimeOver self.old session.old.state
-            (D.traffic devices.old) session.new.state (D.traffic devices.new) }
+        ensures time { result ≡ Err (Stop.Device Fault.Time) → IsTimeOver session.new.state }
         ensures unjudged { (count : ℕ) → result ≢ Err (Stop.Lost count) }
         ensures read { result ≢ Err Stop.Unread }
     {
@@ -178,9 +178,9 @@ impl Buffers {
                 Ok(false) => {}
                 Err(stop) => return Err(stop),
             }
-            write_errors(session, devices);
-            if !wait_between_lines(session, devices, now) {
-                return Err(Stop::Device(Fault::Time));
+            match self.pass_between_lines(session, devices, now) {
+                Ok(()) => {}
+                Err(fault) => return Err(Stop::Device(fault)),
             }
         }
         pass_run(session);
@@ -217,6 +217,95 @@ impl Buffers {
                 Ok(false)
             }
         }
+    }
+
+    /// Looks for the end of the input, writes what standard error has room for, and waits, all
+    /// without a line.
+    fn pass_between_lines<D: Devices>(
+        &mut self,
+        session: &mut Session,
+        devices: &mut D,
+        now: u64,
+    ) -> Result<(), Fault>
+        ensures over { StaysOver self.old session.old.state (D.traffic devices.old)
+            self.new session.new.state (D.traffic devices.new) }
+        ensures ready { IsReady session.old.state → IsReady session.new.state }
+        ensures reports { (fault : FaultValue) → result ≡ Err fault
+            → ReportsOver self.old session.old.state (D.traffic devices.old)
+            (D.traffic devices.new) fault }
+        ensures untimed { result ≢ Err Fault.Time }
+    {
+        match self.look_for_end(session, devices) {
+            Ok(()) => {}
+            Err(fault) => return Err(fault),
+        }
+        write_errors(session, devices);
+        if self.wait_between_lines(session, devices, now) {
+            Ok(())
+        } else {
+            Err(Fault::Input)
+        }
+    }
+
+    /// Reads the input once nothing of it is left, and passes its end to the session: what was sent
+    /// and isn't acknowledged may be all that there was.
+    fn look_for_end<D: Devices>(
+        &mut self,
+        session: &mut Session,
+        devices: &mut D,
+    ) -> Result<(), Fault>
+        ensures on { GoesOn self.old session.old.state (D.traffic devices.old)
+            self.new session.new.state (D.traffic devices.new) }
+        ensures ready { IsReady session.old.state → IsReady session.new.state }
+        ensures reports { (fault : FaultValue) → result ≡ Err fault
+            → Reports self.old session.old.state (D.traffic devices.old)
+            (D.traffic devices.new) fault }
+        ensures untimed { result ≢ Err Fault.Time }
+    {
+        if !self.awaits_end(session) {
+            return Ok(());
+        }
+        match self.read_now(devices) {
+            Ok(_moved) => {}
+            Err(fault) => return Err(fault),
+        }
+        if self.has_ended() {
+            session.input_ended();
+        }
+        Ok(())
+    }
+
+    /// Returns whether all of the input was read and used.
+    fn has_ended(&self) -> bool
+        ensures empty { result ≡ true → self.now.input ≡ [] }
+        ensures over { result ≡ true → self.now.is_over ≡ true }
+    {
+        self.input_is_over && self.input.is_empty()
+    }
+
+    /// Returns whether the input is to be read without a line, since its end may be all that is
+    /// left of it.
+    fn awaits_end(&self, session: &Session) -> bool
+        ensures empty { result ≡ true → self.now.input ≡ [] }
+        ensures goes_on { result ≡ true → self.now.is_over ≡ false }
+        ensures takes { result ≡ true → takes_end session.now.state ≡ true }
+    {
+        !self.input_is_over && self.input.is_empty() && session.takes_end()
+    }
+
+    /// Waits while there is no line; returns false if the wait failed.
+    fn wait_between_lines<D: Devices>(&self, session: &Session, devices: &mut D, now: u64) -> bool
+        ensures { Becomes (D.traffic devices.old) (D.traffic devices.new) (after_wait result) }
+    {
+        let wanted = Wanted {
+            input: self.awaits_end(session),
+            output: false,
+            errors: !session.to_errors().is_empty(),
+            from_line: false,
+            to_line: false,
+        };
+        let moment = session.wakes_without_line_at(now);
+        devices.wait(wanted, moment.saturating_sub(now))
     }
 
     /// Closes the session after its lines, and returns how the run ended.
@@ -314,22 +403,6 @@ fn verdict<R: Copy>(
         return if has_more { Err(Stop::Unread) } else { Ok(()) };
     }
     ran
-}
-
-/// Waits while there is no line; returns false if the wait failed.
-fn wait_between_lines<D: Devices>(session: &Session, devices: &mut D, now: u64) -> bool
-    ensures over { (held : BuffersView) → StaysOver held session.now.state (D.traffic devices.old)
-        held session.now.state (D.traffic devices.new) }
-    ensures failed { result ≡ false → (held : BuffersView) → ReportsOver held session.now.state
-        (D.traffic devices.old) (D.traffic devices.new) Fault.Input }
-{
-    let wanted = if session.to_errors().is_empty() {
-        Wanted::NOTHING
-    } else {
-        Wanted::ERRORS
-    };
-    let moment = session.wakes_without_line_at(now);
-    devices.wait(wanted, moment.saturating_sub(now))
 }
 
 /// Leaves a line that has ended, and sets the pause before the next one is opened, if there is one.

@@ -35,7 +35,7 @@ impl Session {
     ghost use Rattle.ddcmp_session.specs.Reported.{refused_at_last, refused_cut};
     ghost use Rattle.ddcmp_session.specs.Session.{wants_input, after_typed, after_input_end};
     ghost use Rattle.ddcmp_session.specs.Session.{after_entries, after_entry, after_unfinished};
-    ghost use Rattle.ddcmp_session.specs.Session.{form_of, takes_in};
+    ghost use Rattle.ddcmp_session.specs.Session.{form_of, takes_end, takes_in};
     ghost use Rattle.ddcmp_session.specs.Session.{lost_among, lost_at_end, lost_with_last};
 
     /// Returns whether bytes of the input are wanted, since the station accepts a message.
@@ -101,19 +101,28 @@ impl Session {
         pushed.used
     }
 
-    /// Handles the end of the input, if `wants_input`. A last line needs no LF; a message in binary
+    /// Returns whether the end of the input is accepted: if the station accepts a message, and once
+    /// it has run also if there is no last line that may be one.
+    pub fn takes_end(&self) -> bool
+        ensures { result ≡ takes_end self.now.state }
+    {
+        let completes_none = self.course.has_run && !self.messages.has_last_line();
+        !self.input_is_read && (self.takes() || completes_none)
+    }
+
+    /// Handles the end of the input, if `takes_end`. A last line needs no LF; a message in binary
     /// whose end is missing is reported.
     pub fn input_ended(&mut self)
         ensures state { self.new.state ≡ after_input_end self.old.state }
-        ensures none { wants_input self.old.state ≡ false → self.new ≡ self.old }
-        ensures errors { wants_input self.old.state ≡ true
+        ensures none { takes_end self.old.state ≡ false → self.new ≡ self.old }
+        ensures errors { takes_end self.old.state ≡ true
             → ReportsLast self.old self.new.log.errors }
-        ensures read { wants_input self.old.state ≡ true
+        ensures read { takes_end self.old.state ≡ true
             → self.new.log.read ≡ read_at_end self.old.state.messages self.old.log.read }
         ensures log { self.new.log
             ≡ record self.old.log { errors = self.new.log.errors; read = self.new.log.read } }
     {
-        if !self.wants_input() {
+        if !self.takes_end() {
             return;
         }
         self.input_is_read = true;

@@ -1,6 +1,6 @@
-use Rattle.std.proofs.Common.{◌∙◌, ap, inr, refl, Ok}
+use Rattle.std.proofs.Common.{◌∙◌, ap, refl, Ok}
 use Rattle.ddcmp_session.proofs.LinesGo.{none-over, over-then, passed-now, passes-then, ready-by}
-use Rattle.ddcmp_session.proofs.LinesGo.{reports-later}
+use Rattle.ddcmp_session.proofs.LinesGo.{reports-later, same-fault}
 use Rattle.ddcmp_session.proofs.buffers.Buffers.begin.Goals as goal
 
 pub loop-try-init : goal.loop-try-init
@@ -32,26 +32,31 @@ returns-in-Err-clause-over g c =
     c.loop-try.invariant.0 c.loop-try.invariant.1 c.now-now.ensures c.pass_time.ensures.state
     c.try_line.ensures.over
 
-pub returns-then-not-wait_between_lines-clause-over : goal.returns-then-not-wait_between_lines-clause-over
-returns-then-not-wait_between_lines-clause-over g c =
+pub returns-in-Err-pass_between_lines-clause-over : goal.returns-in-Err-pass_between_lines-clause-over
+returns-in-Err-pass_between_lines-clause-over g c =
     over-then
-    (over-then
     (passes-then c.now-now.result c.loop-try.session.state c.pass_time.new.self.state
     c.loop-try.invariant.0 c.loop-try.invariant.1 c.now-now.ensures c.pass_time.ensures.state
-    c.try_line.ensures.over)
-    (none-over c.write_errors.ensures.session c.write_errors.ensures.devices))
-    (c.wait_between_lines.ensures.over _)
+    c.try_line.ensures.over) c.pass_between_lines.ensures.over
+
+pub returns-in-Err-pass_between_lines-clause-reports :
+    goal.returns-in-Err-pass_between_lines-clause-reports
+returns-in-Err-pass_between_lines-clause-reports g c = λ fault untimed e.
+    reports-later c.loop-try.invariant.0
+    (reports-later (none-over refl c.now-now.ensures)
+    (reports-later
+    (passed-now c.now-now.result c.loop-try.session.state c.pass_time.new.self.state
+    c.pass_time.ensures.state)
+    (reports-later c.try_line.ensures.over
+    (c.in-Err-pass_between_lines.ensures.reports fault (same-fault e)))))
 
 pub loop-try-preserved : goal.loop-try-preserved
 loop-try-preserved g c = (
   over-then
-      (over-then
       (passes-then c.now-now.result c.loop-try.session.state c.pass_time.new.self.state
       c.loop-try.invariant.0 c.loop-try.invariant.1 c.now-now.ensures c.pass_time.ensures.state
-      c.try_line.ensures.over)
-      (none-over c.write_errors.ensures.session c.write_errors.ensures.devices))
-      (c.wait_between_lines.ensures.over _),
-  λ r. ready-by c.write_errors.ensures.session
+      c.try_line.ensures.over) c.pass_between_lines.ensures.over,
+  λ r. c.pass_between_lines.ensures.ready
       (c.try_line.ensures.ready
       (c.in-Ok-false.is ∙ ap (λ b. Ok b) c.in-Ok-false.field-0-test)
       (ready-by c.pass_time.ensures.state (c.loop-try.invariant.1 r))),
@@ -59,17 +64,3 @@ loop-try-preserved g c = (
 
 pub returns-clause-over : goal.returns-clause-over
 returns-clause-over g c = over-then c.loop-try.invariant.0 (c.pass_run.ensures.over _ _)
-
-pub returns-then-not-wait_between_lines-clause-time :
-    goal.returns-then-not-wait_between_lines-clause-time
-returns-then-not-wait_between_lines-clause-time g c = λ e.
-    inr
-    (inr
-    (reports-later c.loop-try.invariant.0
-    (reports-later (none-over refl c.now-now.ensures)
-    (reports-later
-    (passed-now c.now-now.result c.loop-try.session.state c.pass_time.new.self.state
-    c.pass_time.ensures.state)
-    (reports-later c.try_line.ensures.over
-    (reports-later (none-over c.write_errors.ensures.session c.write_errors.ensures.devices)
-    (c.if-not-wait_between_lines.ensures.failed refl _)))))))

@@ -3,7 +3,7 @@ use Rattle.ddcmp_session.specs.declared.devices.Fault.{Fault}
 use Rattle.ddcmp_session.specs.declared.devices.Fault.TheVariants.{Input}
 use Rattle.ddcmp_session.specs.Devices.{BuffersView, Reports}
 use Rattle.ddcmp_session.proofs.GoingLaws.{waited, reported, reports-then, goes-then}
-use Rattle.ddcmp_session.proofs.InputGoes.{ends, none-left}
+use Rattle.ddcmp_session.proofs.InputGoes.{ends, none-left, takes-wanted}
 use Rattle.ddcmp_session.proofs.buffers.Buffers.pass_input.Goals as goal
 
 pub returns-then-not-wants_input-clause-on : goal.returns-then-not-wants_input-clause-on
@@ -22,7 +22,7 @@ returns-then-self-clause-on g c =
     goes-then (c.pass_parts-moved.ensures.on _)
     (ends c.pass_parts-moved.new.session.state c.input_ended.new.self.state
     c.input_ended.ensures.state
-    (sym c.if-not-wants_input.ensures)
+    (takes-wanted c.pass_parts-moved.new.session.state (sym c.if-not-wants_input.ensures))
     (subst (λ (v : BuffersView). v.input ≡ []) c.self.view_is
     (none-left c.self.inside.input c.if-not-is_empty.ensures))
     (subst (λ (v : BuffersView). v.is_over ≡ true) c.self.view_is c.if-self.true))

@@ -1,7 +1,7 @@
 use Rattle.std.proofs.Common.{◌∙◌, ap, inl, inr, refl, sym, Ok}
 use Rattle.ddcmp_session.proofs.LinesGo.{none-over, over-next, over-then, reports-later}
 use Rattle.ddcmp_session.proofs.LinesGo.{same-err, same-fault}
-use Rattle.ddcmp_session.proofs.StopLaws.{line-later, of-leave, time-later}
+use Rattle.ddcmp_session.proofs.StopLaws.{line-later}
 use Rattle.ddcmp_session.proofs.buffers.Buffers.run_each.Goals as goal
 
 pub loop-line-init : goal.loop-line-init
@@ -49,13 +49,10 @@ returns-in-Err-clause-reports g c = λ fault untimed e.
     (c.in-Err.ensures.reports fault untimed (same-err e))
 
 pub returns-in-Err-clause-time : goal.returns-in-Err-clause-time
-returns-in-Err-clause-time g c = λ e.
-    time-later c.run_one.new.session.state c.loop-line.invariant.0
-    (c.in-Err.ensures.time (same-err e))
+returns-in-Err-clause-time g c = λ e. c.in-Err.ensures.time (same-err e)
 
 pub returns-in-Err-leave-clause-time : goal.returns-in-Err-leave-clause-time
-returns-in-Err-leave-clause-time g c = λ e.
-    of-leave c.leave.new.session.state (c.in-Err-leave.ensures.time (same-fault e))
+returns-in-Err-leave-clause-time g c = λ e. c.in-Err-leave.ensures.time (same-fault e)
 
 pub returns-in-Ok-false-2-clause-left : goal.returns-in-Ok-false-2-clause-left
 returns-in-Ok-false-2-clause-left g c = λ e.
