@@ -2,7 +2,7 @@
 use Rattle.std.proofs.Common.{◌≡◌, ◌∙◌, Bool, true, false, inl, inr, Ok, Err, subst, sym}
 use Rattle.std.specs.Prelude.{if◌then◌else◌}
 use Rattle.ddcmp_io.specs.Written.{Known}
-use Rattle.ddcmp_service.specs.declared.bridge.BridgeFault.TheVariants as bridging
+use Rattle.ddcmp_device.specs.declared.bridge.BridgeFault.TheVariants as bridging
 use Rattle.ddcmp_cli.specs.declared.fault.Fault.TheVariants.{Read, Write, Memory, Ended}
 use Rattle.ddcmp_cli.specs.declared.ending.Ending.{Ending}
 use Rattle.ddcmp_cli.specs.declared.ending.Ending.TheVariants.{Done, Fault as Faulted}

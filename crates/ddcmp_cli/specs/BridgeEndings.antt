@@ -3,9 +3,9 @@ use Rattle.std.specs.Prelude.{◌≡◌, ◌⊎◌, ⊤, Bool, if◌then◌else�
 use Rattle.std.specs.Io.KnownBytes.{Appends, Keeps}
 use Rattle.ddcmp_bridge.specs.Report.{bridge_report}
 use Rattle.ddcmp_io.specs.Written.{AppendsPart, Known}
-use Rattle.ddcmp_service.specs.declared.bridge.BridgeEnd.{BridgeEnd}
-use Rattle.ddcmp_service.specs.declared.bridge.BridgeFault.{BridgeFault}
-use Rattle.ddcmp_service.specs.declared.bridge.BridgeFault.TheVariants as bridging
+use Rattle.ddcmp_device.specs.declared.bridge.BridgeEnd.{BridgeEnd}
+use Rattle.ddcmp_device.specs.declared.bridge.BridgeFault.{BridgeFault}
+use Rattle.ddcmp_device.specs.declared.bridge.BridgeFault.TheVariants as bridging
 use Rattle.ddcmp_explain.specs.declared.notation.Notation.{Notation as Wording}
 use Rattle.ddcmp_explain.specs.declared.notation.Notation.TheVariants as words
 use Rattle.ddcmp_tap.specs.declared.notation.Notation.{Notation}

@@ -2,10 +2,10 @@
 use Rattle.std.specs.Prelude.{◌≡◌, ◌≢◌, ◌⊎◌, ◌==◌, ◌&&◌, ◌||◌, not, ℕ, Bool, true, false, List}
 use Rattle.std.specs.Prelude.{Option, Some, None, Result, Ok, Err}
 use Rattle.ddcmp_session.specs.declared.options.Options.{Options}
-use Rattle.ddcmp_service.specs.LineNames.{word_of}
+use Rattle.ddcmp_device.specs.LineNames.{word_of}
 use Rattle.ddcmp_service.specs.declared.fault.ServiceFault.{ServiceFault}
 use Rattle.ddcmp_service.specs.declared.fault.ServiceFault.TheVariants as service
-use Rattle.ddcmp_service.specs.declared.line_name.LineName.{LineName}
+use Rattle.ddcmp_device.specs.declared.line_name.LineName.{LineName}
 use Rattle.ddcmp_session.specs.declared.link.LinkOutcome.{LinkOutcome}
 use Rattle.ddcmp_session.specs.declared.link.LinkOutcome.TheVariants as served
 use Rattle.ddcmp_words.specs.declared.link_args.LinkArgs.{LinkArgs}

@@ -9,8 +9,8 @@ use Rattle.ddcmp_tap.specs.declared.tap_fault.TapFault.{TapFault}
 use Rattle.ddcmp_tap.specs.declared.tap_fault.TapFault.TheVariants as tapping
 use Rattle.ddcmp_tap.specs.declared.tap_fault.Stage.{Stage}
 use Rattle.ddcmp_tap.specs.declared.tap_fault.Stage.TheVariants as stage
-use Rattle.ddcmp_service.specs.declared.fault.Attempt.{Attempt}
-use Rattle.ddcmp_service.specs.declared.fault.Attempt.TheVariants as attempt
+use Rattle.ddcmp_device.specs.declared.fault.Attempt.{Attempt}
+use Rattle.ddcmp_device.specs.declared.fault.Attempt.TheVariants as attempt
 use Rattle.ddcmp_cli.specs.declared.fault.Fault.TheVariants.{Read, Write, Memory as NoMemory}
 use Rattle.ddcmp_cli.specs.declared.ending.Ending.{Ending}
 use Rattle.ddcmp_cli.specs.declared.ending.Ending.TheVariants.{Done, NoLine, Fault as Faulted}

@@ -18,14 +18,13 @@ mod tap_command;
 mod usage;
 
 pub use connections::{Connection, Connections};
+pub use ddcmp_device::{BridgeEnd, BridgeFault, BridgeOptions, LineName};
 pub use ddcmp_explain::{
     DumpFault, ExplainFault, Form, NotDumped, Notation, Style, dump, dump_fault, explain,
     explain_as, explain_dump, explain_fault, explain_with, explanation, form, notation, style,
 };
 pub use ddcmp_net::{SERVED_MAX, ServeFault, serve, serve_fault, server};
-pub use ddcmp_service::{
-    BridgeEnd, BridgeFault, BridgeOptions, LineName, LinkOutcome, Options, ServiceFault,
-};
+pub use ddcmp_service::{LinkOutcome, Options, ServiceFault};
 pub use ddcmp_tap::{TapFault, tap_fault};
 pub use ddcmp_words::{
     Beginning, BridgeArgs, Command, LinkArgs, NoCommand, Role, ScriptArgs, StationArgs, TapArgs,

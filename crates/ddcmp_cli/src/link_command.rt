@@ -6,12 +6,10 @@ ghost use Rattle.ddcmp_cli.specs.TapEndings.{IsUnopened};
 use crate::ending::Ending;
 use crate::fault::Fault;
 use crate::usage::usage;
+use ddcmp_device::{BridgeEnd, BridgeFault, BridgeOptions, LineName, NotOpened, bridge_lines};
 use ddcmp_io::{Sink, Source};
 use ddcmp_proto::Config;
-use ddcmp_service::{
-    BridgeEnd, BridgeFault, BridgeOptions, LineName, LinkOutcome, NotOpened, Options, ServiceFault,
-    bridge_lines, serve_link,
-};
+use ddcmp_service::{LinkOutcome, Options, ServiceFault, serve_link};
 use ddcmp_words::link_args::{DEFAULT_ATTEMPTS, DEFAULT_TIMER_MS, LinkArgs};
 use std::alloc::Global;
 
@@ -48,7 +46,7 @@ pub(crate) fn no_line(alloc: Global, fault: &NotOpened<'_>) -> Ending
 /// A system that opens the lines of links.
 pub trait Lines {
     ghost use Rattle.std.specs.Prelude.{◌≡◌, ◌↔◌, Err, IsTrue, Result, Some};
-    ghost use Rattle.ddcmp_service.specs.LineNames.{word_of};
+    ghost use Rattle.ddcmp_device.specs.LineNames.{word_of};
     ghost use Rattle.ddcmp_service.specs.declared.fault.ServiceFault.{ServiceFault as FaultValue};
     ghost use Rattle.ddcmp_service.specs.declared.fault.ServiceFault.TheVariants.{Write};
     ghost use Rattle.ddcmp_session.specs.declared.link.LinkOutcome.{LinkOutcome as LinkOutcomeValue};

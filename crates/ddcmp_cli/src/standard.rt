@@ -1,6 +1,6 @@
 //! The program's standard streams, if some are closed or their output isn't read.
 use crate::ending::Ending;
-use ddcmp_service::errors_take;
+use ddcmp_device::errors_take;
 use std::alloc::Global;
 use std::fs::{File, Files, OpenOptions};
 use std::io::Eprint;

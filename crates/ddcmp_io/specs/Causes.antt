@@ -1,7 +1,9 @@
--- The texts of the system's errors.
+-- The texts of the system's errors, and of a line that is down.
 use Rattle.std.specs.Prelude.{ℕ, List, codes}
 use Rattle.std.specs.declared.io.ErrorKind.{ErrorKind}
 use Rattle.std.specs.declared.io.ErrorKind.TheVariants as kind
+use Rattle.ddcmp_io.specs.declared.transfer.Down.{Down}
+use Rattle.ddcmp_io.specs.declared.transfer.Down.TheVariants.{Closed, Failed}
 
 -- why the system couldn't open something
 abbrev pub cause_words : ErrorKind → List ℕ
@@ -32,3 +34,8 @@ failure_words kind.NetworkUnreachable = cause_words kind.NetworkUnreachable
 failure_words kind.TimedOut = cause_words kind.TimedOut
 failure_words kind.OutOfMemory = cause_words kind.OutOfMemory
 failure_words _ = codes "input or output error"
+
+-- why a line is down
+abbrev pub down_text : Down → List ℕ
+down_text Closed = codes "closed by the other end"
+down_text (Failed kind) = failure_words kind

@@ -2,6 +2,8 @@ pub mod Causes
 pub mod Change
 pub mod Device
 pub mod Failing
-pub mod Queue
-pub mod Written
 pub mod Input
+pub mod LineKinds
+pub mod Queue
+pub mod Transfers
+pub mod Written

@@ -23,7 +23,7 @@ use Rattle.ddcmp_session.specs.Messages.{after_last, entry_of_last}
 use Rattle.ddcmp_session.specs.Session.{SessionView, form_of, takes_end}
 use Rattle.ddcmp_session.specs.Session.{after_last_line, after_unfinished, after_input_end}
 use Rattle.ddcmp_session.specs.declared.course.Course.{Course}
-use Rattle.ddcmp_session.specs.declared.options.LineKind.{LineKind}
+use Rattle.ddcmp_io.specs.declared.line_kind.LineKind.{LineKind}
 use Rattle.ddcmp_session.specs.declared.options.Options.{Options}
 use Rattle.ddcmp_session.specs.Course.{after_connecting, lost_more}
 use Rattle.ddcmp_session.specs.Session.{lost_by_end, after_timeout, after_connected, anew_in}

@@ -10,7 +10,7 @@ use Rattle.ddcmp_pair.specs.Prefix.{IsPrefixOf}
 use Rattle.ddcmp_pair.specs.Run.{new_pair}
 use Rattle.ddcmp_laws.specs.Faithful.{Begins}
 use Rattle.ddcmp_session.specs.declared.messages.Form.TheVariants as form
-use Rattle.ddcmp_session.specs.declared.options.LineKind.{LineKind}
+use Rattle.ddcmp_io.specs.declared.line_kind.LineKind.{LineKind}
 use Rattle.ddcmp_session.specs.declared.options.Options.{Options}
 use Rattle.ddcmp_session.specs.Session.{SessionView, is_delivered, lost_among, lost_at_end}
 use Rattle.ddcmp_laws.specs.PairCalls.{run_calls}

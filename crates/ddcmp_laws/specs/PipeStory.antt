@@ -9,7 +9,7 @@ use Rattle.ddcmp_station.specs.Linking.{after_taking}
 use Rattle.ddcmp_pair.specs.declared.event.End.{End}
 use Rattle.ddcmp_pair.specs.declared.event.End.TheVariants.{A, B}
 use Rattle.ddcmp_session.specs.declared.messages.Form.TheVariants as form
-use Rattle.ddcmp_session.specs.declared.options.LineKind.TheVariants.{Connect}
+use Rattle.ddcmp_io.specs.declared.line_kind.LineKind.TheVariants.{Connect}
 use Rattle.ddcmp_session.specs.declared.options.Options.{Options}
 use Rattle.ddcmp_io.specs.Queue.{after_pushed, after_taken}
 use Rattle.ddcmp_session.specs.Session.{SessionView, form_of, after_typed, after_input_end}

@@ -2,7 +2,7 @@
 ghost use Rattle.std.specs.Prelude.{◌≡◌, ◌++◌, ℕ, List, false};
 ghost use Rattle.ddcmp_frame.specs.Reader.{ReaderView};
 ghost use Rattle.ddcmp_input.specs.InBinary.{in_binary};
-ghost use Rattle.ddcmp_session.specs.declared.options.LineKind.{LineKind as LineKindValue};
+ghost use Rattle.ddcmp_io.specs.declared.line_kind.LineKind.{LineKind as LineKindValue};
 ghost use Rattle.ddcmp_session.specs.declared.options.Options.{Options as OptionsValue};
 ghost use Rattle.ddcmp_session.specs.declared.messages.Form.TheVariants.{Binary};
 ghost use Rattle.ddcmp_laws.specs.Links.{IsHistory, after_history, new_history, offered_in};

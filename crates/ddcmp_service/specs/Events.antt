@@ -1,47 +1,10 @@
--- What a service reports about its line on standard error, without the line feed.
-use Rattle.std.specs.Prelude.{◌≡◌, ℕ, List, ◌++◌, codes, decimal, Option, Some, None}
+-- What a service reports about its line on standard error.
+use Rattle.std.specs.Prelude.{◌≡◌, ℕ, List, Option, Some, None}
 use Rattle.std.specs.Fmt.Cut.{IsTextOrCut}
-use Rattle.std.specs.Net.Text.{socket_text}
-use Rattle.ddcmp_io.specs.Causes.{cause_words}
-use Rattle.ddcmp_service.specs.declared.event.Event.{Event}
-use Rattle.ddcmp_service.specs.declared.event.Event.TheVariants as event
-use Rattle.ddcmp_service.specs.declared.fault.Attempt.{Attempt}
-use Rattle.ddcmp_service.specs.declared.fault.Attempt.TheVariants as attempt
-use Rattle.ddcmp_service.specs.declared.fault.Cause.{Cause}
-use Rattle.ddcmp_service.specs.declared.fault.Cause.TheVariants as cause
-use Rattle.ddcmp_service.specs.declared.fault.NotOpened.{NotOpened}
+use Rattle.ddcmp_device.specs.Events.{event_text}
+use Rattle.ddcmp_device.specs.declared.event.Event.{Event}
 use Rattle.ddcmp_session.specs.Errors.{ErrorsView, HasEvent}
 use Rattle.ddcmp_session.specs.declared.errors.TheConstants.{EVENT_ROOM}
-
-abbrev pub attempt_text : Attempt → List ℕ
-attempt_text attempt.Connect = codes "connect"
-attempt_text attempt.Listen = codes "listen"
-attempt_text attempt.Open = codes "open"
-attempt_text attempt.Create = codes "create"
-attempt_text attempt.Write = codes "write"
-
-abbrev pub cause_text : Cause → List ℕ
-cause_text (cause.System kind) = cause_words kind
-cause_text cause.UnknownHost = codes "no such host"
-cause_text cause.OtherFamily = codes "not of the other address's family"
-cause_text cause.NotDevice = codes "not a character device"
-cause_text cause.InUse = codes "already in use"
-cause_text cause.Exists = codes "file exists"
-cause_text cause.Full = codes "no space left on device"
-cause_text cause.Failed = codes "failed"
-
--- a line that couldn't be opened, with its name
-abbrev pub not_opened_text : NotOpened → List ℕ
-not_opened_text f =
-    attempt_text f.attempt ++ (codes " " ++ (f.name.now ++ (codes ": " ++ cause_text f.cause)))
-
-abbrev pub event_text : Event → List ℕ
-event_text (event.Listening address) = codes "listening " ++ socket_text address
-event_text (event.Connecting address) = codes "connecting " ++ socket_text address
-event_text (event.Connected address) = codes "connected " ++ socket_text address
-event_text (event.Retry fault seconds) =
-    codes "ddcmp: "
-    ++ (not_opened_text fault ++ (codes "; retry in " ++ (decimal seconds ++ codes " s")))
 
 -- The event was reported, if there is one: its text, whole or truncated with dots at the end.
 abbrev pub Reports : Option Event → ErrorsView → ErrorsView → Type 0

@@ -1,3 +1,1 @@
-pub mod Inside
 pub mod Events
-pub mod LineNames

@@ -1,11 +1,10 @@
 //! Why the run of a link ends before all is delivered.
 ghost use Rattle.std.specs.Prelude.{◌≡◌, ◌≢◌, ℕ};
-ghost use Rattle.ddcmp_service.specs.LineNames.{not_opened_of};
-ghost use Rattle.ddcmp_service.specs.declared.opener.OpenRefusal.{OpenRefusal as RefusalValue};
+ghost use Rattle.ddcmp_device.specs.LineNames.{not_opened_of};
+ghost use Rattle.ddcmp_device.specs.declared.opener.OpenRefusal.{OpenRefusal as RefusalValue};
 
-use crate::fault::{Attempt, Cause, NotOpened, ServiceFault};
-use crate::line_name::LineName;
-use crate::opener::OpenRefusal;
+use crate::fault::ServiceFault;
+use ddcmp_device::{Attempt, Cause, LineName, NotOpened, OpenRefusal};
 use ddcmp_session::{Fault, Stop};
 use std::io::ErrorKind;
 

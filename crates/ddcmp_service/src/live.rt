@@ -1,20 +1,16 @@
 //! The devices of a link, on the system.
 ghost use Rattle.std.specs.Prelude.{◌≡◌, ◌≤◌, ◌↔◌, length};
+ghost use Rattle.ddcmp_device.specs.Outlets.{at_once};
+ghost use Rattle.ddcmp_io.specs.Transfers.{count_moved};
 ghost use Rattle.ddcmp_service.specs.Events.{Reports};
-ghost use Rattle.ddcmp_service.specs.Inside.Outlets.{at_once};
-ghost use Rattle.ddcmp_session.specs.Devices.{count_moved, count_read};
+ghost use Rattle.ddcmp_session.specs.Devices.{count_read};
 
-use crate::datagram::Framing;
-use crate::event::Event;
-use crate::line::Line;
-use crate::line_name::LineName;
-use crate::opener::{OpenRefusal, Opener};
-use crate::outlet::Outlet;
-use crate::poller::{Descriptor, Poller};
-use crate::system::System;
+use ddcmp_device::{
+    Descriptor, Event, Framing, Line, LineName, OpenRefusal, Opener, Outlet, Poller, System,
+};
 use ddcmp_frame::ReaderRefusal;
-use ddcmp_io::{Got, Sink, Source, Worst};
-use ddcmp_session::{Buffers, Devices, Down, Session, Transfer, Wanted};
+use ddcmp_io::{Down, Got, Sink, Source, Transfer, Wanted, Worst};
+use ddcmp_session::{Buffers, Devices, Session};
 use ddcmp_station::Clock;
 use std::alloc::Global;
 use std::fmt::InlineText;
@@ -178,10 +174,10 @@ fn report(session: &mut Session, event: Option<Event<'_>>)
 impl<S: System, C: Clock + Drop, R: Source, W: Sink> Devices for Live<'_, S, C, R, W> {
     ghost use Rattle.std.specs.Prelude.{IfOk, OnErr, None, Some, is_some};
     ghost use Rattle.ddcmp_service.specs.Events.{Reports};
-    ghost use Rattle.ddcmp_service.specs.LineNames.{line_kind, not_opened_of};
-    ghost use Rattle.ddcmp_service.specs.Inside.Opening.{SameIfNotYet, Opens, event_of, line_of};
-    ghost use Rattle.ddcmp_service.specs.declared.event.Event.TheVariants as event;
-    ghost use Rattle.ddcmp_service.specs.declared.opener.Opened.{Opened};
+    ghost use Rattle.ddcmp_device.specs.LineNames.{line_kind, not_opened_of};
+    ghost use Rattle.ddcmp_device.specs.Opening.{SameIfNotYet, Opens, event_of, line_of};
+    ghost use Rattle.ddcmp_device.specs.declared.event.Event.TheVariants as event;
+    ghost use Rattle.ddcmp_device.specs.declared.opener.Opened.{Opened};
 
     ghost traffic = { λ _. None };
 

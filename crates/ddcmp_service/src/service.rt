@@ -3,12 +3,10 @@ ghost use Rattle.std.specs.Prelude.{◌≡◌, ◌≢◌, ◌↔◌, Err, IsTrue
 
 use crate::ending::Ended;
 use crate::fault::ServiceFault;
-use crate::line_name::LineName;
 use crate::live::{Live, Parts};
-use crate::poller::Poller;
-use crate::system::System;
-use ddcmp_io::{Sink, Source, Worst};
-use ddcmp_session::{LineKind, LinkFault, LinkOutcome, Options, run_link};
+use ddcmp_device::{LineName, Poller, System};
+use ddcmp_io::{LineKind, Sink, Source, Worst};
+use ddcmp_session::{LinkFault, LinkOutcome, Options, run_link};
 use ddcmp_station::Elapsed;
 use std::alloc::Global;
 use std::fs::{File, Files};

@@ -12,7 +12,7 @@ use Rattle.ddcmp_station.specs.Linking.{after_taking}
 use Rattle.ddcmp_window.specs.Store.{first_message}
 use Rattle.ddcmp_session.specs.declared.devices.Fault.{Fault}
 use Rattle.ddcmp_session.specs.declared.devices.Fault.TheVariants.{Input}
-use Rattle.ddcmp_session.specs.declared.devices.Transfer.TheVariants.{Bytes}
+use Rattle.ddcmp_io.specs.declared.transfer.Transfer.TheVariants.{Bytes}
 use Rattle.ddcmp_session.specs.Session.{SessionView, form_of}
 use Rattle.ddcmp_session.specs.Calls.{Closed, Delivered, OutputTook, SessionStep, SessionHistory}
 use Rattle.ddcmp_session.specs.Calls.{after_session_step, after_session_steps, written_in}

@@ -2,9 +2,10 @@
 use Rattle.std.proofs.Common.{◌≤◌, arith, subst, List, length, ◌==◌}
 use Rattle.std.proofs.Common.{◌≡◌, ℕ, zero, suc, refl, ap, sym, ◌∙◌, Bool, true, false, cond}
 use Rattle.ddcmp_station.specs.Linking.{LinkView, after_frame, after_frames, polls, after_polled}
-use Rattle.ddcmp_session.specs.Filling.{is_of_datagrams, most_datagrams}
-use Rattle.ddcmp_session.specs.declared.options.LineKind.{LineKind}
-use Rattle.ddcmp_session.specs.declared.options.LineKind.TheVariants.{Datagrams}
+use Rattle.ddcmp_io.specs.LineKinds.{is_of_datagrams}
+use Rattle.ddcmp_session.specs.Filling.{most_datagrams}
+use Rattle.ddcmp_io.specs.declared.line_kind.LineKind.{LineKind}
+use Rattle.ddcmp_io.specs.declared.line_kind.LineKind.TheVariants.{Datagrams}
 use Rattle.ddcmp_session.specs.Logged.{LoggedSession}
 use Rattle.ddcmp_session.specs.Session.{SessionView}
 

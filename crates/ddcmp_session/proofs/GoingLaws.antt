@@ -12,11 +12,11 @@ use Rattle.ddcmp_station.specs.Linking.{LinkView, after_taking, after_frames}
 use Rattle.ddcmp_window.specs.Store.{first_message}
 use Rattle.ddcmp_session.specs.Text.{Wrote, mail_text}
 use Rattle.ddcmp_session.proofs.FrameLaws.{PutsFrames, frames-line}
-use Rattle.ddcmp_session.specs.declared.devices.Down.{Down}
+use Rattle.ddcmp_io.specs.declared.transfer.Down.{Down}
 use Rattle.ddcmp_session.specs.declared.devices.Fault.{Fault}
-use Rattle.ddcmp_session.specs.declared.devices.Transfer.{Transfer}
-use Rattle.ddcmp_session.specs.declared.devices.Transfer.TheVariants.{Bytes, Nothing, Interrupted}
-use Rattle.ddcmp_session.specs.declared.devices.Transfer.TheVariants.{Ended}
+use Rattle.ddcmp_io.specs.declared.transfer.Transfer.{Transfer}
+use Rattle.ddcmp_io.specs.declared.transfer.Transfer.TheVariants.{Bytes, Nothing, Interrupted}
+use Rattle.ddcmp_io.specs.declared.transfer.Transfer.TheVariants.{Ended}
 use Rattle.ddcmp_session.specs.declared.devices.Fault.TheVariants.{Line, Input}
 use Rattle.ddcmp_session.specs.Session.{SessionView, form_of}
 use Rattle.ddcmp_session.specs.Session.{IsFilled, after_timeout}

@@ -6,9 +6,9 @@ use Rattle.std.proofs.lemmas.List.{take-append-drop, take_min}
 use Rattle.ddcmp_frame.specs.Reader.{StandsFor}
 use Rattle.ddcmp_io.specs.Queue.{after_taken}
 use Rattle.ddcmp_station.specs.Linking.{after_sent}
-use Rattle.ddcmp_session.specs.declared.devices.Transfer.{Transfer}
-use Rattle.ddcmp_session.specs.declared.devices.Transfer.TheVariants.{Bytes, Nothing, Interrupted}
-use Rattle.ddcmp_session.specs.declared.devices.Transfer.TheVariants.{Ended}
+use Rattle.ddcmp_io.specs.declared.transfer.Transfer.{Transfer}
+use Rattle.ddcmp_io.specs.declared.transfer.Transfer.TheVariants.{Bytes, Nothing, Interrupted}
+use Rattle.ddcmp_io.specs.declared.transfer.Transfer.TheVariants.{Ended}
 use Rattle.ddcmp_session.specs.declared.devices.Fault.TheVariants.{Line}
 use Rattle.ddcmp_session.specs.Session.{SessionView, form_of}
 use Rattle.ddcmp_session.specs.Calls.{Received, LineTook}

@@ -19,7 +19,7 @@ use Rattle.ddcmp_session.specs.Session.{after_typed, after_input_end, lost_by_en
 use Rattle.ddcmp_session.specs.Course.{lost_more}
 use Rattle.ddcmp_session.specs.Session.{after_connected, after_timeout, course_received}
 use Rattle.ddcmp_session.specs.Session.{lost_among, lost_at_end}
-use Rattle.ddcmp_session.specs.declared.options.LineKind.{LineKind}
+use Rattle.ddcmp_io.specs.declared.line_kind.LineKind.{LineKind}
 use Rattle.ddcmp_session.specs.declared.options.Options.{Options}
 use Rattle.ddcmp_session.specs.Text.{Wrote, mail_text, notices_text, reported_lost}
 use Rattle.ddcmp_session.specs.Timing.{PassesTime}

@@ -6,13 +6,13 @@ use Rattle.std.specs.Prelude.{Option, Some, None, ⊤, ◌∷◌}
 use Rattle.ddcmp_frame.specs.Reader.{StandsFor}
 use Rattle.ddcmp_io.specs.declared.device.Got.{Got}
 use Rattle.ddcmp_io.specs.declared.device.Got.TheVariants as got
-use Rattle.ddcmp_session.specs.declared.devices.Down.{Down}
+use Rattle.ddcmp_io.specs.Transfers.{count_moved}
+use Rattle.ddcmp_io.specs.declared.transfer.Down.{Down}
 use Rattle.ddcmp_session.specs.declared.devices.Fault.{Fault}
 use Rattle.ddcmp_session.specs.declared.devices.Fault.TheVariants.{Line, Input, Output}
-use Rattle.ddcmp_session.specs.declared.devices.Transfer.{Transfer}
-use Rattle.ddcmp_session.specs.declared.devices.Wanted.{Wanted}
-use Rattle.ddcmp_session.specs.declared.devices.Transfer.TheVariants.{Bytes, Nothing, Interrupted}
-use Rattle.ddcmp_session.specs.declared.devices.Transfer.TheVariants.{Ended}
+use Rattle.ddcmp_io.specs.declared.transfer.Transfer.{Transfer}
+use Rattle.ddcmp_io.specs.declared.transfer.Wanted.{Wanted}
+use Rattle.ddcmp_io.specs.declared.transfer.Transfer.TheVariants.{Ended}
 use Rattle.ddcmp_window.specs.Store.{first_message}
 use Rattle.ddcmp_session.specs.Session.{SessionView, form_of, IsFilled, wants_input, wants_line}
 use Rattle.ddcmp_session.specs.Session.{room_for_mail}
@@ -59,13 +59,7 @@ after_read (got.Bytes n) space t =
 after_read got.Idle space t = t
 after_read got.Failed space t = after_fault Input t
 
--- how many bytes were moved, and which
-abbrev pub count_moved : Transfer → ℕ
-count_moved (Bytes n) = n
-count_moved Nothing = 0
-count_moved Interrupted = 0
-count_moved (Ended why) = 0
-
+-- the bytes that were moved
 abbrev pub moved_of : Transfer → List ℕ → List ℕ
 moved_of moved bytes = take (count_moved moved) bytes
 

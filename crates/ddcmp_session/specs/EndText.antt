@@ -1,8 +1,7 @@
 -- The last lines of a session's run.
 use Rattle.std.specs.Prelude.{Bool, if◌then◌else◌, List, [], ◌++◌, ℕ, codes, decimal, Some}
-use Rattle.ddcmp_io.specs.Causes.{failure_words}
-use Rattle.ddcmp_session.specs.declared.devices.Down.{Down}
-use Rattle.ddcmp_session.specs.declared.devices.Down.TheVariants.{Closed, Failed}
+use Rattle.ddcmp_io.specs.Causes.{down_text}
+use Rattle.ddcmp_io.specs.declared.transfer.Down.{Down}
 use Rattle.ddcmp_io.specs.Queue.{QueueView}
 use Rattle.ddcmp_io.specs.Written.{Output}
 use Rattle.ddcmp_station.specs.Linking.{LinkView}
@@ -36,11 +35,7 @@ paged q page = record { broken = q.is_cut; sink = Some q.waiting; waiting = page
 abbrev pub queued : QueueView → Output
 queued q = paged q []
 
--- why a line is down
-abbrev pub down_text : Down → List ℕ
-down_text Closed = codes "closed by the other end"
-down_text (Failed kind) = failure_words kind
-
+-- a line is down, and why
 abbrev pub line_down_text : Down → List ℕ
 line_down_text why = codes "line down: " ++ down_text why ++ codes "\n"
 

@@ -1,14 +1,7 @@
 -- Frames that a session queues for its line.
-use Rattle.std.specs.Prelude.{ℕ, Bool, true, false, if◌then◌else◌, ◌==◌, length}
+use Rattle.std.specs.Prelude.{ℕ, if◌then◌else◌, ◌==◌, length}
 use Rattle.ddcmp_station.specs.Linking.{LinkView, after_frame}
-use Rattle.ddcmp_session.specs.declared.options.LineKind.{LineKind}
-use Rattle.ddcmp_session.specs.declared.options.LineKind.TheVariants.{Datagrams}
 use Rattle.ddcmp_session.specs.Session.{SessionView, is_paused}
-
--- each write to the line is a frame of its own
-abbrev pub is_of_datagrams : LineKind → Bool
-is_of_datagrams Datagrams = true
-is_of_datagrams _ = false
 
 -- The next frame is queued if there is room for it, unless it carries a message that is held back.
 abbrev pub after_filling : SessionView → LinkView

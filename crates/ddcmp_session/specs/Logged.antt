@@ -7,7 +7,7 @@ use Rattle.ddcmp_input.specs.declared.entry.Entry.TheVariants.{NotHexadecimal}
 use Rattle.ddcmp_station.specs.CountersText.{counters_line}
 use Rattle.ddcmp_station.specs.Linking.{LinkView, after_wake, total_plus}
 use Rattle.ddcmp_station.specs.StationText.{notice_line}
-use Rattle.ddcmp_session.specs.declared.devices.Down.{Down}
+use Rattle.ddcmp_io.specs.declared.transfer.Down.{Down}
 use Rattle.ddcmp_session.specs.declared.errors.TheConstants.{LAST_ROOM, SHORT_LINE}
 use Rattle.ddcmp_session.specs.declared.messages.Form.{Form}
 use Rattle.ddcmp_session.specs.declared.messages.Form.TheVariants as form

@@ -20,8 +20,8 @@ use Rattle.ddcmp_session.specs.declared.messages.Form.{Form}
 use Rattle.ddcmp_session.specs.declared.messages.Form.TheVariants as form
 use Rattle.ddcmp_session.specs.declared.messages.Messages.{Messages}
 use Rattle.ddcmp_session.specs.declared.messages.Messages.TheVariants.{Digits, Binary}
-use Rattle.ddcmp_session.specs.declared.options.LineKind.{LineKind}
-use Rattle.ddcmp_session.specs.declared.options.LineKind.TheVariants.{Connect, Listen}
+use Rattle.ddcmp_io.specs.LineKinds.{is_connection}
+use Rattle.ddcmp_io.specs.declared.line_kind.LineKind.{LineKind}
 use Rattle.ddcmp_session.specs.declared.options.Options.{Options}
 use Rattle.ddcmp_session.specs.declared.text.TheConstants.{LINE_ROOM, LOST_ROOM}
 use Rattle.ddcmp_session.specs.Course.{course_begun, after_connecting, after_moment, after_pause}
@@ -197,11 +197,6 @@ expires now s =
     expires_at s.link.milliseconds now s.link.station.core.station.timer s.link.deadline
 
 -- no peer has started yet: on a line that is no connection it may start at any time
-abbrev pub is_connection : LineKind → Bool
-is_connection Connect = true
-is_connection Listen = true
-is_connection _ = false
-
 abbrev pub awaits_peer : SessionView → Bool
 awaits_peer s = not (is_connection s.kind) && not s.course.peer_has_started
 

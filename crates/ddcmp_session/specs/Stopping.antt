@@ -2,7 +2,7 @@
 use Rattle.std.specs.Prelude.{◌≡◌, ◌≢◌, ◌⊎◌, ℕ, false, [], Option, Some, Result, Ok, Err}
 use Rattle.ddcmp_session.specs.declared.buffers.lines.Stop.TheVariants.{the_data, Device, Left}
 use Rattle.ddcmp_session.specs.declared.buffers.lines.Stop.TheVariants.{Lost, NotOpened, Unread}
-use Rattle.ddcmp_session.specs.declared.devices.Down.{Down}
+use Rattle.ddcmp_io.specs.declared.transfer.Down.{Down}
 use Rattle.ddcmp_session.specs.declared.devices.Fault.TheVariants as fault
 use Rattle.ddcmp_session.specs.declared.session.End.TheVariants as end_of
 use Rattle.ddcmp_session.specs.Devices.{BuffersView, Traffic}

@@ -5,8 +5,8 @@ use Rattle.std.specs.Prelude.{min, if◌then◌else◌, Option, None, Some}
 use Rattle.ddcmp_core.specs.Table.{is_running}
 use Rattle.ddcmp_station.specs.Driving.{later}
 use Rattle.ddcmp_station.specs.Linking.{wakes_at as timer_at}
-use Rattle.ddcmp_session.specs.declared.options.LineKind.{LineKind}
-use Rattle.ddcmp_session.specs.declared.options.LineKind.TheVariants.{Listen}
+use Rattle.ddcmp_io.specs.declared.line_kind.LineKind.{LineKind}
+use Rattle.ddcmp_io.specs.declared.line_kind.LineKind.TheVariants.{Listen}
 use Rattle.ddcmp_session.specs.declared.session.End.{End}
 use Rattle.ddcmp_session.specs.declared.session.End.TheVariants.{Delivered, Time, Restarted}
 use Rattle.ddcmp_session.specs.declared.session.End.TheVariants.{GivenUp}

@@ -1,21 +1,18 @@
 //! The devices of a session: the input, a line, two outputs, a clock and a wait.
 ghost use Rattle.std.specs.Prelude.{◌≡◌, ◌<◌, ◌≤◌, length, Option};
-ghost use Rattle.ddcmp_session.specs.Devices.{count_moved as moved};
-ghost use Rattle.ddcmp_session.specs.EndText.{down_text};
 
 use crate::buffers::Buffers;
 use crate::session::Session;
 use ddcmp_io::Got;
-use ddcmp_io::cause::failure_words_of;
-use std::fmt;
-use std::io::ErrorKind;
+pub use ddcmp_io::{Down, Transfer, Wanted};
 
 /// The devices that a session runs over. Of these calls only `rest` and `wait` wait, and
 /// `close_line` for a moment. A line that was opened is read and written until `close_line`.
 pub trait Devices {
     ghost use Rattle.ddcmp_session.specs.Devices.{Traffic, Becomes, after_read, after_came};
     ghost use Rattle.std.specs.Prelude.{None};
-    ghost use Rattle.ddcmp_session.specs.Devices.{Rests, count_moved, count_read};
+    ghost use Rattle.ddcmp_io.specs.Transfers.{count_moved};
+    ghost use Rattle.ddcmp_session.specs.Devices.{Rests, count_read};
     ghost use Rattle.ddcmp_session.specs.Timing.{end, wait_ms};
     ghost use Rattle.ddcmp_session.specs.Devices.{after_gone, after_wait, after_written};
     ghost use Rattle.ddcmp_session.specs.Lines.{line_begun};
@@ -98,61 +95,6 @@ pub trait Devices {
         ensures { traffic self.new ≡ traffic self.old };
 }
 
-/// The result of a read or a write that doesn't wait.
-#[derive(Clone, Copy, PartialEq, Eq)]
-pub enum Transfer {
-    Bytes(usize),
-    /// There was nothing to read, or no room to write.
-    Nothing,
-    /// The call was interrupted, and is to be repeated.
-    Interrupted,
-    /// The device has ended or failed.
-    Ended(Down),
-}
-
-impl Transfer {
-    /// Returns how many bytes were moved.
-    pub(crate) fn count(self) -> usize
-        ensures { result ≡ moved self }
-    {
-        match self {
-            Transfer::Bytes(n) => n,
-            Transfer::Nothing | Transfer::Interrupted | Transfer::Ended(_) => 0,
-        }
-    }
-}
-
-/// Why a line is down.
-#[derive(Clone, Copy, PartialEq, Eq)]
-pub enum Down {
-    /// The other end has closed it.
-    Closed,
-    /// A read or a write failed with this error.
-    Failed(ErrorKind),
-}
-
-impl Down {
-    /// Returns the reason in words.
-    pub(crate) fn words(self) -> &'static str
-        ensures { result.now ≡ down_text self }
-    {
-        match self {
-            Down::Closed => "closed by the other end",
-            Down::Failed(kind) => failure_words_of(kind),
-        }
-    }
-}
-
-impl fmt::Display for Down {
-    ghost use Rattle.std.specs.Prelude.{Some};
-
-    ghost output = { λ d. Some (down_text d) };
-
-    fn fmt<W: fmt::Write>(&self, f: &mut fmt::Formatter<W>) -> fmt::Result {
-        f.write_str(self.words())
-    }
-}
-
 /// The reason why a session can't continue over its devices.
 #[derive(Clone, Copy, PartialEq, Eq)]
 pub enum Fault {
@@ -164,48 +106,4 @@ pub enum Fault {
     Output,
     /// A time limit was reached: that of the run, or that of a blocked output.
     Time,
-}
-
-/// The devices to wait for.
-#[derive(Clone, Copy)]
-pub struct Wanted {
-    pub input: bool,
-    pub output: bool,
-    pub errors: bool,
-    pub from_line: bool,
-    pub to_line: bool,
-}
-
-impl Wanted {
-    pub const NOTHING: Wanted = Wanted {
-        input: false,
-        output: false,
-        errors: false,
-        from_line: false,
-        to_line: false,
-    };
-
-    pub const INPUT: Wanted = Wanted {
-        input: true,
-        output: false,
-        errors: false,
-        from_line: false,
-        to_line: false,
-    };
-
-    pub const OUTPUT: Wanted = Wanted {
-        input: false,
-        output: true,
-        errors: false,
-        from_line: false,
-        to_line: false,
-    };
-
-    pub const ERRORS: Wanted = Wanted {
-        input: false,
-        output: false,
-        errors: true,
-        from_line: false,
-        to_line: false,
-    };
 }

@@ -1,9 +1,9 @@
 //! The options of a session.
 ghost use Rattle.std.specs.Prelude.{◌≡◌};
-ghost use Rattle.ddcmp_session.specs.Filling.{is_of_datagrams};
-ghost use Rattle.ddcmp_session.specs.Session.{is_connection, report_ms};
+ghost use Rattle.ddcmp_session.specs.Session.{report_ms};
 
 use crate::messages::Form;
+pub use ddcmp_io::LineKind;
 use ddcmp_station::Config;
 
 /// The options of a session.
@@ -46,34 +46,5 @@ impl Options {
         ensures { result ≡ report_ms self.now }
     {
         1000 * self.report as u64
-    }
-}
-
-/// The kind of a line, as far as that makes a difference.
-#[derive(Clone, Copy)]
-pub enum LineKind {
-    /// A connection to a peer.
-    Connect,
-    /// An accepted connection.
-    Listen,
-    /// Datagrams, one frame each.
-    Datagrams,
-    /// A serial line.
-    Device,
-}
-
-impl LineKind {
-    /// Returns whether each write is a frame of its own.
-    pub(crate) fn is_of_datagrams(self) -> bool
-        ensures { result ≡ is_of_datagrams self }
-    {
-        matches!(self, LineKind::Datagrams)
-    }
-
-    /// Returns whether there is a peer as soon as it is open.
-    pub(crate) fn is_connection(self) -> bool
-        ensures { result ≡ is_connection self }
-    {
-        matches!(self, LineKind::Connect | LineKind::Listen)
     }
 }

@@ -43,7 +43,7 @@ impl Buffers {
     ghost use Rattle.ddcmp_session.specs.Session.{SessionView, wants_input, wants_line};
     ghost use Rattle.ddcmp_session.specs.Devices.{GoesOn, HoldsMail, KeepsFaults, Reports, Rests};
     ghost use Rattle.ddcmp_session.specs.Devices.{IsIdle, Traffic};
-    ghost use Rattle.ddcmp_session.specs.declared.devices.Down.{Down as DownValue};
+    ghost use Rattle.ddcmp_io.specs.declared.transfer.Down.{Down as DownValue};
     ghost use Rattle.ddcmp_session.specs.declared.devices.Fault.{Fault as FaultValue};
 
     /// Moves what can be moved, without waiting, and returns whether there was anything; if not, it

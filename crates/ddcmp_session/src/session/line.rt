@@ -27,7 +27,7 @@ impl Session {
     ghost use Rattle.ddcmp_proto.specs.Bytes.{after_piece, notices_of_piece};
     ghost use Rattle.ddcmp_station.specs.Linking.{after_frames, after_sent};
     ghost use Rattle.ddcmp_station.specs.Linking.{countable, puts_frame, with_state};
-    ghost use Rattle.ddcmp_session.specs.declared.options.LineKind.TheVariants.{Datagrams};
+    ghost use Rattle.ddcmp_io.specs.declared.line_kind.LineKind.TheVariants.{Datagrams};
     ghost use Rattle.ddcmp_session.specs.Filling.{after_filling, most_datagrams};
     ghost use Rattle.ddcmp_session.specs.Session.{form_of, has_gone, lost_by_end};
     ghost use Rattle.ddcmp_session.specs.Session.{reports_loss, wants_line};

@@ -1,5 +1,5 @@
 use Rattle.std.proofs.Common.{refl, sym}
-use Rattle.ddcmp_session.specs.declared.devices.Transfer.TheVariants.{Nothing, Interrupted}
+use Rattle.ddcmp_io.specs.declared.transfer.Transfer.TheVariants.{Nothing, Interrupted}
 use Rattle.ddcmp_session.specs.Devices.{after_gone}
 use Rattle.ddcmp_session.proofs.GoingLaws.{stays, idles, none-gone, downed}
 use Rattle.ddcmp_session.proofs.LineGoes.{line-took}

@@ -1,7 +1,7 @@
 use Rattle.std.proofs.Common.{◌≡◌}
 use Rattle.ddcmp_session.proofs.FrameLaws.{PutsFrames}
 use Rattle.ddcmp_session.specs.Filling.{most_datagrams}
-use Rattle.ddcmp_session.specs.declared.options.LineKind.TheVariants.{Datagrams}
+use Rattle.ddcmp_io.specs.declared.line_kind.LineKind.TheVariants.{Datagrams}
 use Rattle.ddcmp_session.proofs.session.Session.fill.Given as goal
 
 abbrev pub invariant-loop-self : goal.invariant-loop-self

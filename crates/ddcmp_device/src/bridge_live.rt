@@ -1,0 +1,95 @@
+//! The lines of a bridge, on the system's devices.
+ghost use Rattle.std.specs.Prelude.{◌≤◌, length};
+ghost use Rattle.ddcmp_bridge.specs.Joining.{count_of};
+
+use crate::bridge_intake::Intake;
+use crate::bridge_side::{Side, Sides};
+use ddcmp_bridge::{Fate, Lines, Needs, Way};
+use ddcmp_station::Clock;
+use std::io::Eprint;
+
+/// Two lines, the intake of each, and a clock.
+#[derive(Drop)]
+pub(crate) struct LiveLines<'a, E, C> {
+    pub(crate) system: &'a E,
+    pub(crate) clock: C,
+    /// The moment that it returned last.
+    pub(crate) moment: u64,
+    pub(crate) sides: Sides,
+    pub(crate) there: Intake,
+    pub(crate) back: Intake,
+}
+
+/// Reads a side without blocking.
+fn read_from(side: &mut Side, intake: &mut Intake, space: &mut [u8]) -> Option<usize>
+    ensures { count_of result ≤ length space.new }
+{
+    let n = side.read(space)?;
+    Some(intake.take(&space[..n], side.has_datagrams()))
+}
+
+/// Returns what is needed of a side that one direction reads and the other one writes.
+fn needs_of(side: &Side, reading: Needs, writing: Needs) -> Needs {
+    Needs {
+        to_read: reading.to_read && side.down.is_none(),
+        to_write: writing.to_write && side.takes_bytes(),
+    }
+}
+
+impl<E: Eprint, C: Clock> Lines for LiveLines<'_, E, C> {
+    ghost use Rattle.std.specs.Prelude.{None, is_some};
+    ghost use Rattle.ddcmp_device.specs.Inside.Sides.{down_of};
+
+    ghost traffic = { λ _. None };
+
+    ghost down = { λ l. down_of (is_some l.sides.first.down) (is_some l.sides.second.down) };
+
+    ghost moment = { λ l. l.moment };
+
+    fn read(&mut self, way: Way, space: &mut [u8]) -> Option<usize> {
+        let came = match way {
+            Way::There => read_from(&mut self.sides.first, &mut self.there, space),
+            Way::Back => read_from(&mut self.sides.second, &mut self.back, space),
+        };
+        self.sides.settle();
+        came
+    }
+
+    fn write(&mut self, way: Way, bytes: &[u8]) -> Option<usize> {
+        let went = match way {
+            Way::There => self.sides.second.write(bytes),
+            Way::Back => self.sides.first.write(bytes),
+        };
+        self.sides.settle();
+        went
+    }
+
+    fn is_down(&self, way: Way) -> bool {
+        match way {
+            Way::There => self.sides.first.down.is_some(),
+            Way::Back => self.sides.second.down.is_some(),
+        }
+    }
+
+    fn is_stopped(&self) -> bool {
+        self.there.unsaved().is_some() || self.back.unsaved().is_some()
+    }
+
+    fn log(&mut self, way: Way, now: u64, bytes: &[u8], fate: Option<Fate>) {
+        match way {
+            Way::There => self.there.log(self.system, now, bytes, fate),
+            Way::Back => self.back.log(self.system, now, bytes, fate),
+        }
+    }
+
+    fn wait(&mut self, there: Needs, back: Needs, most_ms: u64) -> bool {
+        let first = needs_of(&self.sides.first, there, back);
+        let second = needs_of(&self.sides.second, back, there);
+        self.sides.wait(first, second, most_ms)
+    }
+
+    fn now(&mut self) -> u64 {
+        self.moment = self.clock.now();
+        self.moment
+    }
+}

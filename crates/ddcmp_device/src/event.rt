@@ -1,0 +1,30 @@
+//! What is reported about a line on standard error.
+use crate::fault::NotOpened;
+use std::fmt;
+use std::net::SocketAddr;
+
+/// An event of the line.
+#[derive(Drop)]
+pub enum Event<'a> {
+    Listening(SocketAddr),
+    Connecting(SocketAddr),
+    Connected(SocketAddr),
+    /// The line couldn't be opened; the next attempt is after this many seconds.
+    Retry(NotOpened<'a>, u64),
+}
+
+impl fmt::Display for Event<'_> {
+    ghost use Rattle.std.specs.Prelude.{Some};
+    ghost use Rattle.ddcmp_device.specs.Events.{event_text};
+
+    ghost output = { λ event. Some (event_text event) };
+
+    fn fmt<W: fmt::Write>(&self, f: &mut fmt::Formatter<W>) -> fmt::Result {
+        match self {
+            Event::Listening(addr) => write!(f, "listening {addr}"),
+            Event::Connecting(addr) => write!(f, "connecting {addr}"),
+            Event::Connected(addr) => write!(f, "connected {addr}"),
+            Event::Retry(fault, seconds) => write!(f, "ddcmp: {fault}; retry in {seconds} s"),
+        }
+    }
+}

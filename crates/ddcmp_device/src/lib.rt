@@ -1,0 +1,32 @@
+//! Lines, standard streams and waits of the system, and the bridge between two lines: what opens,
+//! reads, writes and waits for devices. `Bridge` of `ddcmp_bridge` decides what a bridge passes on.
+#![tactic(auto)]
+
+mod bridge;
+mod bridge_intake;
+mod bridge_live;
+mod bridge_save;
+mod bridge_side;
+mod bridge_trace;
+mod datagram;
+mod event;
+mod fault;
+mod line;
+mod line_name;
+mod opener;
+mod outlet;
+mod poller;
+mod socket;
+mod system;
+
+pub use bridge::{BridgeEnd, BridgeFault, BridgeOptions, bridge_lines};
+pub use datagram::Framing;
+pub use ddcmp_bridge::Counts;
+pub use event::Event;
+pub use fault::{Attempt, Cause, NotOpened};
+pub use line::Line;
+pub use line_name::LineName;
+pub use opener::{OpenRefusal, Opened, Opener};
+pub use outlet::Outlet;
+pub use poller::{Descriptor, Poller, Ready, errors_take};
+pub use system::System;

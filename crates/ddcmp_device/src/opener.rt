@@ -1,0 +1,440 @@
+//! Opens a line by its name.
+ghost use Rattle.std.specs.Prelude.{◌≡◌, ◌+◌, ◌-◌, ◌^◌, IfErr, IfOk, None, Some, false, min};
+ghost use Rattle.ddcmp_device.specs.LineNames.{line_kind, not_opened_of};
+ghost use Rattle.ddcmp_device.specs.Opening.{Begins, SameIfNotYet, Opens, event_of};
+ghost use Rattle.ddcmp_device.specs.Opening.{line_of};
+ghost use Rattle.ddcmp_io.specs.declared.line_kind.LineKind.TheVariants as kind;
+
+use crate::event::Event;
+use crate::fault::{Cause, NotOpened};
+use crate::line::Line;
+use crate::line_name::LineName;
+use crate::poller::Poller;
+use crate::socket::{prepare_datagrams, prepare_stream};
+use mio::net::{TcpListener, TcpStream, UdpSocket};
+use std::fs::{self, File, Files, OpenOptions, TryLockError};
+use std::io::{self, ErrorKind};
+use std::net::{self, Net, OpenListener, SocketAddr, ToSocketAddrs};
+use std::os::fd::AsRawFd;
+use std::os::unix::fs::FileTypeExt;
+
+/// Opens a line, once or repeatedly.
+pub struct Opener<'a> {
+    pub name: LineName<'a>,
+    /// The listener, once it listens.
+    pub listener: Option<TcpListener>,
+    /// A connection that isn't made yet.
+    pub connecting: Option<TcpStream>,
+    /// The index of its address among those of the name.
+    which: usize,
+    /// Why the connection before it failed.
+    failed: Option<ErrorKind>,
+}
+
+// Manual, since a derived `Drop` would be expanded wherever a value is dropped.
+impl Drop for Opener<'_> {
+    fn drop(self) {
+        let Opener {
+            name: _,
+            listener: _listener,
+            connecting: _connecting,
+            which: _,
+            failed: _,
+        } = self;
+    }
+}
+
+/// A line, or the state of its opening.
+#[derive(Drop)]
+pub enum Opened {
+    Line(Line),
+    /// A connection, and its peer.
+    Connected(Line, SocketAddr),
+    /// A connection to this address was begun.
+    Connecting(SocketAddr),
+    /// It listens for callers at this address.
+    Listening(SocketAddr),
+    /// Nobody has connected yet, the connection isn't made yet, or the line isn't one that listens.
+    NotYet,
+}
+
+impl Opened {
+    /// Returns the event to be reported, if there is one.
+    pub fn event(&self) -> Option<Event<'static>>
+        ensures { result ≡ event_of self.now }
+    {
+        match self {
+            Opened::Connected(_, peer) => Some(Event::Connected(*peer)),
+            Opened::Connecting(peer) => Some(Event::Connecting(*peer)),
+            Opened::Listening(addr) => Some(Event::Listening(*addr)),
+            Opened::Line(_) | Opened::NotYet => None,
+        }
+    }
+
+    /// Returns the line, if it is open.
+    pub fn into_line(self) -> Option<Line>
+        ensures { result ≡ line_of self }
+    {
+        match self {
+            Opened::Line(line) | Opened::Connected(line, _) => Some(line),
+            Opened::Connecting(_) | Opened::Listening(_) | Opened::NotYet => None,
+        }
+    }
+}
+
+/// Why a line can't be opened, and whether the remote one of its two addresses is the cause.
+#[derive(Clone, Copy)]
+pub struct OpenRefusal {
+    pub cause: Cause,
+    pub is_remote: bool,
+}
+
+/// Returns the refusal for an error of the system.
+fn refused_by(error: &io::Error) -> OpenRefusal {
+    refused(Cause::System(error.kind()))
+}
+
+fn refused(cause: Cause) -> OpenRefusal
+    ensures { result ≡ record { cause = cause; is_remote = false } }
+{
+    OpenRefusal {
+        cause,
+        is_remote: false,
+    }
+}
+
+impl<'a> Opener<'a> {
+    /// Makes an opener for a line of this name.
+    pub fn new(name: LineName<'a>) -> Opener<'a> {
+        Opener {
+            name,
+            listener: None,
+            connecting: None,
+            which: 0,
+            failed: None,
+        }
+    }
+
+    /// Returns the fault of a line of this name that couldn't be opened.
+    pub(crate) fn fault(&self, refused: OpenRefusal) -> NotOpened<'a>
+        ensures { result ≡ not_opened_of self.now.name refused }
+    {
+        self.name.not_opened(refused)
+    }
+
+    /// Listens if the line is one for callers; else returns `NotYet`.
+    pub(crate) fn listen<N: Net<Stream = net::TcpStream, Listener = net::TcpListener>>(
+        &mut self,
+        net: &N,
+        poller: &mut Poller,
+    ) -> Result<Opened, OpenRefusal>
+        ensures { IfOk result (Begins (line_kind self.old.name)) }
+    {
+        let LineName::Listen(name) = self.name else {
+            return Ok(Opened::NotYet);
+        };
+        match listening(net, poller, name) {
+            Ok((listener, addr)) => {
+                self.listener = Some(listener);
+                Ok(Opened::Listening(addr))
+            }
+            Err(cause) => Err(refused(cause)),
+        }
+    }
+
+    /// Opens the line, accepts a caller, or checks whether a connection is made. Listens first, if
+    /// the line is one for callers and doesn't listen yet.
+    pub fn open<S>(&mut self, system: &S, poller: &mut Poller) -> Result<Opened, OpenRefusal>
+    where
+        S: Net<Stream = net::TcpStream, Listener = net::TcpListener> + Files<File = File>,
+        ensures opened { IfOk result (Opens (line_kind self.old.name)) }
+        ensures begun { IfOk result (SameIfNotYet self.old.connecting self.new.connecting) }
+        ensures listens { IfOk result (SameIfNotYet self.old.listener self.new.listener) }
+    {
+        match self.name {
+            LineName::Connect(name) => self.connect(system, poller, name),
+            LineName::Listen(_) => match &self.listener {
+                None => self.listen(system, poller),
+                Some(listener) => match accepted(listener, poller) {
+                    Ok(opened) => Ok(opened),
+                    Err(error) => Err(refused_by(&error)),
+                },
+            },
+            LineName::Udp { local, remote } => bound(system, poller, local, remote),
+            LineName::Device(path) => device(system, poller, path),
+        }
+    }
+
+    /// Connects to the addresses of a name, one after the other, without blocking.
+    fn connect<N: Net>(
+        &mut self,
+        net: &N,
+        poller: &mut Poller,
+        name: &str,
+    ) -> Result<Opened, OpenRefusal>
+        ensures opened { IfOk result (Opens kind.Connect) }
+        ensures begun { IfOk result (SameIfNotYet self.old.connecting self.new.connecting) }
+        ensures listener { self.new.listener ≡ self.old.listener }
+    {
+        if let Some(stream) = self.connecting.take() {
+            match peer_of(&stream) {
+                Ok(Some(peer)) => {
+                    self.restart();
+                    return Ok(Opened::Connected(Line::Stream(stream), peer));
+                }
+                Ok(None) => {
+                    self.connecting = Some(stream);
+                    return Ok(Opened::NotYet);
+                }
+                Err(kind) => self.fails(kind),
+            }
+        }
+        for _address in 0..u64::MAX {
+            let addr = match address(net, name, self.which) {
+                Ok(Some(addr)) => addr,
+                Ok(None) => break,
+                Err(cause) => {
+                    self.restart();
+                    return Err(refused(cause));
+                }
+            };
+            match begin_connecting(net, poller, addr) {
+                Ok(stream) => {
+                    self.connecting = Some(stream);
+                    return Ok(Opened::Connecting(addr));
+                }
+                Err(error) => self.fails(error.kind()),
+            }
+        }
+        let kind = self.failed.unwrap_or(ErrorKind::InvalidInput);
+        self.restart();
+        Err(refused(Cause::System(kind)))
+    }
+
+    /// Records that an address failed, so that the next one is tried.
+    fn fails(&mut self, kind: ErrorKind)
+        ensures { self.new ≡ record self.old {
+          failed = Some kind;
+          which = min (self.old.which + 1) (2 ^ 64 - 1);
+        } }
+    {
+        self.failed = Some(kind);
+        self.which = self.which.saturating_add(1);
+    }
+
+    /// Has the next connection begin with the first address of its name.
+    fn restart(&mut self)
+        ensures { self.new ≡ record self.old { failed = None; which = 0 } }
+    {
+        self.failed = None;
+        self.which = 0;
+    }
+}
+
+/// Returns the peer of a connection, once it is made, or why it failed.
+fn peer_of(stream: &TcpStream) -> Result<Option<SocketAddr>, ErrorKind> {
+    match stream.take_error() {
+        Ok(Some(error)) | Err(error) => return Err(error.kind()),
+        Ok(None) => {}
+    }
+    match stream.peer_addr() {
+        Ok(peer) => Ok(Some(peer)),
+        Err(error) => match error.kind() {
+            ErrorKind::NotConnected => Ok(None),
+            kind => Err(kind),
+        },
+    }
+}
+
+/// Begins to connect to an address.
+fn begin_connecting<N: Net>(
+    net: &N,
+    poller: &mut Poller,
+    addr: SocketAddr,
+) -> io::Result<TcpStream> {
+    let mut stream = TcpStream::connect(net, addr)?;
+    prepare_stream(&stream);
+    poller.add_socket(&mut stream)?;
+    Ok(stream)
+}
+
+/// Returns a listener at the first address of a name that can be listened at, and that address.
+fn listening<N: Net<Stream = net::TcpStream, Listener = net::TcpListener>>(
+    net: &N,
+    poller: &mut Poller,
+    name: &str,
+) -> Result<(TcpListener, SocketAddr), Cause> {
+    let mut failed = ErrorKind::InvalidInput;
+    for index in 0..usize::MAX {
+        let Some(addr) = address(net, name, index)? else {
+            break;
+        };
+        match listening_at(net, poller, addr) {
+            Ok(listens) => return Ok(listens),
+            Err(error) => failed = error.kind(),
+        }
+    }
+    Err(Cause::System(failed))
+}
+
+fn listening_at<N: Net<Stream = net::TcpStream, Listener = net::TcpListener>>(
+    net: &N,
+    poller: &mut Poller,
+    addr: SocketAddr,
+) -> io::Result<(TcpListener, SocketAddr)> {
+    let listener = net::TcpListener::bind(net, addr)?;
+    let addr = listener.local_addr()?;
+    listener.set_nonblocking(true)?;
+    let mut listener = TcpListener::from_std(listener);
+    poller.add_listener(&mut listener)?;
+    Ok((listener, addr))
+}
+
+/// Accepts the first caller who hasn't disconnected since.
+fn accepted(listener: &TcpListener, poller: &mut Poller) -> io::Result<Opened>
+    ensures { IfOk result (Opens kind.Listen) }
+{
+    for _caller in 0..u64::MAX {
+        match listener.accept() {
+            Ok((mut stream, peer)) => {
+                prepare_stream(&stream);
+                poller.add_socket(&mut stream)?;
+                return Ok(Opened::Connected(Line::Stream(stream), peer));
+            }
+            Err(error) => match error.kind() {
+                // More callers may be pending, and the next wait wouldn't report them again.
+                ErrorKind::Interrupted | ErrorKind::ConnectionAborted => {}
+                ErrorKind::WouldBlock => return Ok(Opened::NotYet),
+                _ => return Err(error),
+            },
+        }
+    }
+    Ok(Opened::NotYet)
+}
+
+/// Returns the address of this index among those of a name.
+fn address<N: Net>(net: &N, name: &str, index: usize) -> Result<Option<SocketAddr>, Cause> {
+    match name.to_socket_addrs(net) {
+        Ok(mut found) => Ok(found.nth(index)),
+        Err(error) => Err(match error.kind() {
+            ErrorKind::InvalidInput => Cause::System(ErrorKind::InvalidInput),
+            _ => Cause::UnknownHost,
+        }),
+    }
+}
+
+/// Returns the address of this index of one end of a line of datagrams; an error if there is none
+/// at all.
+fn address_of_end<N: Net>(
+    net: &N,
+    name: &str,
+    index: usize,
+    is_remote: bool,
+) -> Result<Option<SocketAddr>, OpenRefusal>
+    ensures { IfErr result (λ refused. refused.is_remote ≡ is_remote) }
+{
+    match address(net, name, index) {
+        Ok(None) if index == 0 => Err(OpenRefusal {
+            cause: Cause::UnknownHost,
+            is_remote,
+        }),
+        // Nobody can receive there.
+        Ok(Some(addr)) if is_remote && addr.port() == 0 => Err(OpenRefusal {
+            cause: Cause::System(ErrorKind::InvalidInput),
+            is_remote,
+        }),
+        Ok(found) => Ok(found),
+        Err(cause) => Err(OpenRefusal { cause, is_remote }),
+    }
+}
+
+/// Returns the first address of the remote end that has the family of a local one.
+fn address_like<N: Net>(
+    net: &N,
+    remote: &str,
+    local: SocketAddr,
+) -> Result<Option<SocketAddr>, OpenRefusal> {
+    for index in 0..usize::MAX {
+        match address_of_end(net, remote, index, true) {
+            Ok(Some(addr)) if addr.is_ipv4() != local.is_ipv4() => {}
+            found => return found,
+        }
+    }
+    Ok(None)
+}
+
+/// Returns the first address of the local end whose family the remote end has too, and that of the
+/// remote end.
+fn addresses<N: Net>(
+    net: &N,
+    local: &str,
+    remote: &str,
+) -> Result<(SocketAddr, SocketAddr), OpenRefusal> {
+    for index in 0..usize::MAX {
+        let Some(here) = address_of_end(net, local, index, false)? else {
+            break;
+        };
+        if let Some(there) = address_like(net, remote, here)? {
+            return Ok((here, there));
+        }
+    }
+    Err(OpenRefusal {
+        cause: Cause::OtherFamily,
+        is_remote: true,
+    })
+}
+
+fn bound<N: Net>(
+    net: &N,
+    poller: &mut Poller,
+    local: &str,
+    remote: &str,
+) -> Result<Opened, OpenRefusal>
+    ensures { IfOk result (Opens kind.Datagrams) }
+{
+    let (local, remote) = addresses(net, local, remote)?;
+    match bind(net, poller, local) {
+        Ok(socket) => Ok(Opened::Line(Line::Datagrams(socket, remote))),
+        Err(error) => Err(refused_by(&error)),
+    }
+}
+
+fn bind<N: Net>(net: &N, poller: &mut Poller, local: SocketAddr) -> io::Result<UdpSocket> {
+    let mut socket = UdpSocket::bind(net, local)?;
+    prepare_datagrams(&socket);
+    poller.add_socket(&mut socket)?;
+    Ok(socket)
+}
+
+/// Opens a character device for nonblocking reads and writes, and locks it; nothing else is opened
+/// for writing.
+fn device<S: Files<File = File>>(
+    files: &S,
+    poller: &mut Poller,
+    path: &str,
+) -> Result<Opened, OpenRefusal>
+    ensures { IfOk result (Opens kind.Device) }
+{
+    let kind = match fs::metadata(files, path) {
+        Ok(metadata) => metadata.file_type(),
+        Err(error) => return Err(refused_by(&error)),
+    };
+    if kind.is_dir() {
+        return Err(refused(Cause::System(ErrorKind::IsADirectory)));
+    }
+    if !kind.is_char_device() {
+        return Err(refused(Cause::NotDevice));
+    }
+    let file = match OpenOptions::new().read(true).write(true).open(files, path) {
+        Ok(file) => file,
+        Err(error) => return Err(refused_by(&error)),
+    };
+    if let Err(TryLockError::WouldBlock) = file.try_lock() {
+        return Err(refused(Cause::InUse));
+    }
+    if os::set_nonblocking(file.as_raw_fd(), true) < 0 {
+        return Err(refused(Cause::System(ErrorKind::Other)));
+    }
+    poller.add_device(file.as_raw_fd());
+    Ok(Opened::Line(Line::Device(file)))
+}

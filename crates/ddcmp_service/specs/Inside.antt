@@ -1,6 +1,0 @@
--- Definitions used inside the crate only; no public contract depends on them.
-pub mod Lines
-pub mod Opening
-pub mod Outlets
-pub mod Readiness
-pub mod Sides
