@@ -21,7 +21,7 @@ const TURNS: u64 = 16;
 
 /// Why a bridge has ended.
 #[derive(Clone, Copy, PartialEq, Eq)]
-pub enum Ended {
+pub enum BridgeStop {
     /// A line is down.
     Line,
     /// Its time is over.
@@ -71,21 +71,21 @@ impl Bridge {
 
     /// Passes frames on both ways, until a line is down and all that was received over it was
     /// passed on, the time is over, or the lines stop it.
-    pub fn run<L: Lines>(&mut self, lines: &mut L, ends_at: u64) -> Ended
+    pub fn run<L: Lines>(&mut self, lines: &mut L, ends_at: u64) -> BridgeStop
         ensures goes { GoesOn self.old (L.traffic lines.old) self.new (L.traffic lines.new) }
         ensures faults { (way : WayValue) → faults_on way self.new ≡ faults_on way self.old }
-        ensures over { result ≡ Ended.Line → IsOver self.new (L.down lines.new) }
-        ensures time { result ≡ Ended.Time → ends_at ≤ L.moment lines.new }
+        ensures over { result ≡ BridgeStop.Line → IsOver self.new (L.down lines.new) }
+        ensures time { result ≡ BridgeStop.Time → ends_at ≤ L.moment lines.new }
     {
         for turn in 0..u64::MAX {
             let now = lines.now();
             let moved = self.pass(lines, now);
             if self.is_over(lines) {
-                return Ended::Line;
+                return BridgeStop::Line;
             }
             let passed = lines.now();
             if passed >= ends_at {
-                return Ended::Time;
+                return BridgeStop::Time;
             }
             let most = self.wakes_at(now, ends_at).saturating_sub(passed);
             let passes_on = moved && turn % TURNS != 0;
@@ -93,7 +93,7 @@ impl Bridge {
                 break;
             }
         }
-        Ended::Stopped
+        BridgeStop::Stopped
     }
 
     /// Reads and writes each line once, without blocking; returns whether anything moved.

@@ -10,7 +10,7 @@ ghost use Rattle.ddcmp_bridge.specs.Relaying.{counts_of, fate_given, fates_in, r
 use crate::counts::Counts;
 use crate::delay_line::DelayLine;
 use crate::faults::Faults;
-use crate::relay::{Relay, Taken};
+use crate::relay::{Relay, RelayStep};
 use std::alloc::Global;
 use std::marker::Model;
 
@@ -100,7 +100,7 @@ impl Direction {
 
     /// Takes bytes received now, up to the first that completes a frame or shows that one is
     /// damaged. What its fate leaves of a good frame is then held until it is due.
-    pub fn push(&mut self, now: u64, bytes: &[u8]) -> Taken
+    pub fn push(&mut self, now: u64, bytes: &[u8]) -> RelayStep
         requires room { length self.old.held < self.old.limit }
         requires bytes { 0 < length bytes.now }
         requires countable { self.old.relay.frames.offset + length bytes.now < 2 ^ 64 }

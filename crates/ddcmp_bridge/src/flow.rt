@@ -10,7 +10,7 @@ use crate::counts::Counts;
 use crate::direction::Direction;
 use crate::faults::Faults;
 use crate::lines::{Lines, Needs, Way};
-use crate::relay::Taken;
+use crate::relay::RelayStep;
 use std::alloc::Global;
 use std::marker::Model;
 
@@ -160,7 +160,7 @@ impl Flow {
         ensures fewer { length self.new.waiting < length self.old.waiting }
     {
         let came = &self.came[self.from..self.end];
-        let Taken { used, fate } = self.direction.push(now, came);
+        let RelayStep { used, fate } = self.direction.push(now, came);
         lines.log(way, now, &came[..used], fate);
         self.from += used;
     }

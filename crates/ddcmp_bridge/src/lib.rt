@@ -15,10 +15,10 @@ pub mod lines;
 mod relay;
 mod report;
 
-pub use bridge::{Bridge, Ended};
+pub use bridge::{Bridge, BridgeStop};
 pub use counts::Counts;
 pub use direction::Direction;
 pub use faults::{Fate, Faults};
 pub use lines::{Lines, Needs, Way};
-pub use relay::{Relay, Taken};
+pub use relay::{Relay, RelayStep};
 pub use report::write_report;

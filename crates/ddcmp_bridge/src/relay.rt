@@ -56,7 +56,7 @@ fn is_altered(fate: &Fate) -> u64
 
 /// What a relay did with received bytes.
 #[derive(Clone, Copy)]
-pub struct Taken {
+pub struct RelayStep {
     /// How many it took.
     pub used: usize,
     /// The fate of the good frame that they complete; none if they complete none.
@@ -168,7 +168,7 @@ impl Relay {
 
     /// Takes received bytes, up to the first that completes a frame or shows that one is damaged.
     /// What its fate leaves of a good frame is then waiting.
-    pub fn push(&mut self, bytes: &[u8]) -> Taken
+    pub fn push(&mut self, bytes: &[u8]) -> RelayStep
         requires idle { self.old.waiting ≡ [] }
         requires bytes { 0 < length bytes.now }
         requires countable { self.old.frames.offset + length bytes.now < 2 ^ 64 }
@@ -185,11 +185,11 @@ impl Relay {
     {
         let Pushed { used, item } = self.frames.push_all(bytes);
         let Some(item) = item else {
-            return Taken { used, fate: None };
+            return RelayStep { used, fate: None };
         };
         self.items += 1;
         let Some(header) = good_header(&item) else {
-            return Taken { used, fate: None };
+            return RelayStep { used, fate: None };
         };
         let length = write_frame(&header, self.frames.data(), self.frame.as_mut_slice());
         let fate = draw_fate(&self.faults, &mut self.draws, length);
@@ -199,7 +199,7 @@ impl Relay {
         self.bytes += length as u128;
         self.lost += is_lost(&fate);
         self.altered += is_altered(&fate);
-        Taken {
+        RelayStep {
             used,
             fate: Some(fate),
         }

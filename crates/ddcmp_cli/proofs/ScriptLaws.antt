@@ -122,20 +122,20 @@ opened false true name held before after ending K D W e h = inr (inr h)
 opened false false name held before after ending K D W e h = inr (inr h)
 
 -- one that couldn't be opened
-pub not_opened : (svg ladder : Bool) (name : List ℕ) (held before after : Option (List ℕ))
+pub open_fault : (svg ladder : Bool) (name : List ℕ) (held before after : Option (List ℕ))
     (ending : Ending) (Kept : Type 0) (Draws Writes : Streams → Ending → Type 0)
     → (svg && ladder) ≡ false → IsUnopened name ending ⊎ (ending ≡ Faulted Memory)
     → Keeps before after
     → ShowsBy svg ladder Kept (ReadsFile name held Draws before after ending)
     (ReadsFile name held Writes before after ending)
-not_opened true true name held before after ending K D W e u k =
+open_fault true true name held before after ending K D W e u k =
     let bad : ◌≡◌ true false = e in cc
-not_opened true false name held before after ending K D W e (inl u) k = inl (u, k)
-not_opened true false name held before after ending K D W e (inr m) k = inr (inl (m, k))
-not_opened false true name held before after ending K D W e (inl u) k = inl (u, k)
-not_opened false true name held before after ending K D W e (inr m) k = inr (inl (m, k))
-not_opened false false name held before after ending K D W e (inl u) k = inl (u, k)
-not_opened false false name held before after ending K D W e (inr m) k = inr (inl (m, k))
+open_fault true false name held before after ending K D W e (inl u) k = inl (u, k)
+open_fault true false name held before after ending K D W e (inr m) k = inr (inl (m, k))
+open_fault false true name held before after ending K D W e (inl u) k = inl (u, k)
+open_fault false true name held before after ending K D W e (inr m) k = inr (inl (m, k))
+open_fault false false name held before after ending K D W e (inl u) k = inl (u, k)
+open_fault false false name held before after ending K D W e (inr m) k = inr (inl (m, k))
 
 -- both ends were started, and then all was exchanged
 pub begins : (p q r s : PairState) → q ≡ after_event (event.Start A) p

@@ -6,7 +6,7 @@ ghost use Rattle.ddcmp_cli.specs.TapEndings.{IsUnopened};
 use crate::ending::Ending;
 use crate::fault::Fault;
 use crate::usage::usage;
-use ddcmp_device::{BridgeEnd, BridgeFault, BridgeOptions, LineName, NotOpened, bridge_lines};
+use ddcmp_device::{BridgeEnd, BridgeFault, BridgeOptions, LineName, OpenFault, bridge_lines};
 use ddcmp_io::{Sink, Source};
 use ddcmp_proto::Config;
 use ddcmp_service::{LinkOutcome, Options, ServiceFault, serve_link};
@@ -33,7 +33,7 @@ fn means_nothing(options: &Options) -> bool
 }
 
 /// Returns the ending if the line can't be opened.
-pub(crate) fn no_line(alloc: Global, fault: &NotOpened<'_>) -> Ending
+pub(crate) fn no_line(alloc: Global, fault: &OpenFault<'_>) -> Ending
     ensures told { result ≢ Ending.Fault Fault.Write }
     ensures unopened { IsUnopened result }
 {

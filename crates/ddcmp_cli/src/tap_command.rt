@@ -9,10 +9,10 @@ use crate::ending::Ending;
 use crate::fault::Fault;
 use crate::link_command::no_line;
 use crate::usage::usage;
-use ddcmp_device::{Attempt, Cause, NotOpened};
+use ddcmp_device::{Attempt, Cause, OpenFault};
 use ddcmp_explain::Notation;
 use ddcmp_io::Sink;
-use ddcmp_tap::{NotMade, Notation as TapNotation, Stage, TapFault, tap_again};
+use ddcmp_tap::{CarrierFault, Notation as TapNotation, Stage, TapFault, tap_again};
 use ddcmp_words::TapArgs;
 use std::alloc::Global;
 use std::io::Eprint;
@@ -20,7 +20,7 @@ use std::net::{Net, TcpStream};
 use std::time;
 
 /// Returns the connection that a tap can't make, as for the line of a link.
-fn not_opened<'a>(args: &TapArgs<'a>, why: NotMade) -> NotOpened<'a>
+fn open_fault<'a>(args: &TapArgs<'a>, why: CarrierFault) -> OpenFault<'a>
     ensures { result.attempt ≡ attempt_of why.stage }
 {
     let (attempt, name) = match why.stage {
@@ -28,7 +28,7 @@ fn not_opened<'a>(args: &TapArgs<'a>, why: NotMade) -> NotOpened<'a>
         Stage::Connect => (Attempt::Connect, args.connect),
         Stage::Wait => (Attempt::Open, "epoll"),
     };
-    NotOpened {
+    OpenFault {
         attempt,
         name,
         cause: match why.cause {
@@ -44,7 +44,7 @@ fn ending_of_fault(alloc: Global, args: &TapArgs<'_>, fault: TapFault) -> Ending
     ensures write { fault ≡ TapFault.Report → result ≡ Ending.Fault Fault.Write }
 {
     match fault {
-        TapFault::Carrier(why) => no_line(alloc, &not_opened(args, why)),
+        TapFault::Carrier(why) => no_line(alloc, &open_fault(args, why)),
         TapFault::Read => Ending::Fault(Fault::Read),
         TapFault::Write | TapFault::Report => Ending::Fault(Fault::Write),
         TapFault::Memory => Ending::Fault(Fault::Memory),

@@ -3,7 +3,7 @@
 use crate::same::{System, is};
 use ddcmp_cli::command::read_words;
 use ddcmp_cli::{Command, Ending, Fault, NoCommand, run, run_args};
-use ddcmp_frame::failing::{Pieces, Taken};
+use ddcmp_frame::failing::{BoundedSink, Pieces};
 use std::alloc::Global;
 use std::io::{self, ErrorKind};
 use std::process::Abort;
@@ -64,9 +64,14 @@ fn faults_of_the_system_have_a_line(rt: HostRuntime) -> Result<(), Fail> {
 
 /// Returns the ending of a run in memory, and what it wrote; the write `fails_at` fails (0 for
 /// none).
-fn ran(rt: &impl System, words: &[&str], input: &[u8], fails_at: usize) -> (Ending, Taken<4096>) {
+fn ran(
+    rt: &impl System,
+    words: &[&str],
+    input: &[u8],
+    fails_at: usize,
+) -> (Ending, BoundedSink<4096>) {
     let mut reader = Pieces::of(input);
-    let mut writer = Taken::new().failing_at(fails_at);
+    let mut writer = BoundedSink::new().failing_at(fails_at);
     let ending = run(rt, rt.alloc(), words, &mut reader, &mut writer);
     (ending, writer)
 }
@@ -150,9 +155,9 @@ fn a_far_byte_is_told(rt: HostRuntime) {
 }
 
 /// Returns the ending of a run with arguments from the system, and what it wrote.
-fn ran_args(rt: &impl System, args: io::Result<Vec<String>>) -> (u8, Taken<4096>) {
+fn ran_args(rt: &impl System, args: io::Result<Vec<String>>) -> (u8, BoundedSink<4096>) {
     let mut reader = Pieces::of(b"050100000001fc55");
-    let mut writer = Taken::new();
+    let mut writer = BoundedSink::new();
     let ending = run_args(rt, rt.alloc(), args, &mut reader, &mut writer);
     (ending.status(), writer)
 }

@@ -5,7 +5,7 @@ use ddcmp_cli::{
     BridgeEnd, BridgeFault, BridgeOptions, Connection, Connections, Ending, Fault, Inputs,
     LineName, Lines, LinkOutcome, Options, Role, ServiceFault, run,
 };
-use ddcmp_frame::failing::{Pieces, Taken};
+use ddcmp_frame::failing::{BoundedSink, Pieces};
 use ddcmp_frame::{Sink, Source};
 use std::alloc::Global;
 use std::fmt::Display;
@@ -21,9 +21,9 @@ fn played(
     words: &[&str],
     input: &[u8],
     fails_at: usize,
-) -> (Ending, Taken<4096>) {
+) -> (Ending, BoundedSink<4096>) {
     let mut reader = Pieces::of(input);
-    let mut writer = Taken::new().failing_at(fails_at);
+    let mut writer = BoundedSink::new().failing_at(fails_at);
     let ending = run(system, rt.alloc(), words, &mut reader, &mut writer);
     (ending, writer)
 }
@@ -109,7 +109,7 @@ impl<S> Connections for Poor<'_, S> {
 
     type Reader = Pieces<'static>;
 
-    type Writer = Taken<64>;
+    type Writer = BoundedSink<64>;
 
     ghost peers = { λ _. record {
       opens = λ role addr. Some true;
@@ -120,10 +120,10 @@ impl<S> Connections for Poor<'_, S> {
         &self,
         _role: Role,
         _addr: &str,
-    ) -> Option<Connection<Pieces<'static>, Taken<64>>> {
+    ) -> Option<Connection<Pieces<'static>, BoundedSink<64>>> {
         Some(Connection {
             reader: Pieces::of(STACK),
-            writer: Taken::new(),
+            writer: BoundedSink::new(),
         })
     }
 }

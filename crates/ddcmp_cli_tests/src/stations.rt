@@ -2,7 +2,7 @@
 // ask for is tested in `worked`.
 use crate::same::{System, is};
 use ddcmp_cli::{Ending, Fault, run};
-use ddcmp_frame::failing::{Pieces, Taken};
+use ddcmp_frame::failing::{BoundedSink, Pieces};
 use std::io::{Read, Write};
 use std::net::{TcpListener, TcpStream};
 use std::test::Fail;
@@ -36,9 +36,9 @@ fn words<'a>(
 }
 
 /// Returns the ending of a station, and what it wrote.
-fn stationed(rt: &impl System, words: &[&str], fails_at: usize) -> (Ending, Taken<4096>) {
+fn stationed(rt: &impl System, words: &[&str], fails_at: usize) -> (Ending, BoundedSink<4096>) {
     let mut reader = Pieces::of(b"");
-    let mut writer = Taken::new().failing_at(fails_at);
+    let mut writer = BoundedSink::new().failing_at(fails_at);
     let ending = run(rt, rt.alloc(), words, &mut reader, &mut writer);
     (ending, writer)
 }

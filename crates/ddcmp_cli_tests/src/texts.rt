@@ -1,11 +1,11 @@
 //! Each fault has its text, including those that the program reports with another's text.
 use crate::same::is;
 use ddcmp_cli::{DumpFault, ExplainFault, Fault, NotDumped, ServeFault, TapFault};
-use ddcmp_device::{Attempt, Cause, NotOpened};
+use ddcmp_device::{Attempt, Cause, OpenFault};
 use ddcmp_io::cause::words_of;
 use ddcmp_line::ScriptFault;
 use ddcmp_station::LineFault;
-use ddcmp_tap::{NotMade, Stage};
+use ddcmp_tap::{CarrierFault, Stage};
 use std::fmt::Display;
 use std::io::ErrorKind;
 use std::process::Abort;
@@ -85,7 +85,7 @@ fn taps(rt: HostRuntime) -> Result<(), Fail> {
         ),
     ];
     for (stage, cause, text) in rows {
-        reads(&rt, &TapFault::Carrier(NotMade { stage, cause }), text)?;
+        reads(&rt, &TapFault::Carrier(CarrierFault { stage, cause }), text)?;
     }
     reads(&rt, &TapFault::Read, "read")?;
     reads(&rt, &TapFault::Write, "write")?;
@@ -117,7 +117,7 @@ fn tells(
     text: &str,
 ) -> Result<(), Fail> {
     let name = "it";
-    let fault = NotOpened {
+    let fault = OpenFault {
         attempt,
         name,
         cause,

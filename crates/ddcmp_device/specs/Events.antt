@@ -8,7 +8,7 @@ use Rattle.ddcmp_device.specs.declared.fault.Attempt.{Attempt}
 use Rattle.ddcmp_device.specs.declared.fault.Attempt.TheVariants as attempt
 use Rattle.ddcmp_device.specs.declared.fault.Cause.{Cause}
 use Rattle.ddcmp_device.specs.declared.fault.Cause.TheVariants as cause
-use Rattle.ddcmp_device.specs.declared.fault.NotOpened.{NotOpened}
+use Rattle.ddcmp_device.specs.declared.fault.OpenFault.{OpenFault}
 
 abbrev pub attempt_text : Attempt → List ℕ
 attempt_text attempt.Connect = codes "connect"
@@ -28,8 +28,8 @@ cause_text cause.Full = codes "no space left on device"
 cause_text cause.Failed = codes "failed"
 
 -- a line that couldn't be opened, with its name
-abbrev pub not_opened_text : NotOpened → List ℕ
-not_opened_text f =
+abbrev pub open_fault_text : OpenFault → List ℕ
+open_fault_text f =
     attempt_text f.attempt ++ (codes " " ++ (f.name.now ++ (codes ": " ++ cause_text f.cause)))
 
 abbrev pub event_text : Event → List ℕ
@@ -38,4 +38,4 @@ event_text (event.Connecting address) = codes "connecting " ++ socket_text addre
 event_text (event.Connected address) = codes "connected " ++ socket_text address
 event_text (event.Retry fault seconds) =
     codes "ddcmp: "
-    ++ (not_opened_text fault ++ (codes "; retry in " ++ (decimal seconds ++ codes " s")))
+    ++ (open_fault_text fault ++ (codes "; retry in " ++ (decimal seconds ++ codes " s")))

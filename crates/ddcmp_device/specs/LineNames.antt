@@ -4,7 +4,7 @@ use Rattle.std.specs.Prelude.{Bool, if◌then◌else◌}
 use Rattle.std.specs.Borrow.{Bor}
 use Rattle.ddcmp_device.specs.declared.fault.Attempt.{Attempt}
 use Rattle.ddcmp_device.specs.declared.fault.Attempt.TheVariants as attempt
-use Rattle.ddcmp_device.specs.declared.fault.NotOpened.{NotOpened}
+use Rattle.ddcmp_device.specs.declared.fault.OpenFault.{OpenFault}
 use Rattle.ddcmp_device.specs.declared.line_name.LineName.{LineName}
 use Rattle.ddcmp_device.specs.declared.line_name.LineName.TheVariants.{Connect, Listen, Udp}
 use Rattle.ddcmp_device.specs.declared.line_name.LineName.TheVariants.{Device}
@@ -47,8 +47,8 @@ blamed is_remote (Udp local remote) = if is_remote then remote else local
 blamed is_remote (Device path) = path
 
 -- what is reported
-abbrev pub not_opened_of : LineName → OpenRefusal → NotOpened
-not_opened_of name refused = record {
+abbrev pub open_fault_of : LineName → OpenRefusal → OpenFault
+open_fault_of name refused = record {
   attempt = attempt_of (line_kind name);
   name = blamed refused.is_remote name;
   cause = refused.cause;

@@ -6,13 +6,13 @@ use crate::bridge_live::LiveLines;
 use crate::bridge_save::{Save, remove};
 use crate::bridge_side::Sides;
 use crate::bridge_trace::Trace;
-use crate::fault::{Attempt, Cause, NotOpened};
+use crate::fault::{Attempt, Cause, OpenFault};
 use crate::line::Line;
 use crate::line_name::LineName;
 use crate::opener::{OpenRefusal, Opened, Opener};
 use crate::poller::Poller;
 use crate::system::System;
-use ddcmp_bridge::{Bridge, Counts, Ended, Faults, Lines, Way};
+use ddcmp_bridge::{Bridge, BridgeStop, Counts, Faults, Lines, Way};
 use ddcmp_io::{Down, Wanted};
 use ddcmp_station::{Clock, Elapsed};
 use ddcmp_tap::{NoMemory, Notation, Side};
@@ -36,7 +36,7 @@ pub struct BridgeEnd {
 #[derive(Clone, Copy)]
 pub enum BridgeFault<'a> {
     /// A line couldn't be opened, or a file created.
-    Open(NotOpened<'a>),
+    Open(OpenFault<'a>),
     /// An allocation failed, before anything was done.
     Memory,
 }
@@ -100,7 +100,7 @@ fn save_in<'a, S: Files<File = File>>(
     };
     match Save::new(files, name) {
         Ok(save) => Ok(Some(save)),
-        Err(cause) => Err(BridgeFault::Open(NotOpened {
+        Err(cause) => Err(BridgeFault::Open(OpenFault {
             attempt: Attempt::Create,
             name,
             cause,
@@ -112,7 +112,7 @@ fn save_in<'a, S: Files<File = File>>(
 fn no_poller<'a>(kind: ErrorKind) -> BridgeFault<'a> {
     match kind {
         ErrorKind::OutOfMemory => BridgeFault::Memory,
-        kind => BridgeFault::Open(NotOpened {
+        kind => BridgeFault::Open(OpenFault {
             attempt: Attempt::Open,
             name: "epoll",
             cause: Cause::System(kind),
@@ -290,7 +290,7 @@ impl Ways {
         report_down(system, "second", second);
         report_unsaved(system, options.save_first, lines.there.unsaved());
         report_unsaved(system, options.save_second, lines.back.unsaved());
-        let was_stopped = ended == Ended::Stopped || lines.is_stopped();
+        let was_stopped = ended == BridgeStop::Stopped || lines.is_stopped();
         let has_failed = has_failed(first) || has_failed(second) || was_stopped;
         lines.sides.close(&mut lines.clock);
         end_of(&bridge, &lines.there, &lines.back, has_failed)
@@ -321,7 +321,7 @@ fn report_unsaved<E: Eprint>(system: &E, name: Option<&str>, failed: Option<Caus
     let (Some(name), Some(cause)) = (name, failed) else {
         return;
     };
-    let fault = NotOpened {
+    let fault = OpenFault {
         attempt: Attempt::Write,
         name,
         cause,

@@ -1,5 +1,5 @@
 //! What is reported about a line on standard error.
-use crate::fault::NotOpened;
+use crate::fault::OpenFault;
 use std::fmt;
 use std::net::SocketAddr;
 
@@ -10,7 +10,7 @@ pub enum Event<'a> {
     Connecting(SocketAddr),
     Connected(SocketAddr),
     /// The line couldn't be opened; the next attempt is after this many seconds.
-    Retry(NotOpened<'a>, u64),
+    Retry(OpenFault<'a>, u64),
 }
 
 impl fmt::Display for Event<'_> {

@@ -72,17 +72,17 @@ impl Cause {
 
 /// A line or file that couldn't be opened: what was attempted, with which name, and why it failed.
 #[derive(Clone, Copy)]
-pub struct NotOpened<'a> {
+pub struct OpenFault<'a> {
     pub attempt: Attempt,
     pub name: &'a str,
     pub cause: Cause,
 }
 
-impl fmt::Display for NotOpened<'_> {
+impl fmt::Display for OpenFault<'_> {
     ghost use Rattle.std.specs.Prelude.{Some};
-    ghost use Rattle.ddcmp_device.specs.Events.{not_opened_text};
+    ghost use Rattle.ddcmp_device.specs.Events.{open_fault_text};
 
-    ghost output = { λ fault. Some (not_opened_text fault) };
+    ghost output = { λ fault. Some (open_fault_text fault) };
 
     fn fmt<W: fmt::Write>(&self, f: &mut fmt::Formatter<W>) -> fmt::Result {
         let attempt = self.attempt.words();

@@ -23,7 +23,7 @@ pub use bridge::{BridgeEnd, BridgeFault, BridgeOptions, bridge_lines};
 pub use datagram::Framing;
 pub use ddcmp_bridge::Counts;
 pub use event::Event;
-pub use fault::{Attempt, Cause, NotOpened};
+pub use fault::{Attempt, Cause, OpenFault};
 pub use line::Line;
 pub use line_name::LineName;
 pub use opener::{OpenRefusal, Opened, Opener};

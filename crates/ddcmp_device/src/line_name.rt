@@ -1,8 +1,8 @@
 //! The names of lines.
 ghost use Rattle.std.specs.Prelude.{◌≡◌, ◌≢◌, MatchOption};
-ghost use Rattle.ddcmp_device.specs.LineNames.{word_of, IsPlain, line_kind, not_opened_of};
+ghost use Rattle.ddcmp_device.specs.LineNames.{word_of, IsPlain, line_kind, open_fault_of};
 
-use crate::fault::{Attempt, NotOpened};
+use crate::fault::{Attempt, OpenFault};
 use crate::opener::OpenRefusal;
 use ddcmp_io::LineKind;
 
@@ -53,8 +53,8 @@ impl<'a> LineName<'a> {
 
     /// Returns what is reported if the line couldn't be opened. Of the two addresses of a line of
     /// datagrams it has the one that failed.
-    pub fn not_opened(self, refused: OpenRefusal) -> NotOpened<'a>
-        ensures { result ≡ not_opened_of self.entry refused }
+    pub fn open_fault(self, refused: OpenRefusal) -> OpenFault<'a>
+        ensures { result ≡ open_fault_of self.entry refused }
     {
         let (attempt, name) = match self {
             LineName::Connect(name) => (Attempt::Connect, name),
@@ -65,7 +65,7 @@ impl<'a> LineName<'a> {
             }
             LineName::Device(name) => (Attempt::Open, name),
         };
-        NotOpened {
+        OpenFault {
             attempt,
             name,
             cause: refused.cause,

@@ -1,12 +1,12 @@
 //! Opens a line by its name.
 ghost use Rattle.std.specs.Prelude.{◌≡◌, ◌+◌, ◌-◌, ◌^◌, IfErr, IfOk, None, Some, false, min};
-ghost use Rattle.ddcmp_device.specs.LineNames.{line_kind, not_opened_of};
+ghost use Rattle.ddcmp_device.specs.LineNames.{line_kind, open_fault_of};
 ghost use Rattle.ddcmp_device.specs.Opening.{Begins, SameIfNotYet, Opens, event_of};
 ghost use Rattle.ddcmp_device.specs.Opening.{line_of};
 ghost use Rattle.ddcmp_io.specs.declared.line_kind.LineKind.TheVariants as kind;
 
 use crate::event::Event;
-use crate::fault::{Cause, NotOpened};
+use crate::fault::{Cause, OpenFault};
 use crate::line::Line;
 use crate::line_name::LineName;
 use crate::poller::Poller;
@@ -116,10 +116,10 @@ impl<'a> Opener<'a> {
     }
 
     /// Returns the fault of a line of this name that couldn't be opened.
-    pub(crate) fn fault(&self, refused: OpenRefusal) -> NotOpened<'a>
-        ensures { result ≡ not_opened_of self.now.name refused }
+    pub(crate) fn fault(&self, refused: OpenRefusal) -> OpenFault<'a>
+        ensures { result ≡ open_fault_of self.now.name refused }
     {
-        self.name.not_opened(refused)
+        self.name.open_fault(refused)
     }
 
     /// Listens if the line is one for callers; else returns `NotYet`.

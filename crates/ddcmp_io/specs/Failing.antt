@@ -26,7 +26,7 @@ pieces_of bytes = record {
 
 -- A sink over an array: the bytes that it holds and whether a write failed; how many writes there
 -- were, how many bytes fit, the maximum of a write, and which write fails (0 for none).
-pub record TakenView : Type 0 where
+pub record BoundedSinkView : Type 0 where
   pub bytes : List ℕ
   pub broken : Bool
   pub writes : ℕ
@@ -35,7 +35,7 @@ pub record TakenView : Type 0 where
   pub fails_at : ℕ
 
 -- a sink for `room` bytes before any write
-abbrev pub taken_nothing : ℕ → TakenView
+abbrev pub taken_nothing : ℕ → BoundedSinkView
 taken_nothing room = record {
   bytes = [];
   broken = false;

@@ -158,7 +158,7 @@ impl<'a> Source for Pieces<'a> {
 /// A sink that keeps what was written, at most N bytes, and fails when it is full. Contracts see
 /// the bytes that it holds, whether a write failed and the requested faults.
 #[derive(Drop)]
-pub struct Taken<const N: usize> {
+pub struct BoundedSink<const N: usize> {
     bytes: [u8; N],
     len: usize,
     room: usize,
@@ -168,11 +168,11 @@ pub struct Taken<const N: usize> {
     failed: bool,
 }
 
-impl<const N: usize> Model for Taken<N> {
+impl<const N: usize> Model for BoundedSink<N> {
     ghost use Rattle.std.specs.Prelude.{◌<◌, ◌≤◌, take};
-    ghost use Rattle.ddcmp_io.specs.Failing.{TakenView};
+    ghost use Rattle.ddcmp_io.specs.Failing.{BoundedSinkView};
 
-    ghost Value = { TakenView };
+    ghost Value = { BoundedSinkView };
 
     ghost view = { λ s. record {
       bytes = take s.len s.bytes;
@@ -186,11 +186,11 @@ impl<const N: usize> Model for Taken<N> {
     ghost invariant = { λ s. (s.len ≤ s.room) × (s.room ≤ N) × (0 < s.most) };
 }
 
-impl<const N: usize> Taken<N> {
+impl<const N: usize> BoundedSink<N> {
     pub fn new() -> Self
         ensures { result ≡ taken_nothing N }
     {
-        Taken::full_at(N)
+        BoundedSink::full_at(N)
     }
 
     /// Returns a sink that is full at this many bytes.
@@ -198,7 +198,7 @@ impl<const N: usize> Taken<N> {
         requires { room ≤ N }
         ensures { result ≡ taken_nothing room }
     {
-        Taken {
+        BoundedSink {
             bytes: [0; N],
             len: 0,
             room,
@@ -214,14 +214,14 @@ impl<const N: usize> Taken<N> {
         requires { 0 < most }
         ensures { result ≡ record self.entry { most = most } }
     {
-        Taken { most, ..self }
+        BoundedSink { most, ..self }
     }
 
     /// Has the write number `call`, counted from 1, fail; 0 for none.
     pub fn failing_at(self, call: usize) -> Self
         ensures { result ≡ record self.entry { fails_at = call } }
     {
-        Taken {
+        BoundedSink {
             fails_at: call,
             ..self
         }
@@ -235,7 +235,7 @@ impl<const N: usize> Taken<N> {
     }
 }
 
-impl<const N: usize> Sink for Taken<N> {
+impl<const N: usize> Sink for BoundedSink<N> {
     ghost use Rattle.std.specs.Prelude.{◌↔◌, ◌⊎◌, ◌+◌, ◌-◌, ◌^◌, None, Some, IfSome};
     ghost use Rattle.std.specs.Prelude.{false, is_none, length, min};
     ghost use Rattle.ddcmp_io.specs.Device.{WriteTakes};

@@ -1,6 +1,6 @@
 //! A script drawn on a paper of the test's own: the marks of each line, in order.
 use ddcmp_frame::Sink;
-use ddcmp_frame::failing::{Pieces, Taken};
+use ddcmp_frame::failing::{BoundedSink, Pieces};
 use ddcmp_line::{Config, Direct, End, Pair, script_viewed};
 use ddcmp_picture::{Drawing, Fate, Mark, Paper};
 
@@ -97,7 +97,7 @@ fn marks_of_each_line(rt: HostRuntime) {
     };
     let mut drawing = Drawing::new(rt.alloc(), list, &pair);
     let mut reader = Pieces::of(script());
-    let mut shown = Taken::<16>::new();
+    let mut shown = BoundedSink::<16>::new();
     let done = script_viewed(
         rt.alloc(),
         &mut pair,

@@ -1,6 +1,6 @@
 //! Texts that end early, junk after the beginning of a frame, and long texts of one byte.
 use ddcmp_explain::{Form, explain};
-use ddcmp_frame::failing::{Pieces, Taken};
+use ddcmp_frame::failing::{BoundedSink, Pieces};
 use ddcmp_frame::{Item, Reader};
 use std::process::Abort;
 use std::test::Fail;
@@ -17,7 +17,7 @@ const FALSE_START: [u8; 9] = [0x81, 0x05, 0x01, 0x00, 0x00, 0x00, 0x01, 0xFC, 0x
 /// Checks what explain writes for these bytes.
 fn explains(rt: &(impl Abort + AllocGlobal), bytes: &[u8], text: &str) {
     let mut reader = Pieces::of(bytes);
-    let mut writer = Taken::<256>::new();
+    let mut writer = BoundedSink::<256>::new();
     let answer = explain(rt.alloc(), &mut reader, &mut writer, Form::Raw, 16383);
     assert_eq!(rt; answer, Ok(()));
     assert_eq!(rt; writer.bytes(), text.as_bytes());

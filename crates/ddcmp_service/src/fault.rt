@@ -1,11 +1,11 @@
 //! Why a service failed.
-use ddcmp_device::NotOpened;
+use ddcmp_device::OpenFault;
 
 /// Why a service ended before all was delivered.
 #[derive(Clone, Copy)]
 pub enum ServiceFault<'a> {
     /// The line couldn't be opened.
-    Open(NotOpened<'a>),
+    Open(OpenFault<'a>),
     /// The line ended, or its time was over, before the station ran or all of the input was read.
     Ended,
     /// The number of messages that were read and never acknowledged.

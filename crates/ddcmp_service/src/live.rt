@@ -174,7 +174,7 @@ fn report(session: &mut Session, event: Option<Event<'_>>)
 impl<S: System, C: Clock + Drop, R: Source, W: Sink> Devices for Live<'_, S, C, R, W> {
     ghost use Rattle.std.specs.Prelude.{IfOk, OnErr, None, Some, is_some};
     ghost use Rattle.ddcmp_service.specs.Events.{Reports};
-    ghost use Rattle.ddcmp_device.specs.LineNames.{line_kind, not_opened_of};
+    ghost use Rattle.ddcmp_device.specs.LineNames.{line_kind, open_fault_of};
     ghost use Rattle.ddcmp_device.specs.Opening.{SameIfNotYet, Opens, event_of, line_of};
     ghost use Rattle.ddcmp_device.specs.declared.event.Event.TheVariants as event;
     ghost use Rattle.ddcmp_device.specs.declared.opener.Opened.{Opened};
@@ -206,10 +206,10 @@ impl<S: System, C: Clock + Drop, R: Source, W: Sink> Devices for Live<'_, S, C, 
         ensures log { session.new.log
             ≡ record session.old.log { errors = session.new.log.errors } }
         ensures reports { Reports
-            (Some (event.Retry (not_opened_of self.old.name refusal) seconds))
+            (Some (event.Retry (open_fault_of self.old.name refusal) seconds))
             session.old.log.errors session.new.log.errors }
     {
-        let fault = self.name.not_opened(refusal);
+        let fault = self.name.open_fault(refusal);
         report(session, Some(Event::Retry(fault, seconds)));
     }
 

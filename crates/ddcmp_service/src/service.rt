@@ -1,7 +1,7 @@
 //! A link over a line, from its opening to its end.
 ghost use Rattle.std.specs.Prelude.{◌≡◌, ◌≢◌, ◌↔◌, Err, IsTrue, false};
 
-use crate::ending::Ended;
+use crate::ending::ServiceEnd;
 use crate::fault::ServiceFault;
 use crate::live::{Live, Parts};
 use ddcmp_device::{LineName, Poller, System};
@@ -40,7 +40,7 @@ where
 /// Returns how a service over a line of this name ends: with a fault of the output if there is one,
 /// else with one of the input, else as the run ended.
 fn ending_of<'a, R: Source, W: Sink>(
-    ended: Result<LinkOutcome, Ended>,
+    ended: Result<LinkOutcome, ServiceEnd>,
     line: LineName<'a>,
     reader: &R,
     writer: &W,
@@ -69,7 +69,7 @@ fn serve<S: System, R: Source, W: Sink>(
     options: Options,
     reader: &mut R,
     writer: &mut W,
-) -> Result<LinkOutcome, Ended> {
+) -> Result<LinkOutcome, ServiceEnd> {
     let poller = match Poller::new(system, alloc) {
         Ok(poller) => poller,
         Err(error) => return Err(no_poller(error.kind())),
@@ -87,7 +87,7 @@ fn serve<S: System, R: Source, W: Sink>(
         LineKind::Connect | LineKind::Listen | LineKind::Device => None,
     };
     let Ok(mut devices) = Live::new(parts, alloc, datagrams) else {
-        return Err(Ended::Memory);
+        return Err(ServiceEnd::Memory);
     };
     let began = match system.since_1970() {
         Ok(since_1970) => u64::try_from(since_1970.as_millis()).ok(),
@@ -95,18 +95,18 @@ fn serve<S: System, R: Source, W: Sink>(
     };
     match run_link(alloc, options, line.kind(), began, &mut devices) {
         Ok(served) => Ok(served),
-        Err(LinkFault::Refused(_)) => Err(Ended::Memory),
-        Err(LinkFault::Stopped(stop)) => Err(Ended::Stopped(stop)),
+        Err(LinkFault::Refused(_)) => Err(ServiceEnd::Memory),
+        Err(LinkFault::Stopped(stop)) => Err(ServiceEnd::Stopped(stop)),
     }
 }
 
 /// Returns why the run of a link that can't wait for several devices ended.
-fn no_poller(kind: ErrorKind) -> Ended
-    ensures memory { kind ≡ ErrorKind.OutOfMemory → result ≡ Ended.Memory }
-    ensures other { kind ≢ ErrorKind.OutOfMemory → result ≡ Ended.CannotWait kind }
+fn no_poller(kind: ErrorKind) -> ServiceEnd
+    ensures memory { kind ≡ ErrorKind.OutOfMemory → result ≡ ServiceEnd.Memory }
+    ensures other { kind ≢ ErrorKind.OutOfMemory → result ≡ ServiceEnd.CannotWait kind }
 {
     match kind {
-        ErrorKind::OutOfMemory => Ended::Memory,
-        kind => Ended::CannotWait(kind),
+        ErrorKind::OutOfMemory => ServiceEnd::Memory,
+        kind => ServiceEnd::CannotWait(kind),
     }
 }

@@ -43,8 +43,8 @@ passed-run s new now at is =
 
 ends-done : (time restarted given_up done : Bool)
     → cond time (Some end_of.Time) (cond restarted (Some end_of.Restarted)
-    (cond given_up (Some end_of.GivenUp) (cond done (Some end_of.Delivered) None)))
-    ≡ Some end_of.Delivered
+    (cond given_up (Some end_of.GivenUp) (cond done (Some end_of.Done) None)))
+    ≡ Some end_of.Done
     → done ≡ true
 ends-done time restarted given_up true e = refl
 ends-done true restarted given_up false e = cc
@@ -60,7 +60,7 @@ spent-or-ran false read true line goes_on quiet e = inr refl
 spent-or-ran false true false line goes_on quiet e = inl e
 spent-or-ran false false false line goes_on quiet e = inl e
 
-pub may-at-end : (s : SessionView) → end s ≡ Some end_of.Delivered → MayEndWell s
+pub may-at-end : (s : SessionView) → end s ≡ Some end_of.Done → MayEndWell s
 may-at-end s e =
     spent-or-ran (is_delivered s) s.is_read s.course.has_run s.has_line (stays s)
     (nat_le (lingers_until s) s.course.moment)
@@ -136,7 +136,7 @@ left-kept s over keeps (inr (shut, inr (inr down))) =
 
 module _ {R : Type 0} {ran : Result (Unit {0}) (the_data R)} {h0 h1 : BuffersView}
     {s0 s : SessionView} {k0 k1 k2 : Option Traffic} (over : GoesOver h0 s0 k0 h1 s k1)
-    (keeps : KeepsFaults k1 k2) (ended : ran ≡ Ok tt → end s ≡ Some end_of.Delivered)
+    (keeps : KeepsFaults k1 k2) (ended : ran ≡ Ok tt → end s ≡ Some end_of.Done)
     (left : ran ≡ Err Left → IsLeft h0 s0 k0 s k1)
     (shut : IfNotOpened ran (s.options.again ≡ false))
     (time : ran ≡ Err (Device fault.Time) → IsTimeOver s) where

@@ -38,7 +38,7 @@ IsTimeOver s = (end s ≡ Some end_of.Time) ⊎ (s.output.waiting ≢ [])
 abbrev pub MayStop : BuffersView → SessionView → Option Traffic → SessionView → Option Traffic
     → Type 0
 MayStop held old before s after =
-    (end s ≡ Some end_of.Delivered)
+    (end s ≡ Some end_of.Done)
     ⊎ (IsLeft held old before s after ⊎ IsTimeOver s)
 
 -- if a line couldn't be opened

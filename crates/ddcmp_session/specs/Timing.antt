@@ -8,7 +8,7 @@ use Rattle.ddcmp_station.specs.Linking.{wakes_at as timer_at}
 use Rattle.ddcmp_io.specs.declared.line_kind.LineKind.{LineKind}
 use Rattle.ddcmp_io.specs.declared.line_kind.LineKind.TheVariants.{Listen}
 use Rattle.ddcmp_session.specs.declared.session.End.{End}
-use Rattle.ddcmp_session.specs.declared.session.End.TheVariants.{Delivered, Time, Restarted}
+use Rattle.ddcmp_session.specs.declared.session.End.TheVariants.{Done, Time, Restarted}
 use Rattle.ddcmp_session.specs.declared.session.End.TheVariants.{GivenUp}
 use Rattle.ddcmp_session.specs.Course.{after_opening_failed, never}
 use Rattle.ddcmp_session.specs.Session.{SessionView, after_time, is_delivered}
@@ -62,7 +62,7 @@ end s =
     if nat_le (run_ends_at s) s.course.moment then Some Time
     else if s.has_line && s.course.peer_restarted then Some Restarted
     else if s.has_line && is_given_up s then Some GivenUp
-    else if is_done s && nat_le (lingers_until s) s.course.moment then Some Delivered
+    else if is_done s && nat_le (lingers_until s) s.course.moment then Some Done
     else None
 
 -- ---- when the timers are to be handled at the latest

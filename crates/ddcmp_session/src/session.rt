@@ -29,7 +29,7 @@ const ERRORS_ROOM: usize = 65536;
 #[derive(Clone, Copy, Debug, PartialEq, Eq)]
 pub enum End {
     /// All of the input was delivered, or lost with a line that has ended.
-    Delivered,
+    Done,
     /// The time limit of the run was reached.
     Time,
     /// The peer restarted, which halted the station.

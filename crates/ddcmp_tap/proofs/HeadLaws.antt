@@ -8,7 +8,7 @@ use Rattle.ddcmp_io.specs.declared.device.WriteFailed.{WriteFailed}
 use Rattle.ddcmp_io.specs.Written.{Known, Writes}
 use Rattle.ddcmp_io.proofs.WrittenLaws.{part-append}
 use Rattle.ddcmp_tap.specs.declared.notation.Notation.{Notation}
-use Rattle.ddcmp_tap.specs.declared.tap_fault.NotMade.{NotMade}
+use Rattle.ddcmp_tap.specs.declared.tap_fault.CarrierFault.{CarrierFault}
 use Rattle.ddcmp_tap.specs.declared.tap_fault.TapFault.{TapFault}
 use Rattle.ddcmp_tap.specs.declared.tap_fault.TapFault.TheVariants.{Carrier, Read, Write, Report}
 use Rattle.ddcmp_tap.specs.declared.tap_fault.TapFault.TheVariants.{Memory}
@@ -44,7 +44,7 @@ no-memory head notation timed max old =
     unsaid head notation timed max old old Memory (0, Appends-nil old)
 
 pub no-carrier
-    : (head : List ℕ) (notation : Notation) (timed : Bool) (max : ℕ) (old : Known) (why : NotMade)
+    : (head : List ℕ) (notation : Notation) (timed : Bool) (max : ℕ) (old : Known) (why : CarrierFault)
     → Says head notation timed max old old (Err (Carrier why))
 no-carrier head notation timed max old why =
     unsaid head notation timed max old old (Carrier why) (Keeps-refl old)
@@ -52,7 +52,7 @@ no-carrier head notation timed max old why =
 -- nothing has begun, for one reason or the other
 pub not-begun
     : (head : List ℕ) (notation : Notation) (timed : Bool) (max : ℕ) (old : Known) (fault : TapFault)
-    → (fault ≡ Memory) ⊎ ((why : NotMade) × (fault ≡ Carrier why))
+    → (fault ≡ Memory) ⊎ ((why : CarrierFault) × (fault ≡ Carrier why))
     → Says head notation timed max old old (Err fault)
 not-begun head notation timed max old fault (inl e) =
     subst (λ f. Says head notation timed max old old (Err f)) (sym e)
@@ -72,7 +72,7 @@ no-head head notation timed max old new (Err f) e w =
     (part-append old new head (tap_text notation max (moment timed) []) w)
 
 behind : (old mid new : Known) (head text : List ℕ) (result : Result (Unit {0}) TapFault)
-    → ((why : NotMade) → result ≢ Err (Carrier why)) → Appends old mid head
+    → ((why : CarrierFault) → result ≢ Err (Carrier why)) → Appends old mid head
     → WritesText mid new result text
     → WritesText old new result (head ++ text)
 behind old mid new head text (Ok u) met a w = Appends-trans old mid new head text a w
@@ -86,7 +86,7 @@ behind old mid new head text (Err Memory) met a w = part-behind old mid new head
 pub said-below
     : (head : List ℕ) (notation : Notation) (timed : Bool) (max : ℕ) (old mid new : Known)
     (wrote : Result (Unit {0}) WriteFailed) (result : Result (Unit {0}) TapFault)
-    → ((why : NotMade) → result ≢ Err (Carrier why)) → is_err wrote ≡ false
+    → ((why : CarrierFault) → result ≢ Err (Carrier why)) → is_err wrote ≡ false
     → Writes old mid wrote head
     → Says [] notation timed max mid new result → Says head notation timed max old new result
 said-below head notation timed max old mid new (Ok u) result met e w s = record {

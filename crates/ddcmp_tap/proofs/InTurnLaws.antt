@@ -7,7 +7,7 @@ use Rattle.std.proofs.KnownBytes.{Appends-kept, Appends-nil, Appends-trans}
 use Rattle.std.proofs.lemmas.List.Elements.{All-cons, All-nil}
 use Rattle.ddcmp_io.specs.Written.{Known}
 use Rattle.ddcmp_tap.specs.declared.notation.Notation.{Notation}
-use Rattle.ddcmp_tap.specs.declared.tap_fault.NotMade.{NotMade}
+use Rattle.ddcmp_tap.specs.declared.tap_fault.CarrierFault.{CarrierFault}
 use Rattle.ddcmp_tap.specs.declared.tap_fault.TapFault.{TapFault}
 use Rattle.ddcmp_tap.specs.declared.tap_fault.TapFault.TheVariants.{Carrier, Read, Write, Report}
 use Rattle.ddcmp_tap.specs.declared.tap_fault.TapFault.TheVariants.{Memory}
@@ -82,9 +82,9 @@ ends notation timed max old mid new fault w s = record {
 }
 
 -- no connection could be made
-pub not_made : (notation : Notation) (timed : Bool) (max : ℕ) (old mid : Known) (why : NotMade)
+pub carrier_fault : (notation : Notation) (timed : Bool) (max : ℕ) (old mid : Known) (why : CarrierFault)
     → Whole notation timed max old mid → SaysInTurn notation timed max old mid (Carrier why)
-not_made notation timed max old mid why w =
+carrier_fault notation timed max old mid why w =
     ends notation timed max old mid mid (Carrier why) w
     (no-carrier (head_of notation) notation timed max mid why)
 

@@ -14,7 +14,7 @@ use Rattle.ddcmp_tap.specs.declared.side.Side.{Side}
 use Rattle.ddcmp_tap.specs.declared.side.Side.TheVariants.{Caller, Called}
 use Rattle.ddcmp_tap.specs.Passing.{DirectionView, HasTold, Passes, Tells}
 use Rattle.ddcmp_tap.specs.Tapped.{tapped_last, tapped_lines}
-use Rattle.ddcmp_tap.specs.declared.tap_fault.NotMade.{NotMade}
+use Rattle.ddcmp_tap.specs.declared.tap_fault.CarrierFault.{CarrierFault}
 use Rattle.ddcmp_tap.specs.declared.tap_fault.TapFault.{TapFault}
 use Rattle.ddcmp_tap.specs.declared.tap_fault.TapFault.TheVariants.{Carrier, Read, Write, Report}
 use Rattle.ddcmp_tap.specs.declared.tap_fault.TapFault.TheVariants.{Memory}
@@ -170,7 +170,7 @@ pub record Tells-by (was now : FlowView) (stamp : Option ℕ) (old new : Known)
   pub same : IsSame was.direction now.direction
 
 not-side : {A : Type 0} (fault : TapFault)
-    → ((why : NotMade) × (fault ≡ Carrier why)) ⊎ (fault ≡ Report) ⊎ (fault ≡ Memory)
+    → ((why : CarrierFault) × (fault ≡ Carrier why)) ⊎ (fault ≡ Report) ⊎ (fault ≡ Memory)
     → IsOfSide fault → A
 not-side fault (inl (why, e)) (inl o) = let bad : Carrier why ≡ Read = sym e ∙ o in cc
 not-side fault (inl (why, e)) (inr o) = let bad : Carrier why ≡ Write = sym e ∙ o in cc
@@ -180,7 +180,7 @@ not-side fault (inr (inr e)) (inl o) = let bad : Memory ≡ Read = sym e ∙ o i
 not-side fault (inr (inr e)) (inr o) = let bad : Memory ≡ Write = sym e ∙ o in cc
 
 not-report : {A : Type 0} (fault : TapFault)
-    → ((why : NotMade) × (fault ≡ Carrier why)) ⊎ (fault ≡ Read) ⊎ (fault ≡ Write)
+    → ((why : CarrierFault) × (fault ≡ Carrier why)) ⊎ (fault ≡ Read) ⊎ (fault ≡ Write)
     → IsOfReport fault → A
 not-report fault (inl (why, e)) (inl o) = let bad : Carrier why ≡ Report = sym e ∙ o in cc
 not-report fault (inl (why, e)) (inr o) = let bad : Carrier why ≡ Memory = sym e ∙ o in cc

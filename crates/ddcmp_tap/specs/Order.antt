@@ -12,28 +12,28 @@ use Rattle.ddcmp_frame.specs.declared.item.Item.{Item}
 use Rattle.ddcmp_frame.specs.declared.item.Item.TheVariants as item
 use Rattle.ddcmp_tap.specs.declared.order.SideSummary.{SideSummary}
 use Rattle.ddcmp_tap.specs.declared.order.Order.{Order}
-use Rattle.ddcmp_tap.specs.declared.order.Word.{Word}
-use Rattle.ddcmp_tap.specs.declared.order.Word.TheVariants.{Bad, Maint, Data, Ack, Nak, Rep, Strt}
-use Rattle.ddcmp_tap.specs.declared.order.Word.TheVariants.{Stack}
+use Rattle.ddcmp_tap.specs.declared.order.ItemSummary.{ItemSummary}
+use Rattle.ddcmp_tap.specs.declared.order.ItemSummary.TheVariants.{Bad, Maint, Data, Ack, Nak, Rep, Strt}
+use Rattle.ddcmp_tap.specs.declared.order.ItemSummary.TheVariants.{Stack}
 use Rattle.ddcmp_tap.specs.declared.side.Side.{Side}
 use Rattle.ddcmp_tap.specs.declared.side.Side.TheVariants.{Caller, Called}
 
 -- ---- what the order needs to know about an item
 
 -- a NAK of reason 3 is the reply to a REP
-abbrev pub control_word : ControlType → ShortFields → Word
+abbrev pub control_word : ControlType → ShortFields → ItemSummary
 control_word control.Ack h = Ack h.resp
 control_word control.Nak h = Nak h.resp (h.sub == 3)
 control_word control.Rep h = Rep
 control_word control.Strt h = Strt
 control_word control.Stack h = Stack
 
-abbrev pub header_word : Header → Word
+abbrev pub header_word : Header → ItemSummary
 header_word (header.Data h) = Data h.resp h.num
 header_word (header.Maint h) = Maint
 header_word (header.Control h) = control_word h.kind h
 
-abbrev pub word_of : Item → Word
+abbrev pub word_of : Item → ItemSummary
 word_of (item.Good offset h) = header_word h
 word_of (item.HeaderCheck offset) = Bad
 word_of (item.DataCheck offset h) = Bad
@@ -47,7 +47,7 @@ abbrev pub is_undrawn : SideSummary → SideSummary → ℕ → Bool
 is_undrawn own other resp = nat_lt (distance own.resp other.top) (distance own.resp resp)
 
 -- An acknowledgement must wait until its data were drawn once.
-unfoldable pub must_wait : SideSummary → SideSummary → Word → Bool
+unfoldable pub must_wait : SideSummary → SideSummary → ItemSummary → Bool
 must_wait own other Bad = false
 must_wait own other Maint = false
 must_wait own other (Data resp num) = is_undrawn own other resp
@@ -72,7 +72,7 @@ is_early other resp is_reply =
 
 -- An item also waits for the item that it probably replies to. After its STRT or STACK a side's
 -- data, ACKs, NAKs and REPs wait for a reply to that.
-unfoldable pub waits : SideSummary → SideSummary → Word → Bool
+unfoldable pub waits : SideSummary → SideSummary → ItemSummary → Bool
 waits own other Bad = false
 waits own other Maint = false
 waits own other (Data resp num) = own.starts || is_ahead own other resp
@@ -108,7 +108,7 @@ abbrev pub higher : SideSummary → SideSummary → ℕ → ℕ
 higher own other num = if is_after other own.top num then num else own.top
 
 -- the summary of the side that the item is from
-unfoldable pub after_own : SideSummary → SideSummary → Word → SideSummary
+unfoldable pub after_own : SideSummary → SideSummary → ItemSummary → SideSummary
 after_own own other Bad = record own { repeats = true }
 after_own own other Maint = own
 after_own own other (Data resp num) =
@@ -130,7 +130,7 @@ abbrev pub raised : SideSummary → SideSummary → ℕ → ℕ
 raised own other resp = if is_undrawn own other resp then resp else other.top
 
 -- the summary of the other side
-unfoldable pub after_other : SideSummary → SideSummary → Word → SideSummary
+unfoldable pub after_other : SideSummary → SideSummary → ItemSummary → SideSummary
 after_other own other Bad = other
 after_other own other Maint = other
 after_other own other (Data resp num) =
@@ -155,7 +155,7 @@ after_other own other Rep = record other { starts = false }
 after_other own other Strt = other
 after_other own other Stack = record other { starts = false }
 
-abbrev pub after_drawn : Order → Side → Word → Order
+abbrev pub after_drawn : Order → Side → ItemSummary → Order
 after_drawn o Caller word =
     record {
       turn = Called;
@@ -188,7 +188,7 @@ nothing_drawn = record { turn = Caller; caller = no_side_drawn; called = no_side
 -- ---- which comes next
 
 -- whether `resp` acknowledges these data, or data after them
-abbrev pub is_for : ℕ → Word → Bool
+abbrev pub is_for : ℕ → ItemSummary → Bool
 is_for resp (Data its_resp num) = nat_lt (distance num resp) 128
 is_for resp Bad = false
 is_for resp Maint = false
@@ -199,7 +199,7 @@ is_for resp Strt = false
 is_for resp Stack = false
 
 -- whether one item acknowledges the data of the other, or data after them
-abbrev pub refers : Word → Word → Bool
+abbrev pub refers : ItemSummary → ItemSummary → Bool
 refers (Data resp num) theirs = is_for resp theirs
 refers (Ack resp) theirs = is_for resp theirs
 refers (Nak resp is_reply) theirs = is_for resp theirs
@@ -212,20 +212,20 @@ refers Stack theirs = false
 -- The side whose turn it is goes first if its item doesn't wait. If both items wait, one that
 -- doesn't wait for data goes first. If both wait for data, these may be missing; then the side
 -- whose turn it is goes first, unless its item acknowledges the other.
-abbrev pub goes_first : SideSummary → SideSummary → Word → Word → Bool
+abbrev pub goes_first : SideSummary → SideSummary → ItemSummary → ItemSummary → Bool
 goes_first own other mine theirs =
     if must_wait own other mine then must_wait other own theirs && not (refers mine theirs)
     else if waits own other mine then must_wait other own theirs || waits other own theirs
     else true
 
-abbrev pub next_of_both : Side → Order → Word → Word → Side
+abbrev pub next_of_both : Side → Order → ItemSummary → ItemSummary → Side
 next_of_both Caller o up down =
     if goes_first o.caller o.called up down then Caller else Called
 next_of_both Called o up down =
     if goes_first o.called o.caller down up then Called else Caller
 
 -- the side whose item is drawn next, from the next items of the caller and of the called
-abbrev pub next_side : Order → Option Word → Option Word → Option Side
+abbrev pub next_side : Order → Option ItemSummary → Option ItemSummary → Option Side
 next_side o None None = None
 next_side o (Some up) None = Some Caller
 next_side o None (Some down) = Some Called

@@ -4,7 +4,7 @@ ghost use Rattle.ddcmp_frame.specs.Limits.{MAX_COUNT};
 
 use crate::front::write_plain_front;
 use crate::no_memory::NoMemory;
-use crate::order::{Order, Word};
+use crate::order::{ItemSummary, Order};
 use crate::rung::write_rung;
 use crate::side::Side;
 use ddcmp_explain::{
@@ -154,9 +154,9 @@ impl<R: Source + Drop> Capture<R> {
     }
 
     /// Returns what the order needs to know about the next item, if there is one.
-    fn word(&self) -> Option<Word> {
+    fn word(&self) -> Option<ItemSummary> {
         match &self.next {
-            Some(item) => Some(Word::of(item)),
+            Some(item) => Some(ItemSummary::of(item)),
             None => None,
         }
     }

@@ -14,7 +14,7 @@ use crate::proxy::pump;
 use crate::side::Side;
 use crate::socket_options::keep_alive;
 use crate::sockets::{Socket, Sockets, ToSocket};
-use crate::tap_fault::{NotMade, Stage, TapFault};
+use crate::tap_fault::{CarrierFault, Stage, TapFault};
 use ddcmp_io::{FromRead, Sink, WriteFailed, write_all};
 use ddcmp_station::Elapsed;
 use mio::net::TcpStream;
@@ -101,14 +101,14 @@ fn connect_to<N: Net<Stream = net::TcpStream>>(net: &N, name: &str) -> io::Resul
 }
 
 /// Returns why there is no connection at an address: this error, or that no host has its name.
-fn not_made<N: Net>(net: &N, stage: Stage, name: &str, error: &io::Error) -> NotMade
+fn carrier_fault<N: Net>(net: &N, stage: Stage, name: &str, error: &io::Error) -> CarrierFault
     ensures stage { result.stage ≡ stage }
 {
     let is_unknown = match name.to_socket_addrs(net) {
         Ok(_found) => false,
         Err(unknown) => unknown.kind() != ErrorKind::InvalidInput,
     };
-    NotMade {
+    CarrierFault {
         stage,
         cause: if is_unknown { None } else { Some(error.kind()) },
     }
@@ -117,11 +117,11 @@ fn not_made<N: Net>(net: &N, stage: Stage, name: &str, error: &io::Error) -> Not
 /// Returns the fault of a tap that can't wait for both sides.
 fn no_waiting(error: &io::Error) -> TapFault
     ensures { (result ≡ TapFault.Memory)
-        ⊎ ((why : NotMade) × (result ≡ TapFault.Carrier why)) }
+        ⊎ ((why : CarrierFault) × (result ≡ TapFault.Carrier why)) }
 {
     match error.kind() {
         ErrorKind::OutOfMemory => TapFault::Memory,
-        kind => TapFault::Carrier(NotMade {
+        kind => TapFault::Carrier(CarrierFault {
             stage: Stage::Wait,
             cause: Some(kind),
         }),
@@ -146,13 +146,13 @@ pub fn tap<S: Net<Stream = net::TcpStream> + Eprint + time::Clock, W: Sink>(
     requires high { max ≤ MAX_COUNT }
     ensures says { Says (head_of notation) notation timed max
         (W.contents writer.old) (W.contents writer.new) result }
-    ensures carrier { (why : NotMade) → result ≡ Err (TapFault.Carrier why)
+    ensures carrier { (why : CarrierFault) → result ≡ Err (TapFault.Carrier why)
         → writer.new ≡ writer.old }
     ensures broken { (result ≡ Err TapFault.Report) ↔ IsTrue (W.broken writer.new) }
 {
     match accept_first(system, listen) {
         Ok(caller) => carry(system, alloc, caller, connect, notation, timed, max, writer),
-        Err(error) => Err(TapFault::Carrier(not_made(system, Stage::Listen, listen, &error))),
+        Err(error) => Err(TapFault::Carrier(carrier_fault(system, Stage::Listen, listen, &error))),
     }
 }
 
@@ -172,7 +172,7 @@ fn carry<S: Net<Stream = net::TcpStream> + Eprint + time::Clock, W: Sink>(
     requires high { max ≤ MAX_COUNT }
     ensures says { Says (head_of notation) notation timed max
         (W.contents writer.old) (W.contents writer.new) result }
-    ensures carrier { (why : NotMade) → result ≡ Err (TapFault.Carrier why)
+    ensures carrier { (why : CarrierFault) → result ≡ Err (TapFault.Carrier why)
         → writer.new ≡ writer.old }
     ensures broken { (result ≡ Err TapFault.Report) ↔ IsTrue (W.broken writer.new) }
 {
@@ -183,7 +183,7 @@ fn carry<S: Net<Stream = net::TcpStream> + Eprint + time::Clock, W: Sink>(
     let mut called = match connect_to(system, connect) {
         Ok(called) => called,
         Err(error) => {
-            let why = not_made(system, Stage::Connect, connect, &error);
+            let why = carrier_fault(system, Stage::Connect, connect, &error);
             return Err(TapFault::Carrier(why));
         }
     };
@@ -251,14 +251,19 @@ pub fn tap_again<S: Net<Stream = net::TcpStream> + Eprint + time::Clock, W: Sink
 {
     let listener = match TcpListener::bind(system, listen) {
         Ok(listener) => listener,
-        Err(error) => return TapFault::Carrier(not_made(system, Stage::Listen, listen, &error)),
+        Err(error) => return TapFault::Carrier(carrier_fault(
+            system,
+            Stage::Listen,
+            listen,
+            &error,
+        )),
     };
     report_port(system, &listener, listen);
     for turn in 0..u64::MAX {
         let caller = match accept_next(&listener) {
             Ok(caller) => caller,
             Err(error) => {
-                return TapFault::Carrier(not_made(system, Stage::Listen, listen, &error));
+                return TapFault::Carrier(carrier_fault(system, Stage::Listen, listen, &error));
             }
         };
         let ended = carry(system, alloc, caller, connect, notation, timed, max, writer);
@@ -266,7 +271,7 @@ pub fn tap_again<S: Net<Stream = net::TcpStream> + Eprint + time::Clock, W: Sink
             return fault;
         }
     }
-    TapFault::Carrier(NotMade {
+    TapFault::Carrier(CarrierFault {
         stage: Stage::Listen,
         cause: Some(ErrorKind::Other),
     })
@@ -289,7 +294,7 @@ fn between<C: time::Clock, W: Sink>(
     requires high { max ≤ MAX_COUNT }
     ensures says { Says (head_of notation) notation timed max
         (W.contents writer.old) (W.contents writer.new) result }
-    ensures met { (why : NotMade) → result ≢ Err (TapFault.Carrier why) }
+    ensures met { (why : CarrierFault) → result ≢ Err (TapFault.Carrier why) }
     ensures broken { (result ≡ Err TapFault.Report) ↔ IsTrue (W.broken writer.new) }
 {
     let Ok(up) = Direction::new(alloc, Side::Caller, notation, max) else {

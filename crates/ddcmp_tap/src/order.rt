@@ -16,7 +16,7 @@ use ddcmp_num::Seq;
 
 /// What the order needs to know about an item: what it acknowledges, and its own number.
 #[derive(Clone, Copy)]
-pub enum Word {
+pub enum ItemSummary {
     /// An item that isn't a good frame.
     Bad,
     Maint,
@@ -31,9 +31,9 @@ pub enum Word {
     Stack,
 }
 
-impl Word {
+impl ItemSummary {
     /// Returns what the order needs to know about an item.
-    pub fn of(item: &Item) -> Word
+    pub fn of(item: &Item) -> ItemSummary
         ensures { result ≡ word_of item.now }
     {
         match item {
@@ -41,17 +41,22 @@ impl Word {
             Item::HeaderCheck(_)
             | Item::DataCheck(_, _)
             | Item::TooLong(_, _)
-            | Item::Format(_, _) => Word::Bad,
+            | Item::Format(_, _) => ItemSummary::Bad,
         }
     }
 
     /// Returns whether it acknowledges the data of the other side's next item, or data after them.
-    fn refers(self, theirs: Word) -> bool
+    fn refers(self, theirs: ItemSummary) -> bool
         ensures { result ≡ refers_to_other self theirs }
     {
         match self {
-            Word::Data(resp, _) | Word::Ack(resp) | Word::Nak(resp, _) => theirs.is_met(resp),
-            Word::Bad | Word::Maint | Word::Rep | Word::Strt | Word::Stack => false,
+            ItemSummary::Data(resp, _) | ItemSummary::Ack(resp) | ItemSummary::Nak(resp, _) =>
+                theirs.is_met(resp),
+            ItemSummary::Bad
+            | ItemSummary::Maint
+            | ItemSummary::Rep
+            | ItemSummary::Strt
+            | ItemSummary::Stack => false,
         }
     }
 
@@ -60,37 +65,37 @@ impl Word {
         ensures { result ≡ is_for_data resp self }
     {
         match self {
-            Word::Data(_, num) => distance(num, resp) < 128,
-            Word::Bad
-            | Word::Maint
-            | Word::Ack(_)
-            | Word::Nak(_, _)
-            | Word::Rep
-            | Word::Strt
-            | Word::Stack => false,
+            ItemSummary::Data(_, num) => distance(num, resp) < 128,
+            ItemSummary::Bad
+            | ItemSummary::Maint
+            | ItemSummary::Ack(_)
+            | ItemSummary::Nak(_, _)
+            | ItemSummary::Rep
+            | ItemSummary::Strt
+            | ItemSummary::Stack => false,
         }
     }
 }
 
-fn of_header(header: &Header) -> Word
+fn of_header(header: &Header) -> ItemSummary
     ensures { result ≡ header_word header.now }
 {
     match header {
-        Header::Data(h) => Word::Data(h.resp, h.num),
-        Header::Maint(_) => Word::Maint,
+        Header::Data(h) => ItemSummary::Data(h.resp, h.num),
+        Header::Maint(_) => ItemSummary::Maint,
         Header::Control(h) => of_control(h),
     }
 }
 
-fn of_control(h: &Short) -> Word
+fn of_control(h: &Short) -> ItemSummary
     ensures { result ≡ control_word h.now.kind h.now }
 {
     match h.kind {
-        ControlType::Ack => Word::Ack(h.resp),
-        ControlType::Nak => Word::Nak(h.resp, h.sub == 3),
-        ControlType::Rep => Word::Rep,
-        ControlType::Strt => Word::Strt,
-        ControlType::Stack => Word::Stack,
+        ControlType::Ack => ItemSummary::Ack(h.resp),
+        ControlType::Nak => ItemSummary::Nak(h.resp, h.sub == 3),
+        ControlType::Rep => ItemSummary::Rep,
+        ControlType::Strt => ItemSummary::Strt,
+        ControlType::Stack => ItemSummary::Stack,
     }
 }
 
@@ -141,14 +146,18 @@ impl SideSummary {
 
     /// Returns whether an item acknowledges data that weren't drawn at all.
     #[tactic(auto, unfolding(crate::specs::Order::must_wait))]
-    fn must_wait(&self, other: &SideSummary, word: Word) -> bool
+    fn must_wait(&self, other: &SideSummary, word: ItemSummary) -> bool
         ensures { result ≡ must_wait self.now other.now word }
     {
         match word {
-            Word::Data(resp, _) | Word::Ack(resp) | Word::Nak(resp, _) => {
+            ItemSummary::Data(resp, _) | ItemSummary::Ack(resp) | ItemSummary::Nak(resp, _) => {
                 self.is_undrawn(other, resp)
             }
-            Word::Bad | Word::Maint | Word::Rep | Word::Strt | Word::Stack => false,
+            ItemSummary::Bad
+            | ItemSummary::Maint
+            | ItemSummary::Rep
+            | ItemSummary::Strt
+            | ItemSummary::Stack => false,
         }
     }
 
@@ -179,20 +188,20 @@ impl SideSummary {
 
     /// Returns whether an item waits for one of the other side that it probably replies to.
     #[tactic(auto, unfolding(crate::specs::Order::waits))]
-    fn waits(&self, other: &SideSummary, word: Word) -> bool
+    fn waits(&self, other: &SideSummary, word: ItemSummary) -> bool
         ensures { result ≡ waits_for_other self.now other.now word }
     {
         match word {
-            Word::Bad | Word::Maint | Word::Strt => false,
-            Word::Data(resp, _) => self.starts || self.is_ahead(other, resp),
-            Word::Ack(resp) => {
+            ItemSummary::Bad | ItemSummary::Maint | ItemSummary::Strt => false,
+            ItemSummary::Data(resp, _) => self.starts || self.is_ahead(other, resp),
+            ItemSummary::Ack(resp) => {
                 self.starts || self.is_ahead(other, resp) || self.is_unasked(other, resp)
             }
-            Word::Nak(resp, is_reply) => {
+            ItemSummary::Nak(resp, is_reply) => {
                 self.starts || self.is_ahead(other, resp) || other.is_early(resp, is_reply)
             }
-            Word::Rep => self.starts,
-            Word::Stack => !other.starts,
+            ItemSummary::Rep => self.starts,
+            ItemSummary::Stack => !other.starts,
         }
     }
 
@@ -250,25 +259,25 @@ impl SideSummary {
 
     /// Updates the summary for an item of this side.
     #[tactic(auto, unfolding(crate::specs::Order::after_own))]
-    fn take_own(&mut self, other: &SideSummary, word: Word)
+    fn take_own(&mut self, other: &SideSummary, word: ItemSummary)
         ensures { self.new ≡ after_of_own self.old other.now word }
     {
         match word {
-            Word::Bad => self.repeats = true,
-            Word::Maint => {}
-            Word::Data(resp, num) => {
+            ItemSummary::Bad => self.repeats = true,
+            ItemSummary::Maint => {}
+            ItemSummary::Data(resp, num) => {
                 let top = self.higher(other, num);
                 self.take_data(other, num);
                 self.resp = resp;
                 self.top = top;
             }
-            Word::Ack(resp) | Word::Nak(resp, _) => self.resp = resp,
-            Word::Rep => {
+            ItemSummary::Ack(resp) | ItemSummary::Nak(resp, _) => self.resp = resp,
+            ItemSummary::Rep => {
                 self.asks = true;
                 self.repeats = true;
             }
-            Word::Strt => self.begin(),
-            Word::Stack => {
+            ItemSummary::Strt => self.begin(),
+            ItemSummary::Stack => {
                 self.begin();
                 self.repeats = true;
             }
@@ -304,18 +313,18 @@ impl SideSummary {
 
     /// Updates the summary for an item of the other side, whose summary was `own`.
     #[tactic(auto, unfolding(crate::specs::Order::after_other))]
-    fn take_other(&mut self, own: &SideSummary, word: Word)
+    fn take_other(&mut self, own: &SideSummary, word: ItemSummary)
         ensures { self.new ≡ after_of_other own.now self.old word }
     {
         match word {
-            Word::Bad | Word::Maint | Word::Strt => {}
-            Word::Data(resp, _) => {
+            ItemSummary::Bad | ItemSummary::Maint | ItemSummary::Strt => {}
+            ItemSummary::Data(resp, _) => {
                 let top = own.raised(self, resp);
                 self.acknowledge(own, resp);
                 self.top = top;
                 self.starts = false;
             }
-            Word::Ack(resp) => {
+            ItemSummary::Ack(resp) => {
                 let top = own.raised(self, resp);
                 self.acknowledge(own, resp);
                 self.top = top;
@@ -323,7 +332,7 @@ impl SideSummary {
                 self.asks = false;
                 self.repeats = false;
             }
-            Word::Nak(resp, _) => {
+            ItemSummary::Nak(resp, _) => {
                 *self = SideSummary {
                     num: resp,
                     top: own.raised(self, resp),
@@ -334,12 +343,12 @@ impl SideSummary {
                     goes_back: true,
                 };
             }
-            Word::Rep | Word::Stack => self.starts = false,
+            ItemSummary::Rep | ItemSummary::Stack => self.starts = false,
         }
     }
 
     /// Returns whether its item goes before the other side's, if it is its turn.
-    fn goes_first(&self, other: &SideSummary, mine: Word, theirs: Word) -> bool
+    fn goes_first(&self, other: &SideSummary, mine: ItemSummary, theirs: ItemSummary) -> bool
         ensures { result ≡ goes_first self.now other.now mine theirs }
     {
         if self.must_wait(other, mine) {
@@ -373,7 +382,7 @@ impl Order {
     }
 
     /// Returns the side whose item is drawn next, from the next item of each, if there is one.
-    pub fn next(&self, caller: Option<Word>, called: Option<Word>) -> Option<Side>
+    pub fn next(&self, caller: Option<ItemSummary>, called: Option<ItemSummary>) -> Option<Side>
         ensures { result ≡ next_side self.now caller called }
     {
         match (caller, called) {
@@ -384,7 +393,7 @@ impl Order {
         }
     }
 
-    fn next_of_both(&self, up: Word, down: Word) -> Side
+    fn next_of_both(&self, up: ItemSummary, down: ItemSummary) -> Side
         ensures { result ≡ next_of_both self.now.turn self.now up down }
     {
         let goes_first = match self.turn {
@@ -399,7 +408,7 @@ impl Order {
     }
 
     /// Updates the order for an item of a side.
-    pub fn draw(&mut self, side: Side, word: Word)
+    pub fn draw(&mut self, side: Side, word: ItemSummary)
         ensures { self.new ≡ after_drawn self.old side word }
     {
         let (caller, called) = (self.caller, self.called);

@@ -13,7 +13,7 @@ ghost use Rattle.ddcmp_tap.specs.declared.side.Side.TheVariants.{Called as Calle
 
 use crate::flow::Flow;
 use crate::outlet::Outlet;
-use crate::tap_fault::{NotMade, TapFault};
+use crate::tap_fault::{CarrierFault, TapFault};
 use ddcmp_io::{Sink, Source, Worst};
 use ddcmp_station::Clock;
 
@@ -76,7 +76,7 @@ fn turn<R: Source, O: Outlet, W: Sink>(
     ensures ends { Both (λ it. Ends (flow_of R.left O.contents O.closed it)) up.new down.new }
     ensures fine { IsOk result → Both (λ it. R.state it.reader ≢ Worst.Failed) up.new down.new }
     ensures room { length buffer.new ≡ length buffer.old }
-    ensures met { (why : NotMade) → result ≢ Err (TapFault.Carrier why) }
+    ensures met { (why : CarrierFault) → result ≢ Err (TapFault.Carrier why) }
     ensures broken { (result ≡ Err TapFault.Report) ↔ IsTrue (W.broken writer.new) }
 {
     let moved = pass_both(up, down, buffer);
@@ -109,7 +109,7 @@ fn until_over<R: Source, O: Outlet, K: Readiness, C: Clock, W: Sink>(
         (flow_of R.left O.contents O.closed down.old) start (W.contents writer.old)
         → Stops notation timed max up0 (flow_of R.left O.contents O.closed up.new) down0
         (flow_of R.left O.contents O.closed down.new) start (W.contents writer.new) result }
-    ensures met { (why : NotMade) → result ≢ Err (TapFault.Carrier why) }
+    ensures met { (why : CarrierFault) → result ≢ Err (TapFault.Carrier why) }
     ensures broken { (result ≡ Err TapFault.Report) ↔ IsTrue (W.broken writer.new) }
     ensures ends { Both (λ it. Ends (flow_of R.left O.contents O.closed it)) up.new down.new }
     ensures done { result ≡ Ok tt
@@ -160,7 +160,7 @@ fn conclude<R: Source, O: Outlet, C: Clock, W: Sink>(
         (flow_of R.left O.contents O.closed down.old) start (W.contents writer.old)
         → Pumps notation timed max up0 (flow_of R.left O.contents O.closed up.new) down0
         (flow_of R.left O.contents O.closed down.new) start (W.contents writer.new) result }
-    ensures met { (why : NotMade) → result ≢ Err (TapFault.Carrier why) }
+    ensures met { (why : CarrierFault) → result ≢ Err (TapFault.Carrier why) }
     ensures broken { (result ≡ Err TapFault.Report) ↔ IsTrue (W.broken writer.new) }
 {
     let at = stamp(clock, timed);
@@ -196,7 +196,7 @@ pub fn pump<R: Source, O: Outlet, K: Readiness, C: Clock, W: Sink>(
         (flow_of R.left O.contents O.closed up.old) (flow_of R.left O.contents O.closed up.new)
         (flow_of R.left O.contents O.closed down.old) (flow_of R.left O.contents O.closed down.new)
         (W.contents writer.old) (W.contents writer.new) result }
-    ensures met { (why : NotMade) → result ≢ Err (TapFault.Carrier why) }
+    ensures met { (why : CarrierFault) → result ≢ Err (TapFault.Carrier why) }
     ensures broken { (result ≡ Err TapFault.Report) ↔ IsTrue (W.broken writer.new) }
 {
     let ended = until_over(up, down, readiness, clock, timed, buffer, writer);

@@ -15,13 +15,13 @@ pub enum Stage {
 
 /// A connection that can't be made or waited for.
 #[derive(Clone, Copy, PartialEq, Eq)]
-pub struct NotMade {
+pub struct CarrierFault {
     pub stage: Stage,
     /// The system's error; none if no host has the name.
     pub cause: Option<ErrorKind>,
 }
 
-impl fmt::Display for NotMade {
+impl fmt::Display for CarrierFault {
     fn fmt<W: fmt::Write>(&self, f: &mut fmt::Formatter<W>) -> fmt::Result {
         f.write_str(match self.stage {
             Stage::Listen => "listen: ",
@@ -32,7 +32,7 @@ impl fmt::Display for NotMade {
     }
 }
 
-impl NotMade {
+impl CarrierFault {
     /// Returns the cause in words.
     pub(crate) fn reason(&self) -> &'static str {
         match self.cause {
@@ -46,7 +46,7 @@ impl NotMade {
 #[derive(Clone, Copy, PartialEq, Eq)]
 pub enum TapFault {
     /// A connection can't be made.
-    Carrier(NotMade),
+    Carrier(CarrierFault),
     /// Reading from a side failed.
     Read,
     /// Writing to a side failed.
@@ -59,7 +59,7 @@ pub enum TapFault {
 impl fmt::Display for TapFault {
     fn fmt<W: fmt::Write>(&self, f: &mut fmt::Formatter<W>) -> fmt::Result {
         match self {
-            TapFault::Carrier(not_made) => not_made.fmt(f),
+            TapFault::Carrier(carrier_fault) => carrier_fault.fmt(f),
             TapFault::Read => f.write_str("read"),
             TapFault::Write | TapFault::Report => f.write_str("write"),
             TapFault::Memory => f.write_str("memory"),

@@ -1,7 +1,7 @@
 // Two captured directions as a ladder, in an order that neither of them has.
 use crate::same::is;
 use ddcmp_explain::{DetectedFault, Form, InputForm, NotDumped};
-use ddcmp_frame::failing::{Pieces, Taken};
+use ddcmp_frame::failing::{BoundedSink, Pieces};
 use ddcmp_tap::{Capture, DrawFault, Side, draw_captures};
 use std::process::Abort;
 
@@ -22,7 +22,7 @@ fn row(
     let Ok(mut two) = Capture::new(alloc, second, written, Side::Called, no, 16383) else {
         panic!(rt; "no memory");
     };
-    let mut writer: Taken<2048> = Taken::new();
+    let mut writer: BoundedSink<2048> = BoundedSink::new();
     let told = draw_captures(&mut one, &mut two, &mut writer);
     is(rt, &told, answer);
     is(rt, writer.bytes(), text);
@@ -217,7 +217,7 @@ fn skipped_bytes(rt: HostRuntime) {
     let Ok(mut two) = Capture::new(rt.alloc(), second, raw, Side::Called, true, 16383) else {
         panic!(&rt; "no memory");
     };
-    let mut writer: Taken<512> = Taken::new();
+    let mut writer: BoundedSink<512> = BoundedSink::new();
     is(&rt, draw_captures(&mut one, &mut two, &mut writer), Ok(()));
     let text: &[u8] = b"> 0 discarded 3
 |-- ACK resp=0 ------------------------------------------------------------->|

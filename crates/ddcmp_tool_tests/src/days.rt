@@ -291,12 +291,12 @@ fn ends(rt: &impl Abort, two: &mut Two, now: u64) {
     two.a.input_ended();
     two.b.input_ended();
     two.wake(now);
-    assert!(rt; two.a.end() == Some(End::Delivered));
+    assert!(rt; two.a.end() == Some(End::Done));
     assert!(rt; (two.b.end(), two.b.wakes_at()) == (None, now.saturating_add(500)));
     two.b.handle_timeout(now.saturating_add(499));
     assert!(rt; two.b.end().is_none());
     two.b.handle_timeout(now.saturating_add(500));
-    assert!(rt; two.b.end() == Some(End::Delivered));
+    assert!(rt; two.b.end() == Some(End::Done));
 }
 
 /// A message that the peer refuses is retransmitted once in each period of the reply timer.

@@ -1,7 +1,7 @@
 // Explains inputs whose form is detected, in chunks.
 use crate::same::is;
 use ddcmp_explain::{DetectedFault, NotDumped, Notation, Style, explain_detected};
-use ddcmp_frame::failing::{Pieces, Taken};
+use ddcmp_frame::failing::{BoundedSink, Pieces};
 use std::process::Abort;
 
 /// An ACK and three bytes of data: raw, as `xxd` writes them, and as in logs.
@@ -36,7 +36,7 @@ fn row(
 ) {
     assert!(rt; 0 < most);
     let mut reader = Pieces::of(input).at_most(most).failing_at(fails_at);
-    let mut writer: Taken<256> = Taken::new();
+    let mut writer: BoundedSink<256> = BoundedSink::new();
     let style = Style::items(Notation::Plain);
     let told = explain_detected(rt.alloc(), &mut reader, &mut writer, style, 16383);
     is(rt, &told, answer);

@@ -1,7 +1,7 @@
 // Explains dumps in chunks; compared with lines written by hand.
 use crate::same::is;
 use ddcmp_explain::{DumpFault, NotDumped, Notation, Style, explain_dump};
-use ddcmp_frame::failing::{Pieces, Taken};
+use ddcmp_frame::failing::{BoundedSink, Pieces};
 use std::io;
 use std::process::Abort;
 
@@ -26,7 +26,7 @@ fn row(
 ) {
     assert!(rt; 0 < most);
     let mut reader = Pieces::of(input).at_most(most);
-    let mut writer: Taken<256> = Taken::new();
+    let mut writer: BoundedSink<256> = BoundedSink::new();
     let style = Style::items(Notation::Plain);
     let told = explain_dump(rt.alloc(), &mut reader, &mut writer, style, 16383);
     is(rt, &told, answer);
@@ -95,7 +95,7 @@ fn addresses_of_every_length(rt: HostRuntime) -> io::Result<()> {
 #[test]
 fn a_read_that_fails(rt: HostRuntime) {
     let mut reader = Pieces::of(BOTH).at_most(80).failing_at(2);
-    let mut writer: Taken<256> = Taken::new();
+    let mut writer: BoundedSink<256> = BoundedSink::new();
     let style = Style::items(Notation::Plain);
     let told = explain_dump(rt.alloc(), &mut reader, &mut writer, style, 16383);
     is(&rt, &told, &Err(DumpFault::Read));

@@ -1,7 +1,7 @@
 // The output of explain, compared with rows written by hand.
 use crate::same::is;
 use ddcmp_explain::{ExplainFault, Form, Notation, explain, explain_as};
-use ddcmp_frame::failing::{Pieces, Taken};
+use ddcmp_frame::failing::{BoundedSink, Pieces};
 use ddcmp_frame::{Sink, Source, Worst};
 use std::process::Abort;
 
@@ -48,7 +48,7 @@ impl<'a> Call<'a> {
 /// The result of a call.
 struct ExplainOutcome {
     answer: Result<(), ExplainFault>,
-    writer: Taken<256>,
+    writer: BoundedSink<256>,
     worst: Worst,
 }
 
@@ -70,7 +70,7 @@ fn explains(rt: &(impl Abort + AllocGlobal), call: Call<'_>) -> ExplainOutcome {
         .at_most(call.read)
         .failing_at(call.read_fails_at)
         .idle_at(call.idle_at);
-    let mut writer = Taken::new()
+    let mut writer = BoundedSink::new()
         .at_most(call.write)
         .failing_at(call.write_fails_at);
     let answer = explain(rt.alloc(), &mut reader, &mut writer, call.form, call.max);
@@ -98,10 +98,10 @@ fn tells(
 fn explains_as_json(
     rt: &(impl Abort + AllocGlobal),
     call: Call<'_>,
-) -> (Result<(), ExplainFault>, Taken<256>) {
+) -> (Result<(), ExplainFault>, BoundedSink<256>) {
     assert!(rt; 0 < call.max && call.max <= 16383 && 0 < call.read && 0 < call.write);
     let mut reader = Pieces::of(call.input).at_most(call.read);
-    let mut writer = Taken::new()
+    let mut writer = BoundedSink::new()
         .at_most(call.write)
         .failing_at(call.write_fails_at);
     let json = Notation::Json;

@@ -3,7 +3,7 @@ ghost use Rattle.std.specs.Prelude.{◌≡◌, ◌≤◌, length, take};
 ghost use Rattle.ddcmp_io.specs.Queue.{after_pushed};
 
 use crate::sessions::append;
-use ddcmp_bridge::{Bridge, Counts, Ended, Fate, Faults, Lines, Needs, Way};
+use ddcmp_bridge::{Bridge, BridgeStop, Counts, Fate, Faults, Lines, Needs, Way};
 use ddcmp_io::ByteQueue;
 use std::process::Abort;
 
@@ -143,7 +143,7 @@ fn good_frames_come_to_the_other_line(rt: HostRuntime) {
     let Some(mut bridge) = Bridge::new(rt.alloc(), faults, 3) else {
         panic!(rt; "no memory")
     };
-    assert!(rt; bridge.run(&mut lines, 100) == Ended::Time);
+    assert!(rt; bridge.run(&mut lines, 100) == BridgeStop::Time);
     assert!(rt; lines.there_came.waiting() == CAME);
     assert!(rt; lines.there_gone.waiting() == GOOD);
     assert!(rt; lines.back_came.waiting() == BACK);

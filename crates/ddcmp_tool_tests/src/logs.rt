@@ -1,7 +1,7 @@
 // Explains digits as in logs, in chunks.
 use crate::same::is;
 use ddcmp_explain::{ExplainFault, Form, explain};
-use ddcmp_frame::failing::{Pieces, Taken};
+use ddcmp_frame::failing::{BoundedSink, Pieces};
 use std::process::Abort;
 
 /// An ACK and three bytes of data, between comments.
@@ -23,7 +23,7 @@ fn row(
 ) {
     assert!(rt; 0 < most);
     let mut reader = Pieces::of(input).at_most(most);
-    let mut writer: Taken<256> = Taken::new();
+    let mut writer: BoundedSink<256> = BoundedSink::new();
     let told = explain(rt.alloc(), &mut reader, &mut writer, Form::Text, 16383);
     is(rt, &told, answer);
     is(rt, writer.bytes(), text);

@@ -230,7 +230,7 @@ fn exchanges(rt: &(impl Abort + AllocGlobal), seed: u64) {
         panic!(rt; "no memory");
     };
     assert!(rt; buffers.begin_line(&mut own));
-    assert!(rt; buffers.run(&mut own, &mut desk) == Ok(End::Delivered));
+    assert!(rt; buffers.run(&mut own, &mut desk) == Ok(End::Done));
     assert!(rt; drain_output(&mut own, &mut desk) == Ok(()));
     assert!(rt; desk.peer_output.bytes.as_slice() == expected.0.as_slice());
     assert!(rt; desk.output.bytes.as_slice() == expected.1.as_slice());

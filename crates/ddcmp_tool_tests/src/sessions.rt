@@ -164,7 +164,7 @@ fn exchanges(rt: &(impl Abort + AllocGlobal), seed: u64) {
         }
         now = now.saturating_add(100);
     }
-    assert!(rt; (a.end, b.end) == (Some(End::Delivered), Some(End::Delivered)));
+    assert!(rt; (a.end, b.end) == (Some(End::Done), Some(End::Done)));
     assert!(rt; a.output.as_slice() == b.input.as_slice());
     assert!(rt; b.output.as_slice() == a.input.as_slice());
     assert!(rt; (a.session.lost(), b.session.lost()) == (0, 0));

@@ -1,7 +1,7 @@
 // Frames with the maximum length of data that a reader accepts, and with one byte more.
 use crate::same::is;
 use ddcmp_explain::{ExplainFault, Form, Notation, Style, explain, explain_dump};
-use ddcmp_frame::failing::{Pieces, Taken};
+use ddcmp_frame::failing::{BoundedSink, Pieces};
 use std::process::Abort;
 
 /// Returns what explain returns and writes of an input in this form.
@@ -10,10 +10,10 @@ fn explains(
     input: &[u8],
     form: Form,
     max: u16,
-) -> (Result<(), ExplainFault>, Taken<33000>) {
+) -> (Result<(), ExplainFault>, BoundedSink<33000>) {
     assert!(rt; 0 < max && max <= 16383);
     let mut reader = Pieces::of(input);
-    let mut writer = Taken::<33000>::new();
+    let mut writer = BoundedSink::<33000>::new();
     let answer = explain(rt.alloc(), &mut reader, &mut writer, form, max);
     (answer, writer)
 }
@@ -139,7 +139,7 @@ fn writes_no_item(rt: &(impl Abort + AllocGlobal), max: u16) {
     writes(rt, b"", Form::Hex, max, (b"", 0, end));
     writes(rt, b"", Form::Raw, max, (b"", 0, end));
     let mut reader = Pieces::of(b"");
-    let mut writer = Taken::<64>::new();
+    let mut writer = BoundedSink::<64>::new();
     let style = Style::items(Notation::Plain);
     let told = explain_dump(rt.alloc(), &mut reader, &mut writer, style, max);
     is(rt, told, Ok(()));

@@ -1,7 +1,7 @@
 // explain over readers and writers of std, and how it handles their faults.
 use crate::same::is;
 use ddcmp_explain::{ExplainFault, Form, explain};
-use ddcmp_frame::failing::{Pieces, Taken};
+use ddcmp_frame::failing::{BoundedSink, Pieces};
 use ddcmp_frame::{FromRead, ToWrite};
 use std::alloc::Global;
 use std::io::{self, ErrorKind, Read, Write};
@@ -57,9 +57,9 @@ fn bytes_in_memory_are_explained(rt: HostRuntime) {
 }
 
 /// Returns the result and the output of explain if a reader has this fault.
-fn read_by(alloc: Global, reader: Faulty) -> (Result<(), ExplainFault>, Taken<64>) {
+fn read_by(alloc: Global, reader: Faulty) -> (Result<(), ExplainFault>, BoundedSink<64>) {
     let mut reader = FromRead::new(reader);
-    let mut writer = Taken::<64>::new();
+    let mut writer = BoundedSink::<64>::new();
     let answer = explain(alloc, &mut reader, &mut writer, Form::Hex, 16383);
     (answer, writer)
 }

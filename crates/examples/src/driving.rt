@@ -1,5 +1,5 @@
 //! A station that is driven over memory, with a user and a clock.
-use ddcmp_frame::failing::{Pieces, Taken};
+use ddcmp_frame::failing::{BoundedSink, Pieces};
 use ddcmp_station::{
     Clock, Config, Driven, LineFault, Notice, Sink, StartRefusal, Station, User, drive,
 };
@@ -53,7 +53,7 @@ pub struct Site<'a, R> {
     user: Person<'a, R>,
     clock: Ticks,
     /// What it wrote.
-    writer: Taken<256>,
+    writer: BoundedSink<256>,
 }
 
 impl<'a, R: Print + AllocGlobal> Site<'a, R> {
@@ -73,7 +73,7 @@ impl<'a, R: Print + AllocGlobal> Site<'a, R> {
                 given: 0,
             },
             clock: Ticks(0),
-            writer: Taken::new(),
+            writer: BoundedSink::new(),
         })
     }
 

@@ -136,7 +136,7 @@ impl Pipe {
     }
 
     fn has_delivered(&self) -> bool {
-        self.session.end() == Some(End::Delivered)
+        self.session.end() == Some(End::Done)
     }
 
     fn report(&self, rt: &impl Print, name: &str, peer: &Pipe) -> io::Result<()> {

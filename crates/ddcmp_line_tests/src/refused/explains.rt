@@ -1,7 +1,7 @@
 //! explain with failing allocations.
 use crate::same::is;
 use ddcmp_explain::{ExplainFault, Form, explain};
-use ddcmp_frame::failing::{Pieces, Taken};
+use ddcmp_frame::failing::{BoundedSink, Pieces};
 use std::alloc::Global;
 use std::process::Abort;
 
@@ -16,9 +16,9 @@ fn startup_text() -> &'static [u8] {
 }
 
 /// Returns what explain returns and writes.
-fn explains(alloc: Global) -> (Result<(), ExplainFault>, Taken<256>) {
+fn explains(alloc: Global) -> (Result<(), ExplainFault>, BoundedSink<256>) {
     let mut reader = Pieces::of(startup());
-    let mut writer = Taken::<256>::new();
+    let mut writer = BoundedSink::<256>::new();
     let answer = explain(alloc, &mut reader, &mut writer, Form::Hex, 16383);
     (answer, writer)
 }

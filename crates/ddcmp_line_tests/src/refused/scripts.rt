@@ -1,7 +1,7 @@
 //! A script with failing allocations. What scripts write, over good devices and bad ones, is tested
 //! in `worked`.
 use crate::same::is;
-use ddcmp_frame::failing::{Pieces, Taken};
+use ddcmp_frame::failing::{BoundedSink, Pieces};
 use ddcmp_line::{Config, Direct, Pair, ScriptFault, script};
 use std::alloc::Global;
 use std::process::Abort;
@@ -35,13 +35,13 @@ const DEFAULT: Config = Config {
 #[derive(Drop)]
 struct ScriptOutcome {
     answer: Result<(), ScriptFault>,
-    writer: Taken<512>,
+    writer: BoundedSink<512>,
 }
 
 /// Runs the script, with a pair that was made.
 fn plays(alloc: Global, pair: &mut Pair) -> ScriptOutcome {
     let mut reader = Pieces::of(lines());
-    let mut writer = Taken::<512>::new();
+    let mut writer = BoundedSink::<512>::new();
     let answer = script(alloc, pair, &mut reader, &mut writer, &mut Direct);
     ScriptOutcome { answer, writer }
 }

@@ -1,6 +1,6 @@
 //! A served station with failing allocations.
 use crate::same::is;
-use ddcmp_frame::failing::{Pieces, Taken};
+use ddcmp_frame::failing::{BoundedSink, Pieces};
 use ddcmp_net::{ServeFault, serve};
 use ddcmp_station::{Clock, LineFault};
 use std::alloc::Global;
@@ -32,14 +32,14 @@ fn reported() -> &'static [u8] {
 #[derive(Drop)]
 struct ServeOutcome {
     answer: Result<(), ServeFault>,
-    writer: Taken<256>,
-    report: Taken<256>,
+    writer: BoundedSink<256>,
+    report: BoundedSink<256>,
 }
 
 fn serves(alloc: Global) -> ServeOutcome {
     let mut reader = Pieces::of(stack_and_data());
-    let mut writer = Taken::<256>::new();
-    let mut report = Taken::<256>::new();
+    let mut writer = BoundedSink::<256>::new();
+    let mut report = BoundedSink::<256>::new();
     let answer = serve(
         alloc,
         &mut reader,

@@ -1,7 +1,7 @@
 //! Calls of `drive` in memory, and their results.
 
 use crate::same::is;
-use ddcmp_frame::failing::{Pieces, Taken};
+use ddcmp_frame::failing::{BoundedSink, Pieces};
 use ddcmp_station::{Config, Counters, Driven, LineFault, Notice, Numbers, State, Station, drive};
 use std::alloc::Global;
 use std::process::Abort;
@@ -50,7 +50,7 @@ pub fn started(rt: &impl Abort, alloc: Global, config: Config) -> Station {
 #[derive(Drop)]
 pub struct Outcome<const N: usize> {
     pub answer: Result<Driven, LineFault>,
-    pub writer: Taken<N>,
+    pub writer: BoundedSink<N>,
     pub moments: usize,
 }
 
@@ -66,7 +66,7 @@ pub fn drives<const N: usize>(
 ) -> Outcome<N> {
     assert!(rt; station.offset() < 1000 && 0 < most);
     let mut reader = Pieces::new(came).at_most(most);
-    let mut writer = Taken::<N>::new();
+    let mut writer = BoundedSink::<N>::new();
     let mut clock = Moments {
         moments: &[0],
         next: 0,

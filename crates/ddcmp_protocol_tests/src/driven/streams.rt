@@ -4,7 +4,7 @@
 ghost use Rattle.std.specs.Prelude.{length};
 
 use crate::same::is;
-use ddcmp_frame::failing::{Pieces, Taken};
+use ddcmp_frame::failing::{BoundedSink, Pieces};
 use ddcmp_station::{Clock, Config, Driven, LineFault, Notice, Sink, Station, User, drive};
 use std::alloc::Global;
 use std::process::Abort;
@@ -149,7 +149,11 @@ impl End {
     }
 
     /// Makes a call with a timer of 1000 ms.
-    fn is_driven(&mut self, line: Line<'_>, writer: &mut Taken<512>) -> Result<Driven, LineFault> {
+    fn is_driven(
+        &mut self,
+        line: Line<'_>,
+        writer: &mut BoundedSink<512>,
+    ) -> Result<Driven, LineFault> {
         if self.station.offset() > 1_000_000 || writer.failed() {
             return Err(LineFault::Memory);
         }
@@ -167,7 +171,9 @@ impl End {
 
     /// Makes a call over a line. What it wrote is appended to what was written before.
     fn drives(&mut self, rt: &impl Abort, line: Line<'_>) {
-        let mut writer = Taken::<512>::new().at_most(11).failing_at(line.breaks_at);
+        let mut writer = BoundedSink::<512>::new()
+            .at_most(11)
+            .failing_at(line.breaks_at);
         let answer = self.is_driven(line, &mut writer);
         assert!(rt; self.written.extend_from_slice(writer.bytes()).is_ok());
         assert!(rt; answer != Err(LineFault::Memory));

@@ -1,6 +1,6 @@
 //! Calls whose contracts state more than tests need: each has a function of its own here that
 //! promises nothing.
-use ddcmp_frame::failing::Taken;
+use ddcmp_frame::failing::BoundedSink;
 use ddcmp_frame::plain::PlainReader;
 use ddcmp_frame::{Got, Item, Reader, Sink, Source, Worst};
 use std::alloc::Global;
@@ -73,7 +73,7 @@ pub fn read<S: Source>(rt: &impl Abort, source: &mut S, buf: &mut [u8]) -> (Got,
 /// Writes once; returns the result, and whether the sink has failed.
 pub fn write<const N: usize>(
     rt: &impl Abort,
-    sink: &mut Taken<N>,
+    sink: &mut BoundedSink<N>,
     bytes: &[u8],
 ) -> (Option<usize>, bool) {
     assert!(rt; !sink.failed() && !bytes.is_empty());

@@ -1,6 +1,6 @@
 //! The devices of the tests do what is requested.
 use crate::frames::calls::{is, read, write};
-use ddcmp_frame::failing::{Pieces, Taken};
+use ddcmp_frame::failing::{BoundedSink, Pieces};
 use ddcmp_frame::{Got, Worst};
 use std::process::Abort;
 
@@ -41,17 +41,19 @@ fn pieces_come_in_order(rt: HostRuntime) {
 
 /// Returns a sink of eight bytes, or of `room`, whose writes take at most this many bytes; the
 /// write `fails_at` fails (0 for none).
-fn sink_of(rt: &impl Abort, room: usize, most: usize, fails_at: usize) -> Taken<8> {
+fn sink_of(rt: &impl Abort, room: usize, most: usize, fails_at: usize) -> BoundedSink<8> {
     assert!(rt; room <= 8 && 0 < most);
-    Taken::full_at(room).at_most(most).failing_at(fails_at)
+    BoundedSink::full_at(room)
+        .at_most(most)
+        .failing_at(fails_at)
 }
 
-fn kept(sink: &Taken<8>) -> &[u8] {
+fn kept(sink: &BoundedSink<8>) -> &[u8] {
     sink.bytes()
 }
 
 /// Checks the results of writes of `abc`, and the bytes that are kept.
-fn keeps(rt: &impl Abort, mut sink: Taken<8>, answers: &[Option<usize>], bytes: &[u8]) {
+fn keeps(rt: &impl Abort, mut sink: BoundedSink<8>, answers: &[Option<usize>], bytes: &[u8]) {
     for answer in answers {
         is(
             rt,
@@ -66,7 +68,7 @@ fn keeps(rt: &impl Abort, mut sink: Taken<8>, answers: &[Option<usize>], bytes: 
 fn what_was_taken_is_kept(rt: HostRuntime) {
     keeps(
         &rt,
-        Taken::new(),
+        BoundedSink::new(),
         &[Some(3), Some(3), Some(2), None],
         b"abcabcab",
     );

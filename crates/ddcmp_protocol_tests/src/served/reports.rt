@@ -1,6 +1,6 @@
 //! What a served station reports, over a line in memory.
 use crate::same::is;
-use ddcmp_frame::failing::{Pieces, Taken};
+use ddcmp_frame::failing::{BoundedSink, Pieces};
 use ddcmp_net::{ServeFault, serve};
 use ddcmp_station::{Clock, LineFault};
 use std::process::Abort;
@@ -124,8 +124,8 @@ impl<'a> Call<'a> {
 /// The result of a call.
 struct ServeOutcome {
     answer: Result<(), ServeFault>,
-    writer: Taken<256>,
-    report: Taken<256>,
+    writer: BoundedSink<256>,
+    report: BoundedSink<256>,
 }
 
 // Manual, since a derived `Drop` would be expanded wherever a value is dropped.
@@ -145,10 +145,10 @@ fn serves(rt: &(impl Abort + AllocGlobal), call: Call<'_>) -> ServeOutcome {
     let mut reader = Pieces::new(call.came)
         .at_most(256)
         .failing_at(call.read_fails_at);
-    let mut writer = Taken::<256>::new()
+    let mut writer = BoundedSink::<256>::new()
         .at_most(call.most)
         .failing_at(call.write_fails_at);
-    let mut report = Taken::<256>::new()
+    let mut report = BoundedSink::<256>::new()
         .at_most(call.most)
         .failing_at(call.report_fails_at);
     let answer = serve(
@@ -207,11 +207,11 @@ fn mail_is_reported(rt: HostRuntime) {
 /// The counters are before the last line, if they are requested.
 #[test]
 fn counters_are_reported(rt: HostRuntime) {
-    let mut report = Taken::<1024>::new();
+    let mut report = BoundedSink::<1024>::new();
     let answer = serve(
         rt.alloc(),
         &mut Pieces::new(&[stack_and_data()]),
-        &mut Taken::<256>::new(),
+        &mut BoundedSink::<256>::new(),
         &mut report,
         &mut Standing,
         b"",

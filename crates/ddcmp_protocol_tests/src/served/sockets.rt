@@ -1,7 +1,7 @@
 //! A served station over a connection whose other end is the test's.
 use crate::same::is;
 use crate::served::reports::{Standing, strt_and_ack};
-use ddcmp_frame::failing::Taken;
+use ddcmp_frame::failing::BoundedSink;
 use ddcmp_frame::{FromRead, ToWrite};
 use ddcmp_net::{ServeFault, serve};
 use std::alloc::Global;
@@ -15,10 +15,10 @@ fn stack() -> &'static [u8] {
 }
 
 /// Returns what a station returns and reports over a connection.
-fn serves(alloc: Global, stream: &TcpStream) -> (Result<(), ServeFault>, Taken<256>) {
+fn serves(alloc: Global, stream: &TcpStream) -> (Result<(), ServeFault>, BoundedSink<256>) {
     let mut reader = FromRead::new(stream);
     let mut writer = ToWrite::new(stream);
-    let mut report = Taken::<256>::new();
+    let mut report = BoundedSink::<256>::new();
     let answer = serve(
         alloc,
         &mut reader,

@@ -82,7 +82,7 @@ impl Buffers {
             → result ≡ Err (Stop.Device fault) → ReportsOver self.old session.old.state
             (D.traffic devices.old) (D.traffic devices.new) fault }
         ensures well { result ≡ Ok tt → MayEndWell session.new.state }
-        ensures ended { result ≡ Ok tt → end session.new.state ≡ Some End.Delivered }
+        ensures ended { result ≡ Ok tt → end session.new.state ≡ Some End.Done }
         ensures left { result ≡ Err Stop.Left → IsLeft self.old session.old.state
             (D.traffic devices.old) session.new.state (D.traffic devices.new) }
         ensures shut { IfNotOpened result (session.new.state.options.again ≡ false) }
@@ -119,7 +119,7 @@ impl Buffers {
             → result ≡ Err (Stop.Device fault) → ReportsOver self.old session.old.state
             (D.traffic devices.old) (D.traffic devices.new) fault }
         ensures well { result ≡ Ok true → MayEndWell session.new.state }
-        ensures ended { result ≡ Ok true → end session.new.state ≡ Some End.Delivered }
+        ensures ended { result ≡ Ok true → end session.new.state ≡ Some End.Done }
         ensures gone { result ≡ Ok false → LeavesLine self.old session.old.state
             (D.traffic devices.old) session.new.state (D.traffic devices.new) }
         ensures left { result ≡ Err Stop.Left → HasNotStarted session.new.state }
@@ -134,7 +134,7 @@ impl Buffers {
             Err(stop) => return Err(stop),
         }
         match self.run(session, devices) {
-            Ok(End::Delivered) => Ok(true),
+            Ok(End::Done) => Ok(true),
             Ok(End::Restarted | End::GivenUp) => Ok(false),
             Ok(End::Time) => Err(Stop::Device(Fault::Time)),
             Err(Fault::Line(why)) => {
@@ -158,7 +158,7 @@ impl Buffers {
         ensures reports { (fault : FaultValue) → fault ≢ Fault.Time
             → result ≡ Err (Stop.Device fault) → ReportsOver self.old session.old.state
             (D.traffic devices.old) (D.traffic devices.new) fault }
-        ensures ended { result ≡ Ok false → end session.new.state ≡ Some End.Delivered }
+        ensures ended { result ≡ Ok false → end session.new.state ≡ Some End.Done }
         ensures left { result ≡ Err Stop.Left → HasNotStarted session.new.state }
         ensures shut { IfNotOpened result (session.new.state.options.again ≡ false) }
         ensures time { result ≡ Err (Stop.Device Fault.Time) → IsTimeOver session.new.state }
@@ -170,7 +170,7 @@ impl Buffers {
             session.pass_time(now);
             match session.end() {
                 Some(End::Time) => return Err(Stop::Device(Fault::Time)),
-                Some(End::Delivered) => return Ok(false),
+                Some(End::Done) => return Ok(false),
                 _ => {}
             }
             match self.try_line(session, devices, now) {

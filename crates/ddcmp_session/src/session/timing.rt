@@ -160,7 +160,7 @@ impl Session {
             return Some(End::GivenUp);
         }
         if self.is_done() && self.lingers_until() <= now {
-            return Some(End::Delivered);
+            return Some(End::Done);
         }
         None
     }

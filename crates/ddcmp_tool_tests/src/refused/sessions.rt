@@ -122,7 +122,7 @@ fn ends(rt: &impl Abort, a: &mut Session, b: &mut Session) {
     settles(a, b);
     a.input_ended();
     a.handle_timeout(5000);
-    assert!(rt; a.end() == Some(End::Delivered));
+    assert!(rt; a.end() == Some(End::Done));
     a.close(b"", true);
     a.finish();
     a.write_end();

@@ -2,7 +2,7 @@
 //! what was forwarded and what was logged are prefixes.
 ghost use Rattle.std.specs.Prelude.{◌≡◌, false};
 
-use ddcmp_io::failing::{Pieces, Taken};
+use ddcmp_io::failing::{BoundedSink, Pieces};
 use ddcmp_station::Clock;
 use ddcmp_tap::{Direction, Flow, Notation, Outlet, Readiness, Side, TapFault, pump};
 use std::cell::Cell;
@@ -78,7 +78,7 @@ fn tapped(
     rt: &impl AllocGlobal,
     notation: Notation,
     ways: &[Cell<&'static [u8]>; 2],
-    log: &mut Taken<8192>,
+    log: &mut BoundedSink<8192>,
 ) -> Result<(), TapFault>
     requires { log.old.broken ≡ false }
 {
@@ -102,7 +102,7 @@ fn tapped(
 /// Returns whether an allocation fails in a tap that logs like this.
 fn is_refused(rt: &(impl Abort + AllocGlobal), notation: Notation) -> bool {
     let ways = [Cell::new(BYTES), Cell::new(BYTES)];
-    let mut log = Taken::new();
+    let mut log = BoundedSink::new();
     let ended = tapped(rt, notation, &ways, &mut log);
     assert!(rt; log.bytes().is_empty() || log.bytes().ends_with(b"\n"));
     let Err(fault) = ended else {

@@ -1,6 +1,6 @@
 //! A script over devices that fail, are idle, or move a few bytes at a time.
 use crate::devices::bad::Bad;
-use ddcmp_frame::failing::{Pieces, Taken};
+use ddcmp_frame::failing::{BoundedSink, Pieces};
 use ddcmp_line::{Config, Pair, ScriptFault, script};
 use std::alloc::Global;
 use std::io::{self, Write};
@@ -24,7 +24,7 @@ struct Trial {
 /// The result of a script.
 struct ScriptOutcome {
     answer: Result<(), ScriptFault>,
-    writer: Taken<512>,
+    writer: BoundedSink<512>,
 }
 
 // Manual, since a derived `Drop` would be expanded wherever a value is dropped.
@@ -69,7 +69,7 @@ fn plays(alloc: Global, pair: &mut Pair, lines: &str, trial: Trial) -> Option<Sc
         .at_most(trial.read)
         .idle_at(trial.idle_at)
         .failing_at(trial.read_fails_at);
-    let mut writer = Taken::<512>::new()
+    let mut writer = BoundedSink::<512>::new()
         .at_most(trial.write)
         .failing_at(trial.write_fails_at);
     let mut carrier = Bad::new(trial.given, trial.by, trial.carry_fails_at);

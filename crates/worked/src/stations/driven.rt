@@ -1,6 +1,6 @@
 //! A call of `drive` in memory.
 use crate::stations::reading::{moments_of, pieces_of, slices_of};
-use ddcmp_frame::failing::{Pieces, Taken};
+use ddcmp_frame::failing::{BoundedSink, Pieces};
 use ddcmp_station::{Driven, LineFault, Station, drive};
 use std::alloc::Global;
 use std::io;
@@ -23,7 +23,7 @@ struct Call<'a> {
 #[derive(Drop)]
 struct DriveOutcome<'a> {
     answer: Result<Driven, LineFault>,
-    writer: Taken<64>,
+    writer: BoundedSink<64>,
     user: Recorder<'a>,
 }
 
@@ -54,7 +54,7 @@ fn drives<'a>(
         return None;
     }
     let mut reader = Pieces::new(came).failing_at(call.fails_at);
-    let mut writer = Taken::<64>::full_at(call.most)
+    let mut writer = BoundedSink::<64>::full_at(call.most)
         .at_most(3)
         .failing_at(call.breaks_at);
     let mut user = Recorder::offering(offers);

@@ -2,7 +2,7 @@ use Rattle.std.proofs.Common.{◌≡◌, ◌∙◌, sym, true}
 use Rattle.std.specs.Io.KnownBytes.{Keeps}
 use Rattle.std.proofs.KnownBytes.{Keeps-refl}
 use Rattle.ddcmp_cli.specs.Endings.{DrawsSimulated, Simulates, is_refusal}
-use Rattle.ddcmp_cli.proofs.ScriptLaws.{not_opened, opened, two_refused}
+use Rattle.ddcmp_cli.proofs.ScriptLaws.{open_fault, opened, two_refused}
 use Rattle.ddcmp_cli.proofs.script_command.simulate_file.Goals as goal
 
 pub returns-then-are_two-clause-shows : goal.returns-then-are_two-clause-shows
@@ -24,7 +24,7 @@ returns-in-Ok-clause-shows g c =
 
 pub returns-in-Err-clause-shows : goal.returns-in-Err-clause-shows
 returns-in-Err-clause-shows g c =
-    not_opened c.args.view.svg c.args.view.ladder c.args.name.now
+    open_fault c.args.view.svg c.args.view.ladder c.args.name.now
     (g.I.Inputs.held c.args.inputs.now c.args.name.now) (g.W.Sink.contents c.args.writer.now)
     (g.W.Sink.contents c.args.writer.now) c.unopened.result
     ((is_refusal c.unopened.result ≡ true)

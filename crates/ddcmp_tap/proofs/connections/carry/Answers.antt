@@ -5,7 +5,7 @@ use Rattle.ddcmp_tap.proofs.connections.carry.Goals as goal
 pub returns-in-Err-clause-says : goal.returns-in-Err-clause-says
 returns-in-Err-clause-says g c =
     no-carrier (head_of c.args.notation) c.args.notation c.args.timed c.args.max
-    (g.W.Sink.contents c.args.writer.now) c.not_made-why.result
+    (g.W.Sink.contents c.args.writer.now) c.carrier_fault-why.result
 
 pub returns-in-Err-new-clause-says : goal.returns-in-Err-new-clause-says
 returns-in-Err-new-clause-says g c =

@@ -1,17 +1,17 @@
 use Rattle.std.proofs.Common.{◌≡◌, ◌∙◌, sym, refl}
 use Rattle.ddcmp_tap.specs.declared.tap_fault.Stage.TheVariants.{Connect, Listen}
-use Rattle.ddcmp_tap.proofs.InTurnLaws.{begins, goes_on, not_made, unbroken}
+use Rattle.ddcmp_tap.proofs.InTurnLaws.{begins, goes_on, carrier_fault, unbroken}
 use Rattle.ddcmp_tap.proofs.connections.tap_again.Goals as goal
 
 pub returns-in-Err-clause-says : goal.returns-in-Err-clause-says
 returns-in-Err-clause-says g c =
-    not_made c.args.notation c.args.timed c.args.max (g.W.Sink.contents c.args.writer.now)
-    (g.W.Sink.contents c.args.writer.now) c.not_made.result
+    carrier_fault c.args.notation c.args.timed c.args.max (g.W.Sink.contents c.args.writer.now)
+    (g.W.Sink.contents c.args.writer.now) c.carrier_fault.result
     (begins c.args.notation c.args.timed c.args.max (g.W.Sink.contents c.args.writer.now))
 
 pub returns-in-Err-clause-lasts : goal.returns-in-Err-clause-lasts
 returns-in-Err-clause-lasts g c = λ e.
-    let bad : Listen ≡ Connect = sym c.not_made.ensures.stage ∙ e in cc
+    let bad : Listen ≡ Connect = sym c.carrier_fault.ensures.stage ∙ e in cc
 
 pub loop-turn-init : goal.loop-turn-init
 loop-turn-init g c = record {
@@ -31,15 +31,15 @@ loop-turn-preserved g c = record {
 
 pub returns-in-Err-accept_next-clause-says : goal.returns-in-Err-accept_next-clause-says
 returns-in-Err-accept_next-clause-says g c =
-    not_made c.args.notation c.args.timed c.args.max (g.W.Sink.contents c.args.writer.now)
+    carrier_fault c.args.notation c.args.timed c.args.max (g.W.Sink.contents c.args.writer.now)
     (g.W.Sink.contents c.loop-turn.writer)
-    c.not_made-in-Err-accept_next.result c.loop-turn.invariant.wrote
+    c.carrier_fault-in-Err-accept_next.result c.loop-turn.invariant.wrote
 
 pub returns-in-Err-accept_next-clause-lasts : goal.returns-in-Err-accept_next-clause-lasts
 returns-in-Err-accept_next-clause-lasts g c = λ e.
-    let bad : Listen ≡ Connect = sym c.not_made-in-Err-accept_next.ensures.stage ∙ e in cc
+    let bad : Listen ≡ Connect = sym c.carrier_fault-in-Err-accept_next.ensures.stage ∙ e in cc
 
 pub returns-clause-says : goal.returns-clause-says
 returns-clause-says g c =
-    not_made c.args.notation c.args.timed c.args.max (g.W.Sink.contents c.args.writer.now)
+    carrier_fault c.args.notation c.args.timed c.args.max (g.W.Sink.contents c.args.writer.now)
     (g.W.Sink.contents c.loop-turn.writer) _ c.loop-turn.invariant.wrote

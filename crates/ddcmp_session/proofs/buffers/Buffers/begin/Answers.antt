@@ -13,8 +13,8 @@ returns-in-Some-Time-clause-over g c =
     (passed-now c.now-now.result c.loop-try.session.state c.pass_time.new.self.state
     c.pass_time.ensures.state))
 
-pub returns-in-Some-Delivered-clause-over : goal.returns-in-Some-Delivered-clause-over
-returns-in-Some-Delivered-clause-over g c =
+pub returns-in-Some-Done-clause-over : goal.returns-in-Some-Done-clause-over
+returns-in-Some-Done-clause-over g c =
     over-then c.loop-try.invariant.0
     (over-then (none-over refl c.now-now.ensures)
     (passed-now c.now-now.result c.loop-try.session.state c.pass_time.new.self.state

@@ -6,13 +6,13 @@ use Rattle.ddcmp_session.specs.declared.session.End.TheVariants as End
 use Rattle.ddcmp_session.proofs.StopLaws.{may-at-end}
 use Rattle.ddcmp_session.proofs.buffers.Buffers.run_one.Goals as goal
 
-pub returns-in-Ok-Delivered-clause-over : goal.returns-in-Ok-Delivered-clause-over
-returns-in-Ok-Delivered-clause-over g c =
+pub returns-in-Ok-Done-clause-over : goal.returns-in-Ok-Done-clause-over
+returns-in-Ok-Done-clause-over g c =
     over-then c.begin.ensures.over (goes-over c.run.ensures.on)
 
-pub returns-in-Ok-Delivered-clause-well : goal.returns-in-Ok-Delivered-clause-well
-returns-in-Ok-Delivered-clause-well g c = λ e.
-    may-at-end c.run.new.session.state (c.run.ensures.ended End.Delivered cc)
+pub returns-in-Ok-Done-clause-well : goal.returns-in-Ok-Done-clause-well
+returns-in-Ok-Done-clause-well g c = λ e.
+    may-at-end c.run.new.session.state (c.run.ensures.ended End.Done cc)
 
 pub returns-in-Ok-Restarted-clause-over : goal.returns-in-Ok-Restarted-clause-over
 returns-in-Ok-Restarted-clause-over g c =
