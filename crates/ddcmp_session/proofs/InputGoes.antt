@@ -37,22 +37,21 @@ none-ended h e = ap (λ b. cond b (end_in (form_of h.session.messages)) []) e
 
 -- bytes were read of the input
 pub input-came : {held : BuffersView} {s : SessionView} {k k' : Option Traffic} (n : ℕ)
-    (space : List ℕ) (over : Bool) → held.input ≡ [] → held.is_over ≡ false
+    (space : List ℕ) (over : Bool) → held.is_over ≡ false
     → Becomes k k' (after_read (got.Bytes n) space) → over ≡ (n == 0)
-    → GoesOn held s k (record held { input = take n space; is_over = over }) s k'
-input-came {held} {s} {k} {k'} n space over empty goes becomes ends = λ h t is was a.
+    → GoesOn held s k (record held { input = held.input ++ take n space; is_over = over }) s k'
+input-came {held} {s} {k} {k'} n space over goes becomes ends = λ h t is was a.
     let unread = not-read h a in (
       after_read (got.Bytes n) space t,
       becomes t was,
-      none-went h s (record held { input = take n space; is_over = over })
+      none-went h s (record held { input = held.input ++ take n space; is_over = over })
           (after_read (got.Bytes n) space t) is
           (record {
             read =
                 ap (λ xs. (t.read ++ take n space) ++ xs) (none-ended h unread)
                 ∙ append-nil (t.read ++ take n space)
-                ∙ ap (λ xs. xs ++ take n space)
-                (nothing-more (none-ended h unread) ∙ a.read
-                ∙ ap (λ xs. h.input ++ xs) empty ∙ append-nil h.input);
+                ∙ ap (λ xs. xs ++ take n space) (nothing-more (none-ended h unread) ∙ a.read)
+                ∙ append_assoc h.input held.input (take n space);
             over = ends;
             told = λ e. absurd (sym unread ∙ e);
             drained = λ e. let bad : false ≡ true = sym unread ∙ e in cc;
@@ -324,19 +323,20 @@ types-held {held} {known} old new n bytes rest same left does =
 
 -- bytes of the input, or none, are held now
 pub input-given : {held : BuffersView} {s : SessionView} {k k' : Option Traffic} (n : ℕ)
-    (space input : List ℕ) (over : Bool) → held.input ≡ [] → held.is_over ≡ false
-    → input ≡ take n space → Becomes k k' (after_read (got.Bytes n) space)
+    (space input : List ℕ) (over : Bool) → held.is_over ≡ false
+    → input ≡ held.input ++ take n space → Becomes k k' (after_read (got.Bytes n) space)
     → over ≡ (n == 0)
     → GoesOn held s k (record held { input = input; is_over = over }) s k'
-input-given {held} {s} {k} {k'} n space input over empty goes is becomes ends =
+input-given {held} {s} {k} {k'} n space input over goes is becomes ends =
     subst (λ xs. GoesOn held s k (record held { input = xs; is_over = over }) s k') (sym is)
-    (input-came n space over empty goes becomes ends)
+    (input-came n space over goes becomes ends)
 
 pub no-input : {held : BuffersView} {s : SessionView} {k k' : Option Traffic} (input : List ℕ)
-    → held.input ≡ [] → input ≡ [] → GoesOn held s k held s k'
+    → input ≡ held.input ++ [] → GoesOn held s k held s k'
     → GoesOn held s k (record held { input = input }) s k'
-no-input {held} {s} {k} {k'} input empty none goes =
-    subst (λ xs. GoesOn held s k (record held { input = xs }) s k') (empty ∙ sym none) goes
+no-input {held} {s} {k} {k'} input none goes =
+    subst (λ xs. GoesOn held s k (record held { input = xs }) s k')
+    (sym (none ∙ append-nil held.input)) goes
 
 pub none-left : (xs : List ℕ) → true ≡ (length xs == 0) → xs ≡ []
 none-left xs e = nil_from_length xs (eqb-true (length xs) 0 (sym e))

@@ -1,5 +1,6 @@
 //! Bytes that were read from a device and not used yet.
-ghost use Rattle.std.specs.Prelude.{◌≡◌, ◌≤◌, ◌==◌, [], IfOk, List, ℕ, drop, length, take};
+ghost use Rattle.std.specs.Prelude.{◌≡◌, ◌≤◌, ◌==◌, ◌++◌, [], IfOk, List, ℕ, drop, length};
+ghost use Rattle.std.specs.Prelude.{take};
 ghost use Rattle.ddcmp_session.specs.Devices.{Becomes, after_came, after_read, moved_of};
 ghost use Rattle.ddcmp_session.specs.Devices.{count_read};
 
@@ -59,7 +60,7 @@ impl Chunk {
         &self.bytes[self.start..self.end]
     }
 
-    /// Returns whether the last read filled it, so that there may be more to read.
+    /// Returns whether it has no room behind its bytes, so that there may be more to read.
     pub(crate) fn is_full(&self) -> bool {
         self.end == self.bytes.len()
     }
@@ -70,15 +71,27 @@ impl Chunk {
         self.rest().is_empty()
     }
 
-    /// Reads the input. All bytes must have been used.
+    /// Reads the input behind the bytes that weren't used, if there is room.
     pub(crate) fn read_input<D: Devices>(&mut self, devices: &mut D) -> Got
-        requires { self.old ≡ [] }
-        ensures { (space : List ℕ) × (self.new ≡ take (count_read result) space)
+        ensures { (space : List ℕ) × (self.new ≡ self.old ++ take (count_read result) space)
             × Becomes (D.traffic devices.old) (D.traffic devices.new) (after_read result space) }
     {
-        let got = devices.read_input(&mut self.bytes);
-        self.start = 0;
-        self.end = count_read(got);
+        if self.is_empty() {
+            self.clear();
+        }
+        self.read_behind(devices)
+    }
+
+    /// Reads the input behind its bytes, if there is room there.
+    fn read_behind<D: Devices>(&mut self, devices: &mut D) -> Got
+        ensures { (space : List ℕ) × (self.new ≡ self.old ++ take (count_read result) space)
+            × Becomes (D.traffic devices.old) (D.traffic devices.new) (after_read result space) }
+    {
+        if self.end >= self.bytes.len() {
+            return Got::Idle;
+        }
+        let got = devices.read_input(&mut self.bytes[self.end..]);
+        self.end += count_read(got);
         got
     }
 

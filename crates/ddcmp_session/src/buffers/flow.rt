@@ -115,8 +115,7 @@ impl Buffers {
     }
 
     /// Reads the input, if it has bytes or has ended.
-    pub(super) fn read_now<D: Devices>(&mut self, devices: &mut D) -> Result<bool, Fault>
-        requires empty { self.old.input ≡ [] }
+    fn read_now<D: Devices>(&mut self, devices: &mut D) -> Result<bool, Fault>
         requires goes_on { self.old.is_over ≡ false }
         ensures on { (session : SessionView) → GoesOn self.old session (D.traffic devices.old)
             self.new session (D.traffic devices.new) }
@@ -199,7 +198,7 @@ impl Buffers {
         ensures keeps { KeepsFaults (D.traffic devices.old) (D.traffic devices.new) }
         ensures untimed { result ≢ Err Fault.Time }
     {
-        if self.input_is_over || !self.input.is_empty() {
+        if self.input_is_over {
             return Ok(());
         }
         if !devices.wait(Wanted::INPUT, 0) {

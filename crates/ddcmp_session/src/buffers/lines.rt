@@ -102,6 +102,10 @@ impl Buffers {
                 Ok(()) => {}
                 Err(fault) => return Err(Stop::Device(fault)),
             }
+            match self.look_for_end(session, devices) {
+                Ok(()) => {}
+                Err(fault) => return Err(Stop::Device(fault)),
+            }
         }
         pass_run(session);
         Err(Stop::Device(Fault::Time))
@@ -265,8 +269,8 @@ impl Buffers {
         if !self.awaits_end(session) {
             return Ok(());
         }
-        match self.read_now(devices) {
-            Ok(_moved) => {}
+        match self.read_the_rest(devices) {
+            Ok(()) => {}
             Err(fault) => return Err(fault),
         }
         if self.has_ended() {

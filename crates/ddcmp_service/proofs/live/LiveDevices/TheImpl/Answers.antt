@@ -9,5 +9,5 @@ open_line-tells g c = record {
   session = c.ensures.session;
   log = c.ensures.log;
   opened = λ _ before known. ap (option_map line_begun) known;
-  open_fault = λ _. refl;
+  not_opened = λ _. refl;
 }

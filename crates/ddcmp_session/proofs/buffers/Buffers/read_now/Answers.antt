@@ -1,5 +1,5 @@
-use Rattle.std.proofs.Common.{◌≡◌, ◌∙◌, ap, [], false, Bool, true, Result, Err, refl, sym}
-use Rattle.std.proofs.Common.{subst, ◌==◌}
+use Rattle.std.proofs.Common.{◌≡◌, ◌∙◌, ap, false, Bool, true, Result, Err, refl, sym}
+use Rattle.std.proofs.Common.{subst, ◌==◌, append-nil}
 use Rattle.ddcmp_session.specs.declared.devices.Fault.{Fault}
 use Rattle.ddcmp_session.specs.declared.devices.Fault.TheVariants.{Input}
 use Rattle.ddcmp_io.specs.declared.device.Got.TheVariants.{Bytes}
@@ -14,14 +14,12 @@ pub returns-in-Idle-clause-on : goal.returns-in-Idle-clause-on
 returns-in-Idle-clause-on g c =
     rw (sym c.self.view_is) (λ session.
     no-input c.read_input.new.self
-    (subst (λ (v : BuffersView). v.input ≡ []) (sym c.self.view_is) c.requires.empty)
     c.in-Idle.ensures.1 (idles (λ t. t) c.in-Idle.ensures.2 (λ t. refl)))
 
 pub returns-in-Failed-clause-on : goal.returns-in-Failed-clause-on
 returns-in-Failed-clause-on g c =
     rw (sym c.self.view_is) (λ session.
     no-input c.read_input.new.self
-    (subst (λ (v : BuffersView). v.input ≡ []) (sym c.self.view_is) c.requires.empty)
     c.in-Failed.ensures.1 (faulted Input c.in-Failed.ensures.2))
 
 pub returns-in-Failed-clause-reports : goal.returns-in-Failed-clause-reports
@@ -38,7 +36,6 @@ pub returns-clause-on : goal.returns-clause-on
 returns-clause-on g c =
     rw (sym c.self.view_is) (λ session.
     input-given c.in-Bytes.n c.in-Bytes.ensures.0 c.read_input.new.self (c.in-Bytes.n == 0)
-    (subst (λ (v : BuffersView). v.input ≡ []) (sym c.self.view_is) c.requires.empty)
     (subst (λ (v : BuffersView). v.is_over ≡ false) (sym c.self.view_is) c.requires.goes_on)
     c.in-Bytes.ensures.1 c.in-Bytes.ensures.2 refl)
 
@@ -53,9 +50,7 @@ returns-clause-keeps g c = keeps-read (Bytes c.in-Bytes.n) c.in-Bytes.ensures.0 
 
 pub returns-in-Idle-clause-idle : goal.returns-in-Idle-clause-idle
 returns-in-Idle-clause-idle g c =
-    let empty =
-    subst (λ (v : BuffersView). v.input ≡ []) (sym c.self.view_is) c.requires.empty in
     rw (sym c.self.view_is)
     (λ e.
     ap (λ xs. record (buffers.the_view c.self.inside) { input = xs })
-    (c.in-Idle.ensures.1 ∙ sym empty))
+    (c.in-Idle.ensures.1 ∙ append-nil c.self.inside.input))
