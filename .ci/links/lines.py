@@ -8,7 +8,7 @@ import time
 
 from links.kit import (Link, checked, exchange, free_port, holds_within, listening, messages_of, server, terminals, wants,
                        wrong)
-from links.peer import STACK, Peer, ack, data, good, header, nak, no_ack, rep, silent
+from links.peer import STACK, STRT, Peer, ack, data, good, header, nak, no_ack, rep, silent
 
 
 def again():
@@ -227,6 +227,36 @@ def full_window():
         it.close()
 
 
+def more_between_lines():
+    """What an input has between lines, in pieces, is looked at once more as the time of the run ends: its messages are lost,
+    and counted. The end of an input behind a full window is seen before the next line, which here opens at once."""
+    cases = ((b"\n", b"62\n"), 1), ((b"62\n", b"63\n64\n"), 3), ((b"62", b"\n63\n"), 2), ((b"zz\n", b"62\n"), 1)
+    for pieces, lost in cases:
+        it = server()
+        link = Link(f"connect:127.0.0.1:{it.getsockname()[1]}", "--again", "--seconds", "3")
+        link.give(b"61\n", close=False)
+        peer = Peer(it.accept()[0], good)
+        peer.waits(lambda it: it.mail, 5)
+        it.close()
+        peer.close()
+        for piece in pieces:
+            time.sleep(0.5)
+            link.give(piece, close=False)
+        name = f"{lost} message{'s' if lost > 1 else ''} lost"
+        wants(pieces, link, 3, f"ddcmp: {name}", 10)
+    own, there = free_port(socket.SOCK_DGRAM), socket.socket(socket.AF_INET, socket.SOCK_DGRAM)
+    there.bind(("127.0.0.1", 0))
+    link = Link(f"udp:127.0.0.1:{own},127.0.0.1:{there.getsockname()[1]}", "--again", "--window", "1", "--linger-ms", "500")
+    link.give(b"61\n")
+    peer = Peer(there, no_ack)
+    if not peer.waits(lambda it: it.named("DATA"), 5):
+        wrong(f"{peer.frames}")
+    peer.answer = silent
+    peer.send(STRT)
+    wants("a silent peer", link, 3, "ddcmp: 1 message lost", 8)
+    there.close()
+
+
 def seconds_in_pause():
     """--seconds ends a link in a pause before its next try."""
     link = Link(f"connect:127.0.0.1:{free_port()}", "--again", "--seconds", "4")
@@ -419,6 +449,6 @@ def pace_of_lines():
     it.close()
 
 
-TRIALS = [again, closed_at_once, late_server, taken_address, server_away, gone_for_good, full_window, udp_pair, datagrams,
-          cut_datagrams, datagram_names, no_device, pace, first_nak, pace_of_lines, seconds_in_pause]
+TRIALS = [again, closed_at_once, late_server, taken_address, server_away, gone_for_good, full_window, more_between_lines,
+          udp_pair, datagrams, cut_datagrams, datagram_names, no_device, pace, first_nak, pace_of_lines, seconds_in_pause]
 LONG_TRIALS = [restarts, longest_pause]
