@@ -115,7 +115,8 @@ def server_away():
     peer = Peer(it.accept()[0], good)
     if time.monotonic() - begun > 0.7:
         wrong(f"{time.monotonic() - begun} s to the first retry")
-    peer.runs()
+    if not peer.runs(2):
+        wrong(f"it doesn't use its second line: {link.errors()}")
     time.sleep(0.2)
     it.close()
     peer.close()
@@ -151,7 +152,8 @@ def gone_for_good():
     link = Link(f"connect:127.0.0.1:{it.getsockname()[1]}", "--again", "--linger-ms", "1500")
     link.give(b"61\n62\n")
     peer = Peer(it.accept()[0], no_ack)
-    peer.waits(lambda it: len(it.named("DATA")) >= 2, 5)
+    if not peer.waits(lambda it: len(it.named("DATA")) >= 2, 5):
+        wrong(f"{peer.frames}")
     it.close()
     peer.close()
     wants("lost", link, 3, "ddcmp: 2 messages lost", 10)
@@ -159,7 +161,8 @@ def gone_for_good():
         link = Link(f"connect:127.0.0.1:{it.getsockname()[1]}", "--again", "--linger-ms", "1500")
         link.give(b"61\n62\n")
         peer = Peer(it.accept()[0], no_ack)
-        peer.waits(lambda it: len(it.named("DATA")) >= 2, 5)
+        if not peer.waits(lambda it: len(it.named("DATA")) >= 2, 5):
+            wrong(f"{peer.frames}")
         time.sleep(2)
         peer.close()
         peer = Peer(it.accept()[0], good)  # it is heard out from the end of its line on
@@ -233,10 +236,11 @@ def more_between_lines():
     cases = ((b"\n", b"62\n"), 1), ((b"62\n", b"63\n64\n"), 3), ((b"62", b"\n63\n"), 2), ((b"zz\n", b"62\n"), 1)
     for pieces, lost in cases:
         it = server()
-        link = Link(f"connect:127.0.0.1:{it.getsockname()[1]}", "--again", "--seconds", "3")
+        link = Link(f"connect:127.0.0.1:{it.getsockname()[1]}", "--again", "--seconds", "5")
         link.give(b"61\n", close=False)
         peer = Peer(it.accept()[0], good)
-        peer.waits(lambda it: it.mail, 5)
+        if not link.waits(lambda it: b"notice Acknowledged 1\n" in it.said, 5):
+            wrong(f"{link.said} {link.errors()}")
         it.close()
         peer.close()
         for piece in pieces:

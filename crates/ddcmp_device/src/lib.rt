@@ -21,7 +21,6 @@ mod system;
 
 pub use bridge::{BridgeEnd, BridgeFault, BridgeOptions, bridge_lines};
 pub use datagram::Framing;
-pub use ddcmp_bridge::Counts;
 pub use event::Event;
 pub use fault::{Attempt, Cause, OpenFault};
 pub use line::Line;

@@ -129,7 +129,8 @@ fn interest_in(to_read: bool, to_write: bool) -> Option<Interest>
     }
 }
 
-/// What a link waits for: standard input, output and error, and its line.
+/// What a link waits for, and a bridge while it opens a line: standard input, output and error, and
+/// the line.
 pub struct Poller {
     poll: Poll,
     events: Events,

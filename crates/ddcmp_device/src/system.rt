@@ -4,7 +4,8 @@ use std::io::Eprint;
 use std::net::{Net, TcpListener, TcpStream};
 use std::time::Clock;
 
-/// All that a link or a bridge needs of the system: connections, devices, standard error and the time.
+/// All that a link or a bridge needs of the system: connections, devices, standard error and the
+/// time.
 pub trait System: Net<Stream = TcpStream, Listener = TcpListener>
     + Files<File = File>
     + Eprint

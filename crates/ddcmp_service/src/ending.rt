@@ -27,7 +27,8 @@ impl ServiceEnd {
         ensures memory { self ≡ ServiceEnd.Memory → result ≡ ServiceFault.Memory }
         ensures lost { (count : ℕ) → self ≡ ServiceEnd.Stopped (Stop.Lost count)
             → result ≡ ServiceFault.Lost count }
-        ensures opened { (refused : RefusalValue) → self ≡ ServiceEnd.Stopped (Stop.NotOpened refused)
+        ensures opened { (refused : RefusalValue)
+            → self ≡ ServiceEnd.Stopped (Stop.NotOpened refused)
             → result ≡ ServiceFault.Open (open_fault_of line.entry refused) }
     {
         match self {

@@ -7,6 +7,6 @@ mod fault;
 mod live;
 mod service;
 
-pub use ddcmp_session::{Form, LinkOutcome, Options};
+pub use ddcmp_session::{LinkOutcome, Options};
 pub use fault::ServiceFault;
 pub use service::serve_link;

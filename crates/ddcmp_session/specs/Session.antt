@@ -104,7 +104,7 @@ lost_in maintenance d =
 abbrev pub wants_input : SessionView → Bool
 wants_input s = not s.is_read && takes_in s.options.maintenance s.link
 
--- Its end is accepted if a message is, and once the station has run if it completes none.
+-- Its end is accepted if a message is, and once the station has run also if there is no last line.
 abbrev pub takes_end : SessionView → Bool
 takes_end s =
     not s.is_read

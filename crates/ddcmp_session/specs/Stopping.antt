@@ -34,7 +34,8 @@ IsLeft held old before s after =
 abbrev pub IsTimeOver : SessionView → Type 0
 IsTimeOver s = (end s ≡ Some end_of.Time) ⊎ (s.output.waiting ≢ [])
 
--- all is delivered, or the line was left, or a time limit was reached
+-- all is delivered or lost with a line that has ended, or the line was left, or a time limit was
+-- reached
 abbrev pub MayStop : BuffersView → SessionView → Option Traffic → SessionView → Option Traffic
     → Type 0
 MayStop held old before s after =

@@ -9,10 +9,10 @@ use ddcmp_io::Got;
 use std::alloc::{AllocError, Global};
 use std::marker::Model;
 
-/// How many bytes are read at once.
+/// How many bytes it holds at most.
 const SIZE: usize = 65536;
 
-/// The bytes that one read returned. The next read is made once all of them were used.
+/// Bytes that were read. The line is read once all of them were used, the input also behind them.
 pub(crate) struct Chunk {
     bytes: Vec<u8>,
     start: usize,

@@ -257,7 +257,7 @@ impl Course {
         self.retry_seconds
     }
 
-    /// Lets the line be opened at once, and its peer be heard out from now on.
+    /// Lets the line be opened at once, and its peer be waited for from now on.
     pub(crate) fn retry_at_once(&mut self)
         ensures { self.new ≡ record self.old {
           retry_seconds = 0;

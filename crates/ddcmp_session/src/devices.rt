@@ -86,7 +86,8 @@ pub trait Devices {
         ensures { Becomes (traffic self.old) (traffic self.new) (after_wait result) };
 
     /// Waits until a device that is wanted is ready, at most this many milliseconds; returns false
-    /// if the wait failed.
+    /// if the wait failed. It may report only once that a line can be opened, so `open_line` is
+    /// called before the next wait.
     fn wait(&mut self, wanted: Wanted, most_ms: u64) -> bool
         ensures { Becomes (traffic self.old) (traffic self.new) (after_wait result) };
 

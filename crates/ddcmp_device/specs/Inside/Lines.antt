@@ -6,7 +6,8 @@ use Rattle.ddcmp_device.specs.declared.line.Line.{Line}
 use Rattle.ddcmp_device.specs.declared.line.Line.TheVariants.{Stream, Datagrams, Device}
 use Rattle.ddcmp_io.specs.declared.transfer.Down.TheVariants.{Failed}
 use Rattle.ddcmp_io.specs.declared.transfer.Transfer.{Transfer}
-use Rattle.ddcmp_io.specs.declared.transfer.Transfer.TheVariants.{Bytes, Nothing, Interrupted, Ended}
+use Rattle.ddcmp_io.specs.declared.transfer.Transfer.TheVariants.{Bytes, Nothing, Interrupted}
+use Rattle.ddcmp_io.specs.declared.transfer.Transfer.TheVariants.{Ended}
 
 -- whether each write arrives as a whole, or not at all
 abbrev pub has_datagrams : Line → Bool

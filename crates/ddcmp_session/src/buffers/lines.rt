@@ -102,10 +102,6 @@ impl Buffers {
                 Ok(()) => {}
                 Err(fault) => return Err(Stop::Device(fault)),
             }
-            match self.look_for_end(session, devices) {
-                Ok(()) => {}
-                Err(fault) => return Err(Stop::Device(fault)),
-            }
         }
         pass_run(session);
         Err(Stop::Device(Fault::Time))
@@ -170,6 +166,10 @@ impl Buffers {
         ensures read { result ≢ Err Stop.Unread }
     {
         for _try in 0..u64::MAX {
+            match self.look_for_end(session, devices) {
+                Ok(()) => {}
+                Err(fault) => return Err(Stop::Device(fault)),
+            }
             let now = devices.now();
             session.pass_time(now);
             match session.end() {
@@ -182,9 +182,10 @@ impl Buffers {
                 Ok(false) => {}
                 Err(stop) => return Err(stop),
             }
-            match self.pass_between_lines(session, devices, now) {
-                Ok(()) => {}
-                Err(fault) => return Err(Stop::Device(fault)),
+            // No other wait comes between: it would take the report that the line can be opened.
+            write_errors(session, devices);
+            if !self.wait_between_lines(session, devices, now) {
+                return Err(Stop::Device(Fault::Input));
             }
         }
         pass_run(session);
@@ -220,34 +221,6 @@ impl Buffers {
                 devices.report_retry(session, refusal, seconds);
                 Ok(false)
             }
-        }
-    }
-
-    /// Looks for the end of the input, writes what standard error has room for, and waits, all
-    /// without a line.
-    fn pass_between_lines<D: Devices>(
-        &mut self,
-        session: &mut Session,
-        devices: &mut D,
-        now: u64,
-    ) -> Result<(), Fault>
-        ensures over { StaysOver self.old session.old.state (D.traffic devices.old)
-            self.new session.new.state (D.traffic devices.new) }
-        ensures ready { IsReady session.old.state → IsReady session.new.state }
-        ensures reports { (fault : FaultValue) → result ≡ Err fault
-            → ReportsOver self.old session.old.state (D.traffic devices.old)
-            (D.traffic devices.new) fault }
-        ensures untimed { result ≢ Err Fault.Time }
-    {
-        match self.look_for_end(session, devices) {
-            Ok(()) => {}
-            Err(fault) => return Err(fault),
-        }
-        write_errors(session, devices);
-        if self.wait_between_lines(session, devices, now) {
-            Ok(())
-        } else {
-            Err(Fault::Input)
         }
     }
 

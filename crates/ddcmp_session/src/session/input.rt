@@ -102,7 +102,7 @@ impl Session {
     }
 
     /// Returns whether the end of the input is accepted: if the station accepts a message, and once
-    /// it has run also if there is no last line that may be one.
+    /// it has run also if there is no last line without LF.
     pub fn takes_end(&self) -> bool
         ensures { result ≡ takes_end self.now.state }
     {

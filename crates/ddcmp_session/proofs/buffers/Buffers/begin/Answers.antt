@@ -1,65 +1,102 @@
-use Rattle.std.proofs.Common.{◌∙◌, ap, refl, Ok}
-use Rattle.ddcmp_session.proofs.LinesGo.{none-over, over-then, passed-now, passes-then, ready-by}
-use Rattle.ddcmp_session.proofs.LinesGo.{reports-later, same-fault}
+use Rattle.std.proofs.Common.{◌≡◌, ◌∙◌, ap, refl, subst, Result, Ok, Err}
+use Rattle.ddcmp_session.specs.declared.buffers.lines.Stop.TheVariants.{the_data, Device}
+use Rattle.ddcmp_session.specs.declared.devices.Fault.{Fault}
+use Rattle.ddcmp_session.specs.declared.devices.Fault.TheVariants.{Input}
+use Rattle.ddcmp_session.specs.Devices.{Reports}
+use Rattle.ddcmp_session.proofs.GoingLaws.{reported, waited}
+use Rattle.ddcmp_session.proofs.LinesGo.{goes-over, none-over, over-then, passed-now, passes-then}
+use Rattle.ddcmp_session.proofs.LinesGo.{ready-by, reports-later, reports-over, same-fault}
 use Rattle.ddcmp_session.proofs.buffers.Buffers.begin.Goals as goal
 
 pub loop-try-init : goal.loop-try-init
 loop-try-init g c = (none-over refl refl, λ r. r)
 
+pub returns-in-Err-clause-over : goal.returns-in-Err-clause-over
+returns-in-Err-clause-over g c =
+    over-then c.loop-try.invariant.0 (goes-over c.look_for_end.ensures.on)
+
+pub returns-in-Err-clause-reports : goal.returns-in-Err-clause-reports
+returns-in-Err-clause-reports g c = λ fault untimed e.
+    reports-later c.loop-try.invariant.0
+    (reports-over (none-over refl refl) (c.in-Err.ensures.reports fault (same-fault e)))
+
 pub returns-in-Some-Time-clause-over : goal.returns-in-Some-Time-clause-over
 returns-in-Some-Time-clause-over g c =
-    over-then c.loop-try.invariant.0
+    over-then (over-then c.loop-try.invariant.0 (goes-over c.look_for_end.ensures.on))
     (over-then (none-over refl c.now-now.ensures)
-    (passed-now c.now-now.result c.loop-try.session.state c.pass_time.new.self.state
+    (passed-now c.now-now.result c.look_for_end.new.session.state c.pass_time.new.self.state
     c.pass_time.ensures.state))
 
 pub returns-in-Some-Done-clause-over : goal.returns-in-Some-Done-clause-over
 returns-in-Some-Done-clause-over g c =
-    over-then c.loop-try.invariant.0
+    over-then (over-then c.loop-try.invariant.0 (goes-over c.look_for_end.ensures.on))
     (over-then (none-over refl c.now-now.ensures)
-    (passed-now c.now-now.result c.loop-try.session.state c.pass_time.new.self.state
+    (passed-now c.now-now.result c.look_for_end.new.session.state c.pass_time.new.self.state
     c.pass_time.ensures.state))
 
 pub returns-in-Ok-true-clause-over : goal.returns-in-Ok-true-clause-over
 returns-in-Ok-true-clause-over g c =
-    passes-then c.now-now.result c.loop-try.session.state c.pass_time.new.self.state
-    c.loop-try.invariant.0 c.loop-try.invariant.1 c.now-now.ensures c.pass_time.ensures.state
-    c.try_line.ensures.over
+    passes-then c.now-now.result c.look_for_end.new.session.state c.pass_time.new.self.state
+    (over-then c.loop-try.invariant.0 (goes-over c.look_for_end.ensures.on))
+    (λ r. c.look_for_end.ensures.ready (c.loop-try.invariant.1 r)) c.now-now.ensures
+    c.pass_time.ensures.state c.try_line.ensures.over
 
-pub returns-in-Err-clause-over : goal.returns-in-Err-clause-over
-returns-in-Err-clause-over g c =
-    passes-then c.now-now.result c.loop-try.session.state c.pass_time.new.self.state
-    c.loop-try.invariant.0 c.loop-try.invariant.1 c.now-now.ensures c.pass_time.ensures.state
-    c.try_line.ensures.over
+pub returns-in-Err-try_line-clause-over : goal.returns-in-Err-try_line-clause-over
+returns-in-Err-try_line-clause-over g c =
+    passes-then c.now-now.result c.look_for_end.new.session.state c.pass_time.new.self.state
+    (over-then c.loop-try.invariant.0 (goes-over c.look_for_end.ensures.on))
+    (λ r. c.look_for_end.ensures.ready (c.loop-try.invariant.1 r)) c.now-now.ensures
+    c.pass_time.ensures.state c.try_line.ensures.over
 
-pub returns-in-Err-pass_between_lines-clause-over : goal.returns-in-Err-pass_between_lines-clause-over
-returns-in-Err-pass_between_lines-clause-over g c =
+pub returns-then-not-wait_between_lines-clause-over :
+    goal.returns-then-not-wait_between_lines-clause-over
+returns-then-not-wait_between_lines-clause-over g c =
     over-then
-    (passes-then c.now-now.result c.loop-try.session.state c.pass_time.new.self.state
-    c.loop-try.invariant.0 c.loop-try.invariant.1 c.now-now.ensures c.pass_time.ensures.state
-    c.try_line.ensures.over) c.pass_between_lines.ensures.over
+    (over-then
+    (passes-then c.now-now.result c.look_for_end.new.session.state c.pass_time.new.self.state
+    (over-then c.loop-try.invariant.0 (goes-over c.look_for_end.ensures.on))
+    (λ r. c.look_for_end.ensures.ready (c.loop-try.invariant.1 r)) c.now-now.ensures
+    c.pass_time.ensures.state c.try_line.ensures.over)
+    (none-over c.write_errors.ensures.session c.write_errors.ensures.devices))
+    (goes-over (waited c.wait_between_lines.result c.wait_between_lines.ensures))
 
-pub returns-in-Err-pass_between_lines-clause-reports :
-    goal.returns-in-Err-pass_between_lines-clause-reports
-returns-in-Err-pass_between_lines-clause-reports g c = λ fault untimed e.
+pub returns-then-not-wait_between_lines-clause-reports :
+    goal.returns-then-not-wait_between_lines-clause-reports
+returns-then-not-wait_between_lines-clause-reports g c = λ fault untimed e.
     reports-later c.loop-try.invariant.0
+    (reports-later (goes-over c.look_for_end.ensures.on)
     (reports-later (none-over refl c.now-now.ensures)
     (reports-later
-    (passed-now c.now-now.result c.loop-try.session.state c.pass_time.new.self.state
+    (passed-now c.now-now.result c.look_for_end.new.session.state c.pass_time.new.self.state
     c.pass_time.ensures.state)
     (reports-later c.try_line.ensures.over
-    (c.in-Err-pass_between_lines.ensures.reports fault (same-fault e)))))
+    (reports-later (none-over c.write_errors.ensures.session c.write_errors.ensures.devices)
+    (reports-over (none-over refl refl)
+    (subst
+    (Reports c.try_line.new.self c.write_errors.new.session.state
+    (g.D.Devices.traffic c.write_errors.new.devices)
+    (g.D.Devices.traffic c.wait_between_lines.new.devices)) (same e)
+    (reported Input c.if-not-wait_between_lines.ensures))))))))
+  where
+    same : {A R : Type 0} {f : Fault}
+        → ◌≡◌ {A = Result A (the_data R)} (Err (Device Input)) (Err (Device f)) → Input ≡ f
+    same e = cc
 
 pub loop-try-preserved : goal.loop-try-preserved
 loop-try-preserved g c = (
   over-then
-      (passes-then c.now-now.result c.loop-try.session.state c.pass_time.new.self.state
-      c.loop-try.invariant.0 c.loop-try.invariant.1 c.now-now.ensures c.pass_time.ensures.state
-      c.try_line.ensures.over) c.pass_between_lines.ensures.over,
-  λ r. c.pass_between_lines.ensures.ready
+      (over-then
+      (passes-then c.now-now.result c.look_for_end.new.session.state c.pass_time.new.self.state
+      (over-then c.loop-try.invariant.0 (goes-over c.look_for_end.ensures.on))
+      (λ r. c.look_for_end.ensures.ready (c.loop-try.invariant.1 r)) c.now-now.ensures
+      c.pass_time.ensures.state c.try_line.ensures.over)
+      (none-over c.write_errors.ensures.session c.write_errors.ensures.devices))
+      (goes-over (waited c.wait_between_lines.result c.wait_between_lines.ensures)),
+  λ r. ready-by c.write_errors.ensures.session
       (c.try_line.ensures.ready
       (c.in-Ok-false.is ∙ ap (λ b. Ok b) c.in-Ok-false.field-0-test)
-      (ready-by c.pass_time.ensures.state (c.loop-try.invariant.1 r))),
+      (ready-by c.pass_time.ensures.state
+      (c.look_for_end.ensures.ready (c.loop-try.invariant.1 r)))),
 )
 
 pub returns-clause-over : goal.returns-clause-over

@@ -1,6 +1,5 @@
 use Rattle.std.proofs.Common.{◌∙◌, ap, inl, inr, refl, sym, Ok}
-use Rattle.ddcmp_session.proofs.LinesGo.{goes-over, none-over, over-next, over-then}
-use Rattle.ddcmp_session.proofs.LinesGo.{reports-later, reports-over}
+use Rattle.ddcmp_session.proofs.LinesGo.{none-over, over-next, over-then, reports-later}
 use Rattle.ddcmp_session.proofs.LinesGo.{same-err, same-fault}
 use Rattle.ddcmp_session.proofs.StopLaws.{line-later}
 use Rattle.ddcmp_session.proofs.buffers.Buffers.run_each.Goals as goal
@@ -11,29 +10,10 @@ loop-line-init g c = (none-over refl refl, λ ready. ready)
 pub loop-line-preserved : goal.loop-line-preserved
 loop-line-preserved g c = (
   over-then
-      (over-then
       (over-then (over-next c.loop-line.invariant.0 c.loop-line.invariant.1 c.run_one.ensures.over)
-      (none-over refl c.close_line.ensures)) (c.leave.ensures.over _))
-      (goes-over c.look_for_end.ensures.on),
-  λ r. c.look_for_end.ensures.ready (c.leave.ensures.ready c.in-Ok.is),
+      (none-over refl c.close_line.ensures)) (c.leave.ensures.over _),
+  λ r. c.leave.ensures.ready c.in-Ok.is,
 )
-
-pub returns-in-Err-look_for_end-clause-over : goal.returns-in-Err-look_for_end-clause-over
-returns-in-Err-look_for_end-clause-over g c =
-    over-then
-    (over-then
-    (over-then (over-next c.loop-line.invariant.0 c.loop-line.invariant.1 c.run_one.ensures.over)
-    (none-over refl c.close_line.ensures)) (c.leave.ensures.over _))
-    (goes-over c.look_for_end.ensures.on)
-
-pub returns-in-Err-look_for_end-clause-reports : goal.returns-in-Err-look_for_end-clause-reports
-returns-in-Err-look_for_end-clause-reports g c = λ fault untimed e.
-    reports-later c.loop-line.invariant.0
-    (reports-later c.run_one.ensures.over
-    (reports-later (none-over refl c.close_line.ensures)
-    (reports-later (over-then (none-over refl refl) (c.leave.ensures.over _))
-    (reports-over (none-over refl refl)
-    (c.in-Err-look_for_end.ensures.reports fault (same-fault e))))))
 
 pub returns-in-Err-leave-clause-over : goal.returns-in-Err-leave-clause-over
 returns-in-Err-leave-clause-over g c =
