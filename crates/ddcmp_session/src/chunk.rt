@@ -12,7 +12,8 @@ use std::marker::Model;
 /// How many bytes it holds at most.
 const SIZE: usize = 65536;
 
-/// Bytes that were read. The line is read once all of them were used, the input also behind them.
+/// Bytes that were read. The line is read once all of them were used, and the input while it has
+/// room after them.
 pub(crate) struct Chunk {
     bytes: Vec<u8>,
     start: usize,
@@ -60,7 +61,7 @@ impl Chunk {
         &self.bytes[self.start..self.end]
     }
 
-    /// Returns whether it has no room behind its bytes, so that there may be more to read.
+    /// Returns whether it has no room after its bytes, so that there may be more to read.
     pub(crate) fn is_full(&self) -> bool {
         self.end == self.bytes.len()
     }
@@ -71,7 +72,7 @@ impl Chunk {
         self.rest().is_empty()
     }
 
-    /// Reads the input behind the bytes that weren't used, if there is room.
+    /// Reads more of the input, after the bytes that weren't used, if there is room.
     pub(crate) fn read_input<D: Devices>(&mut self, devices: &mut D) -> Got
         ensures { (space : List ℕ) × (self.new ≡ self.old ++ take (count_read result) space)
             × Becomes (D.traffic devices.old) (D.traffic devices.new) (after_read result space) }
@@ -79,11 +80,11 @@ impl Chunk {
         if self.is_empty() {
             self.clear();
         }
-        self.read_behind(devices)
+        self.read_more(devices)
     }
 
-    /// Reads the input behind its bytes, if there is room there.
-    fn read_behind<D: Devices>(&mut self, devices: &mut D) -> Got
+    /// Reads more of the input, if there is room after its bytes.
+    fn read_more<D: Devices>(&mut self, devices: &mut D) -> Got
         ensures { (space : List ℕ) × (self.new ≡ self.old ++ take (count_read result) space)
             × Becomes (D.traffic devices.old) (D.traffic devices.new) (after_read result space) }
     {

@@ -114,7 +114,7 @@ impl Buffers {
         self.read_now(devices)
     }
 
-    /// Reads the input behind what is left of it, if it has bytes or has ended and there is room.
+    /// Reads more of the input, if it has bytes or has ended and there is room.
     fn read_now<D: Devices>(&mut self, devices: &mut D) -> Result<bool, Fault>
         requires goes_on { self.old.is_over ≡ false }
         ensures on { (session : SessionView) → GoesOn self.old session (D.traffic devices.old)
@@ -189,7 +189,7 @@ impl Buffers {
         moved
     }
 
-    /// Reads once what the input has now, if there is room behind what is left of it: for its end,
+    /// Reads once what the input has now, if there is room after what is left of it: for its end,
     /// or so that messages that won't be sent are counted as lost.
     pub fn read_the_rest<D: Devices>(&mut self, devices: &mut D) -> Result<(), Fault>
         ensures on { (session : SessionView) → GoesOn self.old session (D.traffic devices.old)

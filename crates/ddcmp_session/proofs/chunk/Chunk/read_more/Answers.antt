@@ -3,7 +3,7 @@ use Rattle.std.proofs.Common.{length-drop, length-take-le}
 use Rattle.std.proofs.lemmas.List.{drop-append-le, with_items_is}
 use borrow.Rule.Slice.PartMut.{put_mid, same_len_mid}
 use Rattle.ddcmp_explain.proofs.DetectionLaws.{take-read}
-use Rattle.ddcmp_session.proofs.chunk.Chunk.read_behind.Goals as goal
+use Rattle.ddcmp_session.proofs.chunk.Chunk.read_more.Goals as goal
 
 pub read_input-got-requires : goal.read_input-got-requires
 read_input-got-requires g c =
