@@ -231,7 +231,7 @@ def large():
 
 
 def flooded():
-    """Junk comes without a pause: what is typed is sent nevertheless."""
+    """Junk comes without a pause: the input is sent nevertheless."""
     with server() as it:
         link = Link(f"connect:127.0.0.1:{it.getsockname()[1]}", "--timer-ms", "500")
         peer = Peer(it.accept()[0])

@@ -34,7 +34,8 @@ directs-held start r came taken waits old new due n e h =
     let all : (taken ++ bytes_of old) ++ take n waits ≡ taken ++ bytes_of new =
     ap (λ t. (taken ++ bytes_of old) ++ t) whole ∙ append_assoc taken (bytes_of old) waits
     ∙ ap (λ t. taken ++ (bytes_of old ++ t)) (sym (one-frame due waits))
-    ∙ ap (λ t. taken ++ t) (sym (bytes-append old ((due, waits) ∷ []))) ∙ ap (λ t. taken ++ bytes_of t) (sym h) in
+    ∙ ap (λ t. taken ++ t) (sym (bytes-append old ((due, waits) ∷ [])))
+    ∙ ap (λ t. taken ++ bytes_of t) (sym h) in
     subst (Relays start r came) all
 
 -- some bytes of the first were taken

@@ -53,7 +53,8 @@ flows-begins start f p h =
     let held = bytes_of f.direction.held in
     let waits = f.direction.relay.waiting in
     let good = good-more MAX_COUNT h.used f.waiting in
-    let later = good_frames_in (read MAX_COUNT (with_more (ending MAX_COUNT h.used) f.waiting)).items in
+    let later =
+    good_frames_in (read MAX_COUNT (with_more (ending MAX_COUNT h.used) f.waiting)).items in
     let first = good_frames MAX_COUNT h.used in
     let rest = left_of later (fates faults (draws_after start first) later) in (
       held ++ (waits ++ rest),
@@ -180,7 +181,8 @@ goes-then {a} {b} {c} {x} {y} {z} one two = record {
 }
 
 -- traffic that stays is known as before
-pub goes-same : {a b : BridgeView} {x y z : Option Traffic} → GoesOn a x b y → z ≡ y → GoesOn a x b z
+pub goes-same : {a b : BridgeView} {x y z : Option Traffic} → GoesOn a x b y → z ≡ y
+    → GoesOn a x b z
 goes-same {a} {b} {x} {y} {z} h e = subst (GoesOn a x b) (sym e) h
 
 pub goes-both : (was a b : BridgeView) {x y z : Option Traffic} → a ≡ was

@@ -3,11 +3,12 @@ use Rattle.std.proofs.Common.{◌≡◌, ◌∙◌, Bool, true, false, inl, inr,
 use Rattle.std.specs.Prelude.{if◌then◌else◌}
 use Rattle.ddcmp_io.specs.Written.{Known}
 use Rattle.ddcmp_device.specs.declared.bridge.BridgeFault.TheVariants as bridging
-use Rattle.ddcmp_cli.specs.declared.fault.Fault.TheVariants.{Read, Write, Memory, Ended}
-use Rattle.ddcmp_cli.specs.declared.ending.Ending.{Ending}
-use Rattle.ddcmp_cli.specs.declared.ending.Ending.TheVariants.{Done, Fault as Faulted}
-use Rattle.ddcmp_cli.specs.BridgeEndings.{Bridges, IsNoLine}
-use Rattle.ddcmp_cli.specs.TapEndings.{IsUnopened}
+use Rattle.ddcmp_commands.specs.declared.fault.Fault.TheVariants.{Read, Write, Memory, Ended}
+use Rattle.ddcmp_commands.specs.declared.ending.Ending.{Ending}
+use Rattle.ddcmp_commands.specs.declared.ending.Ending.TheVariants.{Done, Fault as Faulted}
+use Rattle.ddcmp_cli.specs.BridgeEndings.{Bridges}
+use Rattle.ddcmp_commands.specs.Endings.{IsNoLine}
+use Rattle.ddcmp_commands.specs.TapEndings.{IsUnopened}
 
 no-write : Faulted Write ≡ Faulted Read → ⊥
 no-write e = cc

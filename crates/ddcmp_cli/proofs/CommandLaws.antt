@@ -1,29 +1,31 @@
 -- What the words ask for, once the command that they name was run.
-use Rattle.ddcmp_cli.specs.Endings.{Performs, ExplainsOrNoMemory, Streams, file_named, Stations}
-use Rattle.ddcmp_cli.specs.Endings.{LinksOrNoMemory, ReadsFiles, StationsOrNoMemory, TapsAsked}
-use Rattle.ddcmp_cli.specs.Endings.{TapsOrNoMemory}
+use Rattle.ddcmp_cli.specs.Endings.{Performs, ExplainsOrNoMemory, file_named, LinksOrNoMemory}
+use Rattle.ddcmp_cli.specs.Endings.{ReadsFiles, StationsOrNoMemory, TapsOrNoMemory}
+use Rattle.ddcmp_commands.specs.Endings.{Streams}
+use Rattle.ddcmp_commands.specs.Stations.{Stations}
+use Rattle.ddcmp_commands.specs.TapEndings.{TapsAsked}
 use Rattle.ddcmp_cli.specs.LinkEndings.{LinesKnown, Links}
-use Rattle.ddcmp_cli.specs.declared.ending.Ending.{Ending}
-use Rattle.ddcmp_cli.specs.declared.ending.Ending.TheVariants.{Done, Fault as Faulted}
-use Rattle.ddcmp_cli.specs.declared.fault.Fault.TheVariants.{Write}
+use Rattle.ddcmp_commands.specs.declared.ending.Ending.{Ending}
+use Rattle.ddcmp_commands.specs.declared.ending.Ending.TheVariants.{Done, Fault as Faulted}
+use Rattle.ddcmp_commands.specs.declared.fault.Fault.TheVariants.{Write}
 use Rattle.std.specs.Str.{bytes_eq}
 use Rattle.std.proofs.lemmas.Slice.Eq.{bytes_eq-Decides}
 use Rattle.std.specs.Prelude.{IsOk, IsTrue}
-use Rattle.ddcmp_words.specs.declared.no_command.NoCommand.{NoCommand}
-use Rattle.ddcmp_words.specs.declared.no_command.NoCommand.TheVariants.{Memory}
+use Rattle.ddcmp_args.specs.declared.no_command.NoCommand.{NoCommand}
+use Rattle.ddcmp_args.specs.declared.no_command.NoCommand.TheVariants.{Memory}
 use Rattle.std.proofs.Common.{Bool, ap, false, inl, inr, ◌⊎◌, Result, Ok, Err, ℕ, codes, ◌≡◌, ◌∙◌}
 use Rattle.std.proofs.Common.{sym, refl, true, ◌≢◌, List, Option, Some, None}
 use Rattle.clap.specs.Words.{Text}
-use Rattle.ddcmp_words.specs.Words.{named_by, name_of, file_of, option_in, text_in, HasOptions}
-use Rattle.ddcmp_words.specs.Words.{IsAsked}
-use Rattle.ddcmp_words.specs.declared.command.Command.{Command}
-use Rattle.ddcmp_words.specs.declared.command.Command.TheVariants.{Explain, Simulate, Pair, Station}
-use Rattle.ddcmp_words.specs.declared.command.Command.TheVariants.{Tap, Link, Bridge}
-use Rattle.ddcmp_words.specs.declared.station_args.StationArgs.{StationArgs}
-use Rattle.ddcmp_cli.specs.Connections.{Peers}
-use Rattle.ddcmp_words.specs.declared.tap_args.TapArgs.{TapArgs}
-use Rattle.ddcmp_words.specs.declared.link_args.LinkArgs.{LinkArgs}
-use Rattle.ddcmp_words.specs.declared.bridge_args.BridgeArgs.{BridgeArgs}
+use Rattle.ddcmp_args.specs.Args.{named_by, name_of, file_of, option_in, text_in, HasOptions}
+use Rattle.ddcmp_args.specs.Args.{IsAsked}
+use Rattle.ddcmp_args.specs.declared.command.Command.{Command}
+use Rattle.ddcmp_args.specs.declared.command.Command.TheVariants.{Explain, Simulate, Pair, Station}
+use Rattle.ddcmp_args.specs.declared.command.Command.TheVariants.{Tap, Link, Bridge}
+use Rattle.ddcmp_args.specs.declared.station_args.StationArgs.{StationArgs}
+use Rattle.ddcmp_commands.specs.Connections.{Peers}
+use Rattle.ddcmp_args.specs.declared.tap_args.TapArgs.{TapArgs}
+use Rattle.ddcmp_args.specs.declared.link_args.LinkArgs.{LinkArgs}
+use Rattle.ddcmp_args.specs.declared.bridge_args.BridgeArgs.{BridgeArgs}
 
 -- Names that differ as texts aren't one name. A new command costs one line of each law below.
 other : (a b : Text) → bytes_eq a b ≡ false → ◌≡◌ {A = Option Text} (Some a) (Some b) → ⊥

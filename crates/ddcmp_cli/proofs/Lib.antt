@@ -1,4 +1,2 @@
 pub mod BridgeLaws
 pub mod CommandLaws
-pub mod ScriptLaws
-pub mod StationLaws

@@ -1,29 +1,30 @@
 -- How `ddcmp bridge` ends.
-use Rattle.std.specs.Prelude.{◌≡◌, ◌⊎◌, ⊤, Bool, if◌then◌else◌, Result, Ok, Err, Option, Some, None}
+use Rattle.std.specs.Prelude.{◌≡◌, ◌⊎◌, Bool, if◌then◌else◌, Result, Ok, Err, Option, Some, None}
 use Rattle.std.specs.Io.KnownBytes.{Appends, Keeps}
 use Rattle.ddcmp_bridge.specs.Report.{bridge_report}
 use Rattle.ddcmp_io.specs.Written.{AppendsPart, Known}
 use Rattle.ddcmp_device.specs.declared.bridge.BridgeEnd.{BridgeEnd}
 use Rattle.ddcmp_device.specs.declared.bridge.BridgeFault.{BridgeFault}
 use Rattle.ddcmp_device.specs.declared.bridge.BridgeFault.TheVariants as bridging
-use Rattle.ddcmp_explain.specs.declared.notation.Notation.{Notation as Wording}
+use Rattle.ddcmp_explain.specs.declared.notation.Notation.{Notation}
 use Rattle.ddcmp_explain.specs.declared.notation.Notation.TheVariants as words
-use Rattle.ddcmp_tap.specs.declared.notation.Notation.{Notation}
-use Rattle.ddcmp_tap.specs.declared.notation.Notation.TheVariants.{Plain, Ladder, Json}
-use Rattle.ddcmp_words.specs.declared.bridge_args.BridgeArgs.{BridgeArgs}
-use Rattle.ddcmp_cli.specs.declared.fault.Fault.TheVariants.{Write, Memory, Ended}
-use Rattle.ddcmp_cli.specs.declared.ending.Ending.{Ending}
-use Rattle.ddcmp_cli.specs.declared.ending.Ending.TheVariants.{Done, Usage, Fault as Faulted}
-use Rattle.ddcmp_cli.specs.TapEndings.{IsUnopened}
+use Rattle.ddcmp_tap.specs.declared.notation.LogNotation.{LogNotation}
+use Rattle.ddcmp_tap.specs.declared.notation.LogNotation.TheVariants.{Plain, Ladder, Json}
+use Rattle.ddcmp_args.specs.declared.bridge_args.BridgeArgs.{BridgeArgs}
+use Rattle.ddcmp_commands.specs.declared.fault.Fault.TheVariants.{Write, Memory, Ended}
+use Rattle.ddcmp_commands.specs.declared.ending.Ending.{Ending}
+use Rattle.ddcmp_commands.specs.declared.ending.Ending.TheVariants.{Done, Fault as Faulted}
+use Rattle.ddcmp_commands.specs.Endings.{IsNoLine}
+use Rattle.ddcmp_commands.specs.TapEndings.{IsUnopened}
 
 -- the notation in which received frames are printed: JSON, plain text if `--trace` is given, or
 -- none
-abbrev pub lines_of : Wording → Bool → Option Notation
+abbrev pub lines_of : Notation → Bool → Option LogNotation
 lines_of words.Json trace = Some Json
 lines_of words.Plain trace = if trace then Some Plain else None
 
 -- the same, or a ladder, if one is requested
-abbrev pub trace_of : BridgeArgs → Option Notation
+abbrev pub trace_of : BridgeArgs → Option LogNotation
 trace_of bridged =
     if bridged.ladder then Some Ladder else lines_of bridged.notation bridged.trace
 
@@ -40,12 +41,6 @@ abbrev pub BridgeEnds : Known → Known → Result BridgeEnd BridgeFault → End
 BridgeEnds old new (Ok end) ending = Reports old new end ending
 BridgeEnds old new (Err (bridging.Open why)) ending = IsUnopened ending × Keeps old new
 BridgeEnds old new (Err bridging.Memory) ending = (ending ≡ Faulted Memory) × Keeps old new
-
--- a usage error, as for a LINE argument that isn't one, or an allocation failure
-abbrev pub IsNoLine : Ending → Type 0
-IsNoLine (Usage text) = ⊤
-IsNoLine (Faulted Memory) = ⊤
-IsNoLine _ = ⊥
 
 -- There is a usage error, or an allocation failed, and nothing is written; or the program ends as a
 -- bridge did.

@@ -1,9 +1,12 @@
 pub mod BridgeEndings
-pub mod Connections
-pub mod Origins
 pub mod Endings
 pub mod LinkEndings
-pub mod TapEndings
+pub use Rattle.ddcmp_commands.specs.Connections
+pub use Rattle.ddcmp_commands.specs.Origins
+pub use Rattle.ddcmp_commands.specs.Explaining
+pub use Rattle.ddcmp_commands.specs.Scripts
+pub use Rattle.ddcmp_commands.specs.Stations
+pub use Rattle.ddcmp_commands.specs.TapEndings
 pub use Rattle.ddcmp_explain.specs.Digits
 pub use Rattle.ddcmp_explain.specs.Text
 pub use Rattle.ddcmp_explain.specs.Json
@@ -11,4 +14,4 @@ pub use Rattle.ddcmp_explain.specs.Output
 pub use Rattle.ddcmp_explain.specs.Explains
 pub use Rattle.ddcmp_explain.specs.Dumps
 pub use Rattle.ddcmp_net.specs.Serving
-pub use Rattle.ddcmp_words.specs.Words
+pub use Rattle.ddcmp_args.specs.Args

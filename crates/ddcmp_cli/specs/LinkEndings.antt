@@ -1,40 +1,40 @@
 -- How `ddcmp link` ends.
 use Rattle.std.specs.Prelude.{◌≡◌, ◌≢◌, ◌⊎◌, ◌==◌, ◌&&◌, ◌||◌, not, ℕ, Bool, true, false, List}
 use Rattle.std.specs.Prelude.{Option, Some, None, Result, Ok, Err}
-use Rattle.ddcmp_session.specs.declared.options.Options.{Options}
+use Rattle.ddcmp_streams.specs.declared.options.Options.{Options}
 use Rattle.ddcmp_device.specs.LineNames.{word_of}
-use Rattle.ddcmp_service.specs.declared.fault.ServiceFault.{ServiceFault}
-use Rattle.ddcmp_service.specs.declared.fault.ServiceFault.TheVariants as service
+use Rattle.ddcmp_link.specs.declared.fault.LinkFailure.{LinkFailure}
+use Rattle.ddcmp_link.specs.declared.fault.LinkFailure.TheVariants as failure
 use Rattle.ddcmp_device.specs.declared.line_name.LineName.{LineName}
 use Rattle.ddcmp_session.specs.declared.link.LinkOutcome.{LinkOutcome}
-use Rattle.ddcmp_session.specs.declared.link.LinkOutcome.TheVariants as served
-use Rattle.ddcmp_words.specs.declared.link_args.LinkArgs.{LinkArgs}
-use Rattle.ddcmp_cli.specs.declared.fault.Fault.TheVariants.{Read, Write, Memory, Ended, Lost}
-use Rattle.ddcmp_cli.specs.declared.ending.Ending.{Ending}
-use Rattle.ddcmp_cli.specs.declared.ending.Ending.TheVariants.{Done, SomeRefused}
-use Rattle.ddcmp_cli.specs.declared.ending.Ending.TheVariants.{Fault as Faulted}
-use Rattle.ddcmp_cli.specs.BridgeEndings.{IsNoLine}
-use Rattle.ddcmp_cli.specs.TapEndings.{IsUnopened}
+use Rattle.ddcmp_session.specs.declared.link.LinkOutcome.TheVariants as outcome
+use Rattle.ddcmp_args.specs.declared.link_args.LinkArgs.{LinkArgs}
+use Rattle.ddcmp_commands.specs.declared.fault.Fault.TheVariants.{Read, Write, Memory, Ended, Lost}
+use Rattle.ddcmp_commands.specs.declared.ending.Ending.{Ending}
+use Rattle.ddcmp_commands.specs.declared.ending.Ending.TheVariants.{Done, SomeRefused}
+use Rattle.ddcmp_commands.specs.declared.ending.Ending.TheVariants.{Fault as Faulted}
+use Rattle.ddcmp_commands.specs.Endings.{IsNoLine}
+use Rattle.ddcmp_commands.specs.TapEndings.{IsUnopened}
 
 -- What is known of the lines of a system: the result of a link over the line of this name, with
 -- these options.
 pub record LinesKnown : Type 0 where
-  pub links : List ℕ → Options → Option (Result LinkOutcome ServiceFault)
+  pub links : List ℕ → Options → Option (Result LinkOutcome LinkFailure)
 
 -- nothing is known of any line
 abbrev pub no_lines_known : LinesKnown
 no_lines_known = record { links = λ word options. None }
 
 -- how the program ends after a link with this result
-abbrev pub LinkEnds : Result LinkOutcome ServiceFault → Ending → Type 0
-LinkEnds (Ok served.Delivered) ending = ending ≡ Done
-LinkEnds (Ok served.SomeRefused) ending = ending ≡ SomeRefused
-LinkEnds (Err (service.Open why)) ending = IsUnopened ending
-LinkEnds (Err service.Ended) ending = ending ≡ Faulted Ended
-LinkEnds (Err (service.Lost count)) ending = ending ≡ Faulted (Lost count)
-LinkEnds (Err service.Read) ending = ending ≡ Faulted Read
-LinkEnds (Err service.Write) ending = ending ≡ Faulted Write
-LinkEnds (Err service.Memory) ending = ending ≡ Faulted Memory
+abbrev pub LinkEnds : Result LinkOutcome LinkFailure → Ending → Type 0
+LinkEnds (Ok outcome.Delivered) ending = ending ≡ Done
+LinkEnds (Ok outcome.SomeRefused) ending = ending ≡ SomeRefused
+LinkEnds (Err (failure.Open why)) ending = IsUnopened ending
+LinkEnds (Err failure.Ended) ending = ending ≡ Faulted Ended
+LinkEnds (Err (failure.Lost count)) ending = ending ≡ Faulted (Lost count)
+LinkEnds (Err failure.Read) ending = ending ≡ Faulted Read
+LinkEnds (Err failure.Write) ending = ending ≡ Faulted Write
+LinkEnds (Err failure.Memory) ending = ending ≡ Faulted Memory
 
 -- In maintenance mode there is no window, no reply timer and no restart: their options can't be
 -- used.
@@ -53,7 +53,7 @@ Links lines linked ending =
     ⊎ ((means_nothing linked.options ≡ true) × IsNoLine ending)
     ⊎ ((line : LineName) × (word_of line ≡ linked.line.now)
     × (means_nothing linked.options ≡ false)
-    × (ended : Result LinkOutcome ServiceFault)
-    × ((known : Result LinkOutcome ServiceFault)
+    × (ended : Result LinkOutcome LinkFailure)
+    × ((known : Result LinkOutcome LinkFailure)
     → lines.links (word_of line) linked.options ≡ Some known → ended ≡ known)
     × LinkEnds ended ending)

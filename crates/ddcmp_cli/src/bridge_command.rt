@@ -2,17 +2,15 @@
 ghost use Rattle.std.specs.Prelude.{◌≡◌, ◌↔◌, IsTrue, false};
 ghost use Rattle.ddcmp_cli.specs.BridgeEndings.{BridgeEnds, Bridges, Reports, trace_of};
 
-use crate::ending::Ending;
-use crate::fault::Fault;
-use crate::link_command::{Lines, no_line};
-use crate::tap_command::{TWO_NOTATIONS, is_json};
-use crate::usage::usage;
+use crate::link_command::LineSystem;
+use ddcmp_args::BridgeArgs;
 use ddcmp_bridge::write_report;
+use ddcmp_commands::usage::{no_line, usage};
+use ddcmp_commands::{Ending, Fault, TWO_NOTATIONS, is_json};
 use ddcmp_device::{BridgeEnd, BridgeFault, BridgeOptions, LineName};
-use ddcmp_explain::Notation as Wording;
+use ddcmp_explain::Notation;
 use ddcmp_io::Sink;
-use ddcmp_tap::Notation;
-use ddcmp_words::BridgeArgs;
+use ddcmp_tap::LogNotation;
 use std::alloc::Global;
 
 /// The usage error for a LINE that isn't one.
@@ -52,19 +50,19 @@ fn report<W: Sink>(end: &BridgeEnd, writer: &mut W) -> Ending
 }
 
 /// Returns the notation in which received frames are printed, or drawn, if they are.
-fn traced_as(args: &BridgeArgs<'_>) -> Option<Notation>
+fn traced_as(args: &BridgeArgs<'_>) -> Option<LogNotation>
     ensures { result ≡ trace_of args.now }
 {
     match (args.ladder, args.notation, args.trace) {
-        (true, _, _) => Some(Notation::Ladder),
-        (false, Wording::Json, _) => Some(Notation::Json),
-        (false, Wording::Plain, true) => Some(Notation::Plain),
-        (false, Wording::Plain, false) => None,
+        (true, _, _) => Some(LogNotation::Ladder),
+        (false, Notation::Json, _) => Some(LogNotation::Json),
+        (false, Notation::Plain, true) => Some(LogNotation::Plain),
+        (false, Notation::Plain, false) => None,
     }
 }
 
 /// Passes frames on between two lines until one of them ends, and writes the report.
-pub(crate) fn bridge<S: Lines, W: Sink>(
+pub(crate) fn bridge<S: LineSystem, W: Sink>(
     system: &S,
     alloc: Global,
     args: &BridgeArgs<'_>,

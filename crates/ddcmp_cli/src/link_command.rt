@@ -1,16 +1,14 @@
 //! `link`: messages between a line and the program's streams.
-ghost use Rattle.std.specs.Prelude.{◌≡◌, ◌≢◌, ◌↔◌, Err, IsTrue, false};
+ghost use Rattle.std.specs.Prelude.{◌≡◌, ◌↔◌, Err, IsTrue, false};
 ghost use Rattle.ddcmp_cli.specs.LinkEndings.{LinkEnds, Links, means_nothing};
-ghost use Rattle.ddcmp_cli.specs.TapEndings.{IsUnopened};
 
-use crate::ending::Ending;
-use crate::fault::Fault;
-use crate::usage::usage;
-use ddcmp_device::{BridgeEnd, BridgeFault, BridgeOptions, LineName, OpenFault, bridge_lines};
+use ddcmp_args::link_args::{DEFAULT_ATTEMPTS, DEFAULT_TIMER_MS, LinkArgs};
+use ddcmp_commands::usage::{no_line, usage};
+use ddcmp_commands::{Ending, Fault};
+use ddcmp_device::{BridgeEnd, BridgeFault, BridgeOptions, LineName, bridge_lines};
 use ddcmp_io::{Sink, Source};
+use ddcmp_link::{LinkFailure, LinkOutcome, Options, link_line};
 use ddcmp_proto::Config;
-use ddcmp_service::{LinkOutcome, Options, ServiceFault, serve_link};
-use ddcmp_words::link_args::{DEFAULT_ATTEMPTS, DEFAULT_TIMER_MS, LinkArgs};
 use std::alloc::Global;
 
 /// The usage error for another value of `--line`.
@@ -32,23 +30,12 @@ fn means_nothing(options: &Options) -> bool
             || options.attempts != DEFAULT_ATTEMPTS)
 }
 
-/// Returns the ending if the line can't be opened.
-pub(crate) fn no_line(alloc: Global, fault: &OpenFault<'_>) -> Ending
-    ensures told { result ≢ Ending.Fault Fault.Write }
-    ensures unopened { IsUnopened result }
-{
-    match fault.to_string(alloc) {
-        Ok(text) => Ending::NoLine(text),
-        Err(_refused) => Ending::Fault(Fault::Memory),
-    }
-}
-
 /// A system that opens the lines of links.
-pub trait Lines {
+pub trait LineSystem {
     ghost use Rattle.std.specs.Prelude.{◌≡◌, ◌↔◌, Err, IsTrue, Result, Some};
     ghost use Rattle.ddcmp_device.specs.LineNames.{word_of};
-    ghost use Rattle.ddcmp_service.specs.declared.fault.ServiceFault.{ServiceFault as FaultValue};
-    ghost use Rattle.ddcmp_service.specs.declared.fault.ServiceFault.TheVariants.{Write};
+    ghost use Rattle.ddcmp_link.specs.declared.fault.LinkFailure.{LinkFailure as FaultValue};
+    ghost use Rattle.ddcmp_link.specs.declared.fault.LinkFailure.TheVariants.{Write};
     ghost use Rattle.ddcmp_session.specs.declared.link.LinkOutcome.{LinkOutcome as LinkOutcomeValue};
     ghost use Rattle.ddcmp_cli.specs.LinkEndings.{LinesKnown};
 
@@ -57,14 +44,14 @@ pub trait Lines {
 
     /// Opens a line and runs a link over it, between standard input and output, which `reader` and
     /// `writer` read and write.
-    fn serve_line<'a, R: Source, W: Sink>(
+    fn link<'a, R: Source, W: Sink>(
         &self,
         alloc: Global,
         line: LineName<'a>,
         options: Options,
         reader: &mut R,
         writer: &mut W,
-    ) -> Result<LinkOutcome, ServiceFault<'a>>
+    ) -> Result<LinkOutcome, LinkFailure<'a>>
         ensures broken { (result ≡ Err Write) ↔ IsTrue (W.broken writer.new) }
         ensures known { (ended : Result LinkOutcomeValue FaultValue)
             → (lines self.now).links (word_of line.entry) options ≡ Some ended
@@ -80,20 +67,20 @@ pub trait Lines {
     ) -> Result<BridgeEnd, BridgeFault<'a>>;
 }
 
-impl Lines for HostRuntime {
+impl LineSystem for HostRuntime {
     ghost use Rattle.ddcmp_cli.specs.LinkEndings.{no_lines_known};
 
     ghost lines = { λ _. no_lines_known };
 
-    fn serve_line<'a, R: Source, W: Sink>(
+    fn link<'a, R: Source, W: Sink>(
         &self,
         alloc: Global,
         line: LineName<'a>,
         options: Options,
         reader: &mut R,
         writer: &mut W,
-    ) -> Result<LinkOutcome, ServiceFault<'a>> {
-        serve_link(self, alloc, line, options, reader, writer)
+    ) -> Result<LinkOutcome, LinkFailure<'a>> {
+        link_line(self, alloc, line, options, reader, writer)
     }
 
     fn bridge<'a>(
@@ -108,7 +95,7 @@ impl Lines for HostRuntime {
 }
 
 /// Runs a link until all of standard input is delivered, or its line ends.
-pub(crate) fn link<S: Lines, R: Source, W: Sink>(
+pub(crate) fn link<S: LineSystem, R: Source, W: Sink>(
     system: &S,
     alloc: Global,
     args: &LinkArgs<'_>,
@@ -125,23 +112,23 @@ pub(crate) fn link<S: Lines, R: Source, W: Sink>(
     if means_nothing(&args.options) {
         return usage(alloc, NOT_IN_MAINTENANCE);
     }
-    let ended = system.serve_line(alloc, line, args.options, reader, writer);
+    let ended = system.link(alloc, line, args.options, reader, writer);
     ending_of(alloc, ended)
 }
 
 /// Returns how the program ends after a link with this result.
-fn ending_of(alloc: Global, ended: Result<LinkOutcome, ServiceFault<'_>>) -> Ending
+fn ending_of(alloc: Global, ended: Result<LinkOutcome, LinkFailure<'_>>) -> Ending
     ensures ends { LinkEnds ended.entry result }
-    ensures write { (result ≡ Ending.Fault Fault.Write) ↔ (ended.entry ≡ Err ServiceFault.Write) }
+    ensures write { (result ≡ Ending.Fault Fault.Write) ↔ (ended.entry ≡ Err LinkFailure.Write) }
 {
     match ended {
         Ok(LinkOutcome::Delivered) => Ending::Done,
         Ok(LinkOutcome::SomeRefused) => Ending::SomeRefused,
-        Err(ServiceFault::Open(fault)) => no_line(alloc, &fault),
-        Err(ServiceFault::Ended) => Ending::Fault(Fault::Ended),
-        Err(ServiceFault::Lost(count)) => Ending::Fault(Fault::Lost(count)),
-        Err(ServiceFault::Read) => Ending::Fault(Fault::Read),
-        Err(ServiceFault::Write) => Ending::Fault(Fault::Write),
-        Err(ServiceFault::Memory) => Ending::Fault(Fault::Memory),
+        Err(LinkFailure::Open(fault)) => no_line(alloc, &fault),
+        Err(LinkFailure::Ended) => Ending::Fault(Fault::Ended),
+        Err(LinkFailure::Lost(count)) => Ending::Fault(Fault::Lost(count)),
+        Err(LinkFailure::Read) => Ending::Fault(Fault::Read),
+        Err(LinkFailure::Write) => Ending::Fault(Fault::Write),
+        Err(LinkFailure::Memory) => Ending::Fault(Fault::Memory),
     }
 }

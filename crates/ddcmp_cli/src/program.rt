@@ -3,36 +3,30 @@ ghost use Rattle.std.specs.Prelude.{IfErr, OnErr, ◌≡◌, ◌≢◌, ◌⊎�
 ghost use Rattle.std.specs.Prelude.{List, ℕ, None, Some, codes, map, string_bytes};
 ghost use Rattle.std.specs.IoError.{error_kind};
 ghost use Rattle.ddcmp_io.specs.Input.{GaveMost};
-ghost use Rattle.ddcmp_words.specs.Words.{name_of};
-ghost use Rattle.ddcmp_words.specs.declared.station_args.StationArgs.{StationArgs as StationArgsValue};
-ghost use Rattle.ddcmp_cli.specs.Endings.{CanRun, Performs, Shows};
-ghost use Rattle.ddcmp_cli.specs.Endings.{streams};
-ghost use Rattle.ddcmp_words.specs.declared.tap_args.TapArgs.{TapArgs as TapArgsValue};
-ghost use Rattle.ddcmp_cli.specs.Endings.{file_named, Stations};
-ghost use Rattle.ddcmp_cli.specs.Endings.{TapsAsked};
-ghost use Rattle.ddcmp_words.specs.declared.link_args.LinkArgs.{LinkArgs as LinkArgsValue};
+ghost use Rattle.ddcmp_args.specs.Args.{name_of};
+ghost use Rattle.ddcmp_args.specs.declared.station_args.StationArgs.{StationArgs as StationArgsValue};
+ghost use Rattle.ddcmp_cli.specs.Endings.{CanRun, Performs, Shows, file_named, RunsAs};
+ghost use Rattle.ddcmp_commands.specs.Endings.{streams};
+ghost use Rattle.ddcmp_args.specs.declared.tap_args.TapArgs.{TapArgs as TapArgsValue};
+ghost use Rattle.ddcmp_commands.specs.Stations.{Stations};
+ghost use Rattle.ddcmp_commands.specs.TapEndings.{TapsAsked};
+ghost use Rattle.ddcmp_args.specs.declared.link_args.LinkArgs.{LinkArgs as LinkArgsValue};
 ghost use Rattle.ddcmp_cli.specs.LinkEndings.{Links};
-ghost use Rattle.ddcmp_words.specs.declared.bridge_args.BridgeArgs.{BridgeArgs as BridgeArgsValue};
+ghost use Rattle.ddcmp_args.specs.declared.bridge_args.BridgeArgs.{BridgeArgs as BridgeArgsValue};
 ghost use Rattle.ddcmp_cli.specs.BridgeEndings.{Bridges};
-ghost use Rattle.ddcmp_cli.specs.Endings.{RunsAs};
 ghost use Rattle.ddcmp_io.specs.Change.{sink_change, source_change};
 
 use crate::bridge_command::bridge;
-use crate::connections::Connections;
-use crate::ending::Ending;
-use crate::explain_command::explain_asked;
-use crate::fault::Fault;
-use crate::inputs::Inputs;
-use crate::link_command::{Lines, link};
-use crate::script_command::{pair_asked, simulate_asked};
-use crate::station_command::station;
-use crate::tap_command::tap;
-use ddcmp_io::{Sink, Source, Worst, write_all};
-use ddcmp_words::{Command, NoCommand, read_words};
-pub use ddcmp_words::{
+use crate::link_command::{LineSystem, link};
+use ddcmp_args::{Command, NoCommand, parse_args};
+pub use ddcmp_args::{
     bridge_is_asked, explain_is_asked, link_is_asked, pair_is_asked, simulate_is_asked,
     station_is_asked, tap_is_asked,
 };
+use ddcmp_commands::{
+    Connections, Ending, Fault, Inputs, explain_asked, pair_asked, simulate_asked, station, tap,
+};
+use ddcmp_io::{Sink, Source, Worst, write_all};
 use std::alloc::{AllocError, Global};
 use std::io::{Eprint, ErrorKind};
 use std::net::{Net, TcpStream};
@@ -40,7 +34,7 @@ use std::{io, time};
 
 /// Runs a command.
 fn perform<
-    S: Net<Stream = TcpStream> + Eprint + time::Clock + Inputs + Connections + Lines,
+    S: Net<Stream = TcpStream> + Eprint + time::Clock + Inputs + Connections + LineSystem,
     R: Source,
     W: Sink,
 >(system: &S, alloc: Global, command: Command<'_>, reader: &mut R, writer: &mut W) -> Ending
@@ -103,7 +97,7 @@ fn show<W: Sink>(writer: &mut W, text: &str) -> Ending
 /// Runs the command that the arguments name, from `reader` to `writer`. The first argument is the
 /// program's name; `system` opens files, connections and lines, and has a clock.
 pub fn run<
-    S: Net<Stream = TcpStream> + Eprint + time::Clock + Inputs + Connections + Lines,
+    S: Net<Stream = TcpStream> + Eprint + time::Clock + Inputs + Connections + LineSystem,
     R: Source,
     W: Sink,
 >(system: &S, alloc: Global, words: &[&str], reader: &mut R, writer: &mut W) -> Ending
@@ -115,7 +109,7 @@ pub fn run<
         (sink_change (W.contents writer.old) (W.contents writer.new) (W.broken writer.new))
         (reader.new ≡ reader.old) (writer.new ≡ writer.old) result }
 {
-    match read_words(alloc, words) {
+    match parse_args(alloc, words) {
         Ok(command) => perform(system, alloc, command, reader, writer),
         Err(NoCommand::Help(text)) => show(writer, text.as_str()),
         Err(NoCommand::Version(text)) => show(writer, text.as_str()),
@@ -137,7 +131,7 @@ fn texts(alloc: Global, args: &[String]) -> Result<Vec<&str>, AllocError>
 /// Runs the command that the arguments name, as the system passes them: they may not be text, or
 /// their allocation may have failed.
 pub fn run_args<
-    S: Net<Stream = TcpStream> + Eprint + time::Clock + Inputs + Connections + Lines,
+    S: Net<Stream = TcpStream> + Eprint + time::Clock + Inputs + Connections + LineSystem,
     R: Source,
     W: Sink,
 >(

@@ -1,5 +1,5 @@
 //! The program's standard streams, if some are closed or their output isn't read.
-use crate::ending::Ending;
+use ddcmp_commands::Ending;
 use ddcmp_device::errors_take;
 use std::alloc::Global;
 use std::fs::{File, Files, OpenOptions};

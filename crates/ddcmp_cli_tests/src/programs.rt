@@ -1,7 +1,7 @@
 // Endings, and the program as a whole without the system's streams. What arguments ask for and what
 // is then written is tested in `worked`.
 use crate::same::{System, is};
-use ddcmp_cli::command::read_words;
+use ddcmp_cli::command::parse_args;
 use ddcmp_cli::{Command, Ending, Fault, NoCommand, run, run_args};
 use ddcmp_frame::failing::{BoundedSink, Pieces};
 use std::alloc::Global;
@@ -33,7 +33,7 @@ fn is_fault_told(
 #[test]
 fn endings_have_a_status_and_a_line(rt: HostRuntime) -> Result<(), Fail> {
     is_told(&rt, Ending::Done, 0, "")?;
-    is_told(&rt, Ending::NotText, 2, "ddcmp: a word is not text\n")?;
+    is_told(&rt, Ending::NotText, 2, "ddcmp: an argument isn't UTF-8\n")?;
     let name = String::from_str(rt.alloc(), "a b")?;
     let line = "ddcmp: open a b: permission denied\n";
     is_told(
@@ -190,7 +190,7 @@ fn words_that_are_no_text_are_told(rt: HostRuntime) {
 
 /// Returns what arguments ask for.
 fn read<'a>(alloc: Global, words: &'a [&'a str]) -> Result<Command<'a>, NoCommand> {
-    read_words(alloc, words)
+    parse_args(alloc, words)
 }
 
 /// Returns why arguments ask for no command: whether that is a usage error, and the text.

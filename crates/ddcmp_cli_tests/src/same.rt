@@ -1,5 +1,5 @@
 //! The system that runs a test, and a comparison without a contract.
-use ddcmp_cli::{Connections, Inputs, Lines};
+use ddcmp_cli::{Connections, Inputs, LineSystem};
 use std::fmt::Debug;
 use std::io::Eprint;
 use std::net::{Net, TcpStream};
@@ -14,7 +14,7 @@ pub trait System: Abort
     + Clock
     + Inputs
     + Connections
-    + Lines {}
+    + LineSystem {}
 
 impl<S> System for S
 where
@@ -25,7 +25,7 @@ where
         + Clock
         + Inputs
         + Connections
-        + Lines,
+        + LineSystem,
 {}
 
 /// Checks that a value is as expected.

@@ -3,7 +3,7 @@
 use crate::same::is;
 use ddcmp_cli::{
     BridgeEnd, BridgeFault, BridgeOptions, Connection, Connections, Ending, Fault, Inputs,
-    LineName, Lines, LinkOutcome, Options, Role, ServiceFault, run,
+    LineName, LineSystem, LinkFailure, LinkOutcome, Options, Role, run,
 };
 use ddcmp_frame::failing::{BoundedSink, Pieces};
 use ddcmp_frame::{Sink, Source};
@@ -17,7 +17,7 @@ use std::time::{Clock, Duration};
 /// Returns the ending of a script on a system, and what it wrote.
 fn played(
     rt: &impl AllocGlobal,
-    system: &(impl Net<Stream = TcpStream> + Eprint + Clock + Inputs + Connections + Lines),
+    system: &(impl Net<Stream = TcpStream> + Eprint + Clock + Inputs + Connections + LineSystem),
     words: &[&str],
     input: &[u8],
     fails_at: usize,
@@ -128,18 +128,18 @@ impl<S> Connections for Poor<'_, S> {
     }
 }
 
-impl<S: Lines> Lines for Poor<'_, S> {
+impl<S: LineSystem> LineSystem for Poor<'_, S> {
     ghost lines = { λ s. S.lines s.system.now };
 
-    fn serve_line<'a, R: Source, W: Sink>(
+    fn link<'a, R: Source, W: Sink>(
         &self,
         alloc: Global,
         line: LineName<'a>,
         options: Options,
         reader: &mut R,
         writer: &mut W,
-    ) -> Result<LinkOutcome, ServiceFault<'a>> {
-        self.system.serve_line(alloc, line, options, reader, writer)
+    ) -> Result<LinkOutcome, LinkFailure<'a>> {
+        self.system.link(alloc, line, options, reader, writer)
     }
 
     fn bridge<'a>(
@@ -192,7 +192,7 @@ fn lacks_a_carrier(
         + Clock
         + Inputs
         + Connections
-        + Lines),
+        + LineSystem),
     lacks: Lacks,
     text: &[u8],
 ) {

@@ -15,7 +15,7 @@ use crate::system::System;
 use ddcmp_bridge::{Bridge, BridgeStop, Counts, Faults, Lines, Way};
 use ddcmp_io::{Down, Wanted};
 use ddcmp_station::{Clock, Elapsed};
-use ddcmp_tap::{NoMemory, Notation, Side};
+use ddcmp_tap::{LogNotation, NoMemory, Side};
 use std::alloc::Global;
 use std::fs::{File, Files};
 use std::io::{Eprint, ErrorKind};
@@ -50,7 +50,7 @@ pub struct BridgeOptions<'a> {
     /// By how many milliseconds each frame is delayed.
     pub delay_ms: u32,
     /// The notation in which received frames are printed on standard error, if they are.
-    pub trace: Option<Notation>,
+    pub trace: Option<LogNotation>,
     /// The files to save the bytes received over each line in, if any. They must not exist.
     pub save_first: Option<&'a str>,
     pub save_second: Option<&'a str>,

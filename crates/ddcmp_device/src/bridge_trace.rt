@@ -1,7 +1,7 @@
 //! The log of the frames that a bridge receives.
 use ddcmp_bridge::Fate;
 use ddcmp_frame::MAX_COUNT;
-use ddcmp_tap::{Direction, NoMemory, Notation, Side};
+use ddcmp_tap::{Direction, LogNotation, NoMemory, Side};
 use std::alloc::Global;
 use std::io::Eprint;
 use std::str;
@@ -9,7 +9,7 @@ use std::str;
 /// The log of one direction: the lines of a tap, and what the bridge did to a frame.
 pub(crate) struct Trace {
     direction: Direction,
-    notation: Notation,
+    notation: LogNotation,
     side: Side,
 }
 
@@ -26,7 +26,7 @@ impl Drop for Trace {
 
 impl Trace {
     /// Allocates all memory apart from that of its lines.
-    pub(crate) fn new(alloc: Global, notation: Notation, side: Side) -> Result<Trace, NoMemory> {
+    pub(crate) fn new(alloc: Global, notation: LogNotation, side: Side) -> Result<Trace, NoMemory> {
         let direction = Direction::new(alloc, side, notation, MAX_COUNT)?;
         Ok(Trace {
             direction,
@@ -61,8 +61,8 @@ impl Trace {
             Side::Called => "<",
         };
         match self.notation {
-            Notation::Json => log_object(system, now, mark, fate),
-            Notation::Plain | Notation::Ladder => log_line(system, now, mark, fate),
+            LogNotation::Json => log_object(system, now, mark, fate),
+            LogNotation::Plain | LogNotation::Ladder => log_line(system, now, mark, fate),
         }
     }
 }

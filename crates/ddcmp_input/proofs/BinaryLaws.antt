@@ -7,8 +7,9 @@ use Rattle.std.specs.List.{All}
 use Rattle.std.proofs.lemmas.List.Elements.{All-head, All-tail}
 use Rattle.ddcmp_input.specs.declared.entry.Entry.{Entry}
 use Rattle.ddcmp_input.specs.declared.entry.Entry.TheVariants.{Message, TooLong, Empty}
-use Rattle.ddcmp_input.specs.declared.lengths.Place.{Place}
-use Rattle.ddcmp_input.specs.declared.lengths.Place.TheVariants.{Start, Half, Inside, Passing}
+use Rattle.ddcmp_input.specs.declared.lengths.LengthPlace.{LengthPlace}
+use Rattle.ddcmp_input.specs.declared.lengths.LengthPlace.TheVariants.{Start, Half, Inside}
+use Rattle.ddcmp_input.specs.declared.lengths.LengthPlace.TheVariants.{Skipping}
 use Rattle.ddcmp_input.specs.Lengths.{LengthsView, is_refused, place_before, is_last}
 use Rattle.ddcmp_input.specs.Lengths.{after_length, after_byte, entry_of_length, entry_of_byte}
 use Rattle.ddcmp_input.specs.Lengths.{after_bytes, entries_of_bytes}
@@ -51,10 +52,10 @@ told_last u byte v e =
 
 -- ---- places
 
-abbrev at : ℕ → Place → List ℕ → LengthsView
+abbrev at : ℕ → LengthPlace → List ℕ → LengthsView
 at max place message = record { max = max; place = place; message = message }
 
-at_place : (v : LengthsView) (p : Place) → v.place ≡ p → v ≡ at v.max p v.message
+at_place : (v : LengthsView) (p : LengthPlace) → v.place ≡ p → v ≡ at v.max p v.message
 at_place v p e = λ i. record { max = v.max; place = e i; message = v.message }
 
 last_one : (n : ℕ) → n ≡ 1 → is_last n ≡ true
@@ -100,14 +101,14 @@ inside (b ∷ c ∷ more) n max held e h =
 
 -- the bytes of one that is skipped
 passing : (message : List ℕ) (n max : ℕ) (held : List ℕ) → n ≡ length message → 1 ≤ n
-    → (after_bytes message (at max (Passing n) held) ≡ at max Start held)
-    × (told_in message (at max (Passing n) held) ≡ [])
+    → (after_bytes message (at max (Skipping n) held) ≡ at max Start held)
+    × (told_in message (at max (Skipping n) held) ≡ [])
 unfolding after_bytes told_in
 passing [] n max held e h = absurd (omega (arith, e, h))
 passing (b ∷ []) n max held e h = (by (is_last n) (last_one n e), refl)
   where
     by : (last : Bool) → last ≡ true
-        → at max (cond last Start (Passing (n - 1))) held ≡ at max Start held
+        → at max (cond last Start (Skipping (n - 1))) held ≡ at max Start held
     by true f = refl
     by false f = cc
 passing (b ∷ c ∷ more) n max held e h =
@@ -115,23 +116,23 @@ passing (b ∷ c ∷ more) n max held e h =
     (passing (c ∷ more) (n - 1) max held (omega (arith, e)) (omega (arith, e)))
   where
     by : (last : Bool) → last ≡ false
-        → (after_bytes (c ∷ more) (at max (Passing (n - 1)) held) ≡ at max Start held)
-        × (told_in (c ∷ more) (at max (Passing (n - 1)) held) ≡ [])
-        → (after_bytes (c ∷ more) (at max (cond last Start (Passing (n - 1))) held)
+        → (after_bytes (c ∷ more) (at max (Skipping (n - 1)) held) ≡ at max Start held)
+        × (told_in (c ∷ more) (at max (Skipping (n - 1)) held) ≡ [])
+        → (after_bytes (c ∷ more) (at max (cond last Start (Skipping (n - 1))) held)
         ≡ at max Start held)
-        × (told_in (c ∷ more) (at max (cond last Start (Passing (n - 1))) held) ≡ [])
+        × (told_in (c ∷ more) (at max (cond last Start (Skipping (n - 1))) held) ≡ [])
     by true f r = cc
     by false f r = r
 
 -- ---- what is held doesn't matter but within a message
 
-abbrev IsOutside : Place → Type 0
+abbrev IsOutside : LengthPlace → Type 0
 IsOutside Start = Unit {0}
 IsOutside (Half high) = Unit {0}
 IsOutside (Inside left) = ⊥
-IsOutside (Passing left) = Unit {0}
+IsOutside (Skipping left) = Unit {0}
 
-before_outside : (b : Bool) (n : ℕ) → IsOutside (cond b Start (Passing n))
+before_outside : (b : Bool) (n : ℕ) → IsOutside (cond b Start (Skipping n))
 before_outside true n = tt
 before_outside false n = tt
 
@@ -149,7 +150,7 @@ told_why false held = refl
 abbrev judged : Bool → ℕ → ℕ → List ℕ → LengthsView
 judged refused max n ys = cond refused (at max (place_before n) ys) (at max (Inside n) [])
 
-told_same : (rest : List ℕ) (max : ℕ) (p : Place) (held other : List ℕ) → IsOutside p
+told_same : (rest : List ℕ) (max : ℕ) (p : LengthPlace) (held other : List ℕ) → IsOutside p
     → told_in rest (at max p held) ≡ told_in rest (at max p other)
 unfolding told_in
 told_same [] max p held other o = refl
@@ -176,8 +177,8 @@ told_same (b ∷ rest) max (Half high) held other o =
         (sym (both other))
     by false more = refl
 told_same (b ∷ rest) max (Inside left) held other o = absurd o
-told_same (b ∷ rest) max (Passing left) held other o =
-    told_same rest max (cond (is_last left) Start (Passing (left - 1))) held other
+told_same (b ∷ rest) max (Skipping left) held other o =
+    told_same rest max (cond (is_last left) Start (Skipping (left - 1))) held other
     (before_outside (is_last left) (left - 1))
 
 -- ---- a message after its length
@@ -285,14 +286,14 @@ empty_then rest v e =
 
 -- a length that is too long
 passes : (n max : ℕ) (held : List ℕ) → max < n
-    → (after_length n (at max (Half (n / 256)) held) ≡ at max (Passing n) held)
+    → (after_length n (at max (Half (n / 256)) held) ≡ at max (Skipping n) held)
     × (entry_of_length n max ≡ Some TooLong)
 passes n max held h =
     by (is_refused max n) (long_is max n h) (n == 0) (some_not n (omega (arith, h)))
   where
     by : (refused : Bool) → refused ≡ true → (none : Bool) → none ≡ false
-        → (cond refused (at max (cond none Start (Passing n)) held) (at max (Inside n) [])
-        ≡ at max (Passing n) held)
+        → (cond refused (at max (cond none Start (Skipping n)) held) (at max (Inside n) [])
+        ≡ at max (Skipping n) held)
         × (cond refused (Some (cond none Empty TooLong)) None ≡ Some TooLong)
     by true e true g = cc
     by true e false g = (refl, refl)
@@ -313,7 +314,7 @@ one_refused message max held f =
         let m = length message in
         let s = passes m max held f in
         let r = passing message m max held refl (omega (arith, f)) in
-        let start : after_length k (at max (Half (m / 256)) held) ≡ at max (Passing m) held =
+        let start : after_length k (at max (Half (m / 256)) held) ≡ at max (Skipping m) held =
         ap (λ j. after_length j (at max (Half (m / 256)) held)) e ∙ s.0 in
         let some : entry_of_length k max ≡ Some TooLong =
         ap (λ j. entry_of_length j max) e ∙ s.1 in (

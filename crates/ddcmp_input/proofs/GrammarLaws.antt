@@ -16,7 +16,8 @@ use Rattle.ddcmp_input.specs.Dump.{place_from, text_then}
 use Rattle.ddcmp_input.specs.Grammar.{IsDigit, IsOneLine, Bytes, NoByte, Blank, Byte, Column}
 use Rattle.ddcmp_input.specs.Grammar.{Groups}
 use Rattle.ddcmp_input.specs.Grammar.{NoGroup, LastBlank, One, Two, Behind, Line, Empty, Dumped}
-use Rattle.ddcmp_input.specs.Grammar.{Grouped, IsAddress, LineEnd, Feed, ReturnFeed, digits_in, Reads}
+use Rattle.ddcmp_input.specs.Grammar.{Grouped, IsAddress, LineEnd, Feed, ReturnFeed, digits_in}
+use Rattle.ddcmp_input.specs.Grammar.{Reads}
 
 kept_or_not : (b : Bool) (x : ℕ) (xs ds : List ℕ) → b ≡ false → xs ≡ ds → cond b (x ∷ xs) xs ≡ ds
 kept_or_not b x xs ds none e = rw none e

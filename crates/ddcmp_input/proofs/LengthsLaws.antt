@@ -6,8 +6,8 @@ use Rattle.std.proofs.Common.{take-add, subst}
 use Rattle.std.proofs.lemmas.List.{length-take}
 use Rattle.ddcmp_input.specs.declared.entry.Entry.{Entry}
 use Rattle.ddcmp_input.specs.declared.entry.Entry.TheVariants.{Message}
-use Rattle.ddcmp_input.specs.declared.lengths.Place.{Place}
-use Rattle.ddcmp_input.specs.declared.lengths.Place.TheVariants.{Start, Inside}
+use Rattle.ddcmp_input.specs.declared.lengths.LengthPlace.{LengthPlace}
+use Rattle.ddcmp_input.specs.declared.lengths.LengthPlace.TheVariants.{Start, Inside}
 use Rattle.ddcmp_input.specs.Lengths.{LengthsView, HasRoom, after_byte, entry_of_byte}
 use Rattle.ddcmp_input.specs.Lengths.{after_bytes, entries_of_bytes}
 
@@ -66,7 +66,7 @@ no_entry None e = refl
 no_entry (Some x) e = cc
 
 -- bytes within a message: what there is of it
-abbrev pub at : ℕ → Place → List ℕ → LengthsView
+abbrev pub at : ℕ → LengthPlace → List ℕ → LengthsView
 at max place message = record { max = max; place = place; message = message }
 
 goes_on : (left n : ℕ) → n + 1 < left → nat_le left 1 ≡ false
@@ -108,7 +108,7 @@ whole_message (x ∷ y ∷ xs) message left max some all =
     )
 
 -- of the view that contracts see
-pub some_is_left : (place : Place) (left held capacity : ℕ) → place ≡ Inside left
+pub some_is_left : (place : LengthPlace) (left held capacity : ℕ) → place ≡ Inside left
     → HasRoom place held capacity → 0 < left
 some_is_left place left held capacity is has = (subst (λ p. HasRoom p held capacity) is has).0
 

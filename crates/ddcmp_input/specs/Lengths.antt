@@ -4,26 +4,27 @@ use Rattle.std.specs.Prelude.{nat_lt, if◌then◌else◌, List, [], ◌∷◌, 
 use Rattle.std.specs.Prelude.{option_to_list}
 use Rattle.ddcmp_input.specs.declared.entry.Entry.{Entry}
 use Rattle.ddcmp_input.specs.declared.entry.Entry.TheVariants.{Message, TooLong, Empty}
-use Rattle.ddcmp_input.specs.declared.lengths.Place.{Place}
-use Rattle.ddcmp_input.specs.declared.lengths.Place.TheVariants.{Start, Half, Inside, Passing}
+use Rattle.ddcmp_input.specs.declared.lengths.LengthPlace.{LengthPlace}
+use Rattle.ddcmp_input.specs.declared.lengths.LengthPlace.TheVariants.{Start, Half, Inside}
+use Rattle.ddcmp_input.specs.declared.lengths.LengthPlace.TheVariants.{Skipping}
 
 -- the maximum length of a message, the place of the next byte, and the bytes of the message so far
 pub record LengthsView : Type 0 where
   pub max : ℕ
-  pub place : Place
+  pub place : LengthPlace
   pub message : List ℕ
 
 abbrev pub begun : ℕ → LengthsView
 begun max = record { max = max; place = Start; message = [] }
 
 -- a length or a message is incomplete
-abbrev pub is_unfinished : Place → Bool
+abbrev pub is_unfinished : LengthPlace → Bool
 is_unfinished (Half high) = true
 is_unfinished (Inside left) = true
 is_unfinished _ = false
 
 -- there is room for the rest of the message
-abbrev pub HasRoom : Place → ℕ → ℕ → Type 0
+abbrev pub HasRoom : LengthPlace → ℕ → ℕ → Type 0
 HasRoom (Inside left) held capacity = (0 < left) × (held + left ≤ capacity)
 HasRoom _ held capacity = Unit {0}
 
@@ -31,8 +32,8 @@ HasRoom _ held capacity = Unit {0}
 abbrev pub is_refused : ℕ → ℕ → Bool
 is_refused max length = (length == 0) || nat_lt max length
 
-abbrev pub place_before : ℕ → Place
-place_before length = if length == 0 then Start else Passing length
+abbrev pub place_before : ℕ → LengthPlace
+place_before length = if length == 0 then Start else Skipping length
 
 abbrev pub after_length : ℕ → LengthsView → LengthsView
 after_length length v =
@@ -44,15 +45,15 @@ after_length length v =
 abbrev pub is_last : ℕ → Bool
 is_last left = nat_le left 1
 
-abbrev pub after_byte_at : Place → ℕ → LengthsView → LengthsView
+abbrev pub after_byte_at : LengthPlace → ℕ → LengthsView → LengthsView
 after_byte_at Start byte v = record v { place = Half byte }
 after_byte_at (Half high) byte v = after_length (high * 256 + byte) v
 after_byte_at (Inside left) byte v = record v {
   place = if is_last left then Start else Inside (left - 1);
   message = v.message ++ byte ∷ [];
 }
-after_byte_at (Passing left) byte v =
-    record v { place = if is_last left then Start else Passing (left - 1) }
+after_byte_at (Skipping left) byte v =
+    record v { place = if is_last left then Start else Skipping (left - 1) }
 
 abbrev pub after_byte : ℕ → LengthsView → LengthsView
 after_byte byte v = after_byte_at v.place byte v
@@ -62,7 +63,7 @@ entry_of_length length max =
     if is_refused max length then Some (if length == 0 then Empty else TooLong) else None
 
 -- what a byte completes
-abbrev pub entry_of_byte_at : Place → ℕ → ℕ → Option Entry
+abbrev pub entry_of_byte_at : LengthPlace → ℕ → ℕ → Option Entry
 entry_of_byte_at (Half high) byte max = entry_of_length (high * 256 + byte) max
 entry_of_byte_at (Inside left) byte max = if is_last left then Some Message else None
 entry_of_byte_at _ byte max = None

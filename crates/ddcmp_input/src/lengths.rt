@@ -7,7 +7,7 @@ use std::marker::Model;
 
 /// The place of the next byte in the input.
 #[derive(Clone, Copy)]
-pub enum Place {
+pub enum LengthPlace {
     /// Before a length.
     Start,
     /// After its high byte.
@@ -15,14 +15,14 @@ pub enum Place {
     /// In a message, with this many bytes left.
     Inside(u16),
     /// In a message that is skipped, with this many bytes left.
-    Passing(u16),
+    Skipping(u16),
 }
 
 /// Parses an input with each message after its length as two bytes, the high one first.
 #[derive(Drop)]
 pub struct Lengths {
     max: u16,
-    place: Place,
+    place: LengthPlace,
     message: Vec<u8>,
 }
 
@@ -51,7 +51,7 @@ impl Lengths {
     {
         Ok(Lengths {
             max,
-            place: Place::Start,
+            place: LengthPlace::Start,
             message: Vec::with_capacity(alloc, max as usize)?,
         })
     }
@@ -62,29 +62,29 @@ impl Lengths {
         ensures entry { result ≡ entry_of_byte byte self.old }
     {
         match self.place {
-            Place::Start => {
-                self.place = Place::Half(byte);
+            LengthPlace::Start => {
+                self.place = LengthPlace::Half(byte);
                 None
             }
-            Place::Half(high) => self.begin(high as u16 * 256 + byte as u16),
-            Place::Inside(left) => {
+            LengthPlace::Half(high) => self.begin(high as u16 * 256 + byte as u16),
+            LengthPlace::Inside(left) => {
                 match self.message.push(byte) {
                     Ok(()) => {}
                     Err(_) => unreachable!(),
                 }
                 if left <= 1 {
-                    self.place = Place::Start;
+                    self.place = LengthPlace::Start;
                     Some(Entry::Message)
                 } else {
-                    self.place = Place::Inside(left - 1);
+                    self.place = LengthPlace::Inside(left - 1);
                     None
                 }
             }
-            Place::Passing(left) => {
+            LengthPlace::Skipping(left) => {
                 self.place = if left <= 1 {
-                    Place::Start
+                    LengthPlace::Start
                 } else {
-                    Place::Passing(left - 1)
+                    LengthPlace::Skipping(left - 1)
                 };
                 None
             }
@@ -97,15 +97,15 @@ impl Lengths {
         ensures entry { result ≡ entry_of_length length self.old.max }
     {
         if length == 0 {
-            self.place = Place::Start;
+            self.place = LengthPlace::Start;
             return Some(Entry::Empty);
         }
         if length > self.max {
-            self.place = Place::Passing(length);
+            self.place = LengthPlace::Skipping(length);
             return Some(Entry::TooLong);
         }
         self.message.clear();
-        self.place = Place::Inside(length);
+        self.place = LengthPlace::Inside(length);
         None
     }
 
@@ -147,7 +147,7 @@ impl Lengths {
             ≡ option_to_list result.entry }
     {
         match self.place {
-            Place::Inside(left) => self.push_within(piece, left),
+            LengthPlace::Inside(left) => self.push_within(piece, left),
             _ => Pushed {
                 used: 1,
                 entry: self.push(piece[0]),
@@ -157,7 +157,7 @@ impl Lengths {
 
     /// Takes as much as there is of a message, of which this many bytes are left.
     fn push_within(&mut self, piece: &[u8], left: u16) -> Pushed
-        requires place { self.old.place ≡ Place.Inside left }
+        requires place { self.old.place ≡ LengthPlace.Inside left }
         requires some { 0 < length piece.now }
         ensures some { 0 < result.used }
         ensures used { result.used ≤ length piece.now }
@@ -169,14 +169,14 @@ impl Lengths {
     {
         if piece.len() < left as usize {
             append(&mut self.message, piece);
-            self.place = Place::Inside(left - piece.len() as u16);
+            self.place = LengthPlace::Inside(left - piece.len() as u16);
             return Pushed {
                 used: piece.len(),
                 entry: None,
             };
         }
         append(&mut self.message, &piece[..left as usize]);
-        self.place = Place::Start;
+        self.place = LengthPlace::Start;
         Pushed {
             used: left as usize,
             entry: Some(Entry::Message),
@@ -195,7 +195,7 @@ impl Lengths {
     pub fn is_unfinished(&self) -> bool
         ensures { result ≡ is_unfinished self.now.place }
     {
-        matches!(self.place, Place::Half(_) | Place::Inside(_))
+        matches!(self.place, LengthPlace::Half(_) | LengthPlace::Inside(_))
     }
 }
 

@@ -4,7 +4,7 @@ ghost use Rattle.std.specs.List.{All};
 ghost use Rattle.hex.specs.Hex.{encode_lower, encode_upper, IsBytes};
 ghost use Rattle.ddcmp_input.specs.declared.entry.Entry.{Entry as EntryValue};
 ghost use Rattle.ddcmp_input.specs.declared.entry.Entry.TheVariants.{Message, TooLong, Empty};
-ghost use Rattle.ddcmp_input.specs.declared.lengths.Place.TheVariants.{Start};
+ghost use Rattle.ddcmp_input.specs.declared.lengths.LengthPlace.TheVariants.{Start};
 ghost use Rattle.ddcmp_input.specs.Lengths.{LengthsView, after_bytes, entries_of_bytes};
 ghost use Rattle.ddcmp_input.specs.HexLines.{HexView, in_line, after_bytes as after_digits};
 ghost use Rattle.ddcmp_input.specs.HexLines.{entries_of_bytes as entries_of_digits};

@@ -35,8 +35,8 @@ pub record BoundedSinkView : Type 0 where
   pub fails_at : ℕ
 
 -- a sink for `room` bytes before any write
-abbrev pub taken_nothing : ℕ → BoundedSinkView
-taken_nothing room = record {
+abbrev pub empty_sink : ℕ → BoundedSinkView
+empty_sink room = record {
   bytes = [];
   broken = false;
   writes = 0;

@@ -121,6 +121,7 @@ pub struct FromRead<R> {
 impl<R> FromRead<R> {
     ghost use Rattle.ddcmp_io.specs.Device.{reader_of, worst_of};
 
+    /// Makes a source that reads `inner`.
     pub fn new(inner: R) -> Self
         ensures reader { reader_of result ≡ inner }
         ensures worst { worst_of result ≡ Worst.Fine }
@@ -176,6 +177,7 @@ pub struct ToWrite<W> {
 impl<W> ToWrite<W> {
     ghost use Rattle.ddcmp_io.specs.Device.{writer_of, has_failed};
 
+    /// Makes a sink that writes to `inner`.
     pub fn new(inner: W) -> Self
         ensures writer { writer_of result ≡ inner }
         ensures failed { has_failed result ≡ false }

@@ -2,7 +2,7 @@
 //! requested.
 //! None allocates. Run a call with a failure at 1, 2, .. until no device fails any more.
 ghost use Rattle.std.specs.Prelude.{◌≡◌, ◌<◌, ◌≤◌, ◌++◌, flat_map};
-ghost use Rattle.ddcmp_io.specs.Failing.{pieces_of, taken_nothing};
+ghost use Rattle.ddcmp_io.specs.Failing.{empty_sink, pieces_of};
 
 use crate::device::{Got, Sink, Source, Worst};
 use std::marker::Model;
@@ -43,6 +43,7 @@ impl<'a> Model for Pieces<'a> {
 }
 
 impl<'a> Pieces<'a> {
+    /// Makes a source of these pieces, which are read one at a time.
     pub fn new(pieces: &'a [&'a [u8]]) -> Self
         ensures { result ≡ pieces_of (flat_map (λ piece. piece.now) pieces.now) }
     {
@@ -187,8 +188,9 @@ impl<const N: usize> Model for BoundedSink<N> {
 }
 
 impl<const N: usize> BoundedSink<N> {
+    /// Makes an empty sink with room for `N` bytes.
     pub fn new() -> Self
-        ensures { result ≡ taken_nothing N }
+        ensures { result ≡ empty_sink N }
     {
         BoundedSink::full_at(N)
     }
@@ -196,7 +198,7 @@ impl<const N: usize> BoundedSink<N> {
     /// Returns a sink that is full at this many bytes.
     pub fn full_at(room: usize) -> Self
         requires { room ≤ N }
-        ensures { result ≡ taken_nothing room }
+        ensures { result ≡ empty_sink room }
     {
         BoundedSink {
             bytes: [0; N],

@@ -73,6 +73,7 @@ pub struct Wanted {
 }
 
 impl Wanted {
+    /// No device.
     pub const NOTHING: Wanted = Wanted {
         input: false,
         output: false,
@@ -81,6 +82,7 @@ impl Wanted {
         to_line: false,
     };
 
+    /// The input alone.
     pub const INPUT: Wanted = Wanted {
         input: true,
         output: false,
@@ -89,6 +91,7 @@ impl Wanted {
         to_line: false,
     };
 
+    /// The output alone.
     pub const OUTPUT: Wanted = Wanted {
         input: false,
         output: true,
@@ -97,6 +100,7 @@ impl Wanted {
         to_line: false,
     };
 
+    /// Standard error alone.
     pub const ERRORS: Wanted = Wanted {
         input: false,
         output: false,

@@ -14,8 +14,8 @@ use Rattle.ddcmp_pair.specs.declared.event.End.{End}
 use Rattle.ddcmp_pair.specs.declared.event.End.TheVariants.{A, B}
 use Rattle.ddcmp_pair.specs.Prefix.{IsPrefixOf}
 use Rattle.ddcmp_pair.specs.Run.{new_pair, is_clean}
-use Rattle.ddcmp_session.specs.Messages.{message_in, after_input, entries_of_input, after_last}
-use Rattle.ddcmp_session.specs.Messages.{entry_of_last}
+use Rattle.ddcmp_streams.specs.Messages.{message_in, after_input, entries_of_input, after_last}
+use Rattle.ddcmp_streams.specs.Messages.{entry_of_last}
 use Rattle.ddcmp_session.specs.Session.{SessionView, takes_end}
 use Rattle.ddcmp_laws.specs.Links.{LinkCall, Starts, BeginsAnew, Halts, Wakes, Offers, FillsOne}
 use Rattle.ddcmp_laws.specs.Links.{IsSent, Feeds, Takes, LinkHistory, LinkStep, Links, link_at}
@@ -29,7 +29,7 @@ use Rattle.ddcmp_laws.specs.StationRuns.{run_station_calls}
 use Rattle.ddcmp_laws.proofs.LinkRestarts.{anew-to-b, anew-to-a, anew-all-to-b, anew-all-to-a}
 use Rattle.ddcmp_laws.proofs.LinkRestarts.{anew-acknowledged-to-b, anew-acknowledged-to-a}
 use Rattle.ddcmp_laws.proofs.TwoLinks.{NoneOut}
-use Rattle.ddcmp_session.specs.Calls.{SessionCall, Typed, InputEnded, Connected, LineEnded}
+use Rattle.ddcmp_session.specs.Calls.{SessionCall, InputRead, InputEnded, Connected, LineEnded}
 use Rattle.ddcmp_session.specs.Calls.{Received, Filled, LineTook, TimedOut, TimePassed, Delivered}
 use Rattle.ddcmp_session.specs.Calls.{OutputTook}
 use Rattle.ddcmp_session.specs.Calls.{Closed, SessionDoes, SessionStep}
@@ -300,8 +300,8 @@ follows made one c k does stays = by one.call one.session does
         → Does call c.history.used c.history.session new
         → Follows made (link_steps_of call c.history.session new.link) c k
         (after_step (record { call = call; session = new }) c)
-    by (Typed used) new d =
-        goes_on made (record { call = Typed used; session = new }) c k d stays
+    by (InputRead used) new d =
+        goes_on made (record { call = InputRead used; session = new }) c k d stays
         (offers_calm (entries_of_input used c.history.session.messages)
         (message_in (after_input used c.history.session.messages)) new.link)
     by InputEnded new d =
@@ -475,7 +475,8 @@ pub since_first : (made : Made)
 since_first made =
     (begins made.options made.kind made.line made.of_data).1
     ∙ (λ i. parts (first_connection made).history.session.link [] []
-    (e (messages_of made.options.form made.options.config.max []) (ap (λ (l : LinkHistory). l.accepted) begun) i)
+    (e (messages_of made.options.form made.options.config.max [])
+    (ap (λ (l : LinkHistory). l.accepted) begun) i)
     (e (mail_in []) (ap (λ (l : LinkHistory). l.taken) begun) i) 0)
   where
     begun
@@ -537,16 +538,18 @@ module _ (first second : Made) (steps : List (End × SessionStep))
   pipes_anew_b =
       first_of
       (subst (λ q. LinkReaches q.a q.b) done
-      (anew-to-b first.options.config second.options.config first.options.timer_ms second.options.timer_ms first.line
-      second.line (link_steps steps (first_connections first second)) f g are honest clean))
+      (anew-to-b first.options.config second.options.config first.options.timer_ms
+      second.options.timer_ms first.line second.line
+      (link_steps steps (first_connections first second)) f g are honest clean))
 
   pub pipes_anew_a : PipesAnew second (after_steps steps (first_connections first second)).b
       (after_steps steps (first_connections first second)).a
   pipes_anew_a =
       first_of
       (subst (λ q. LinkReaches q.b q.a) done
-      (anew-to-a first.options.config second.options.config first.options.timer_ms second.options.timer_ms first.line
-      second.line (link_steps steps (first_connections first second)) f g are honest clean))
+      (anew-to-a first.options.config second.options.config first.options.timer_ms
+      second.options.timer_ms first.line second.line
+      (link_steps steps (first_connections first second)) f g are honest clean))
 
   pub pipes_all_anew_b
       : PipesAllAnew first (after_steps steps (first_connections first second)).a
@@ -554,8 +557,9 @@ module _ (first second : Made) (steps : List (End × SessionStep))
   pipes_all_anew_b over =
       let s = (after_steps steps (first_connections first second)).a.history.session in
       subst (λ (q : Links). delivered q.a.link ≡ true → received q.b ≡ q.a.accepted) done
-      (anew-all-to-b first.options.config second.options.config first.options.timer_ms second.options.timer_ms first.line
-      second.line (link_steps steps (first_connections first second)) f g are honest clean)
+      (anew-all-to-b first.options.config second.options.config first.options.timer_ms
+      second.options.timer_ms first.line second.line
+      (link_steps steps (first_connections first second)) f g are honest clean)
       (last_true s.is_read (delivered s.link) over)
 
   pub pipes_all_anew_a
@@ -564,8 +568,9 @@ module _ (first second : Made) (steps : List (End × SessionStep))
   pipes_all_anew_a over =
       let s = (after_steps steps (first_connections first second)).b.history.session in
       subst (λ (q : Links). delivered q.b.link ≡ true → received q.a ≡ q.b.accepted) done
-      (anew-all-to-a first.options.config second.options.config first.options.timer_ms second.options.timer_ms first.line
-      second.line (link_steps steps (first_connections first second)) f g are honest clean)
+      (anew-all-to-a first.options.config second.options.config first.options.timer_ms
+      second.options.timer_ms first.line second.line
+      (link_steps steps (first_connections first second)) f g are honest clean)
       (last_true s.is_read (delivered s.link) over)
 
   pub acknowledged_anew_b

@@ -16,8 +16,8 @@ use Rattle.ddcmp_pair.specs.declared.event.End.{End}
 use Rattle.ddcmp_pair.specs.declared.event.End.TheVariants.{A, B}
 use Rattle.ddcmp_pair.specs.Place.{WholeFrame}
 use Rattle.ddcmp_pair.specs.Run.{EndState, PairState, with_station, whole_frame, notices_at}
-use Rattle.ddcmp_pair.specs.Run.{after_start_here, after_send_here, after_take_here, acknowledged_in}
-use Rattle.ddcmp_pair.specs.Run.{restarts_in}
+use Rattle.ddcmp_pair.specs.Run.{after_start_here, after_send_here, after_take_here}
+use Rattle.ddcmp_pair.specs.Run.{acknowledged_in, restarts_in}
 use Rattle.ddcmp_core.specs.Counting.{count_plus}
 use Rattle.ddcmp_laws.specs.PairCalls.{Call, Start, Halt, Send, Poll, Arrive, Expire, Take, Arm}
 use Rattle.ddcmp_laws.specs.PairCalls.{Ask}

@@ -9,7 +9,7 @@ use Rattle.ddcmp_pair.specs.declared.event.End.TheVariants.{A, B}
 use Rattle.ddcmp_session.specs.Session.{SessionView, starts}
 use Rattle.ddcmp_session.specs.Calls.{Closed, Connected, Delivered, Filled, InputEnded, LineEnded}
 use Rattle.ddcmp_session.specs.Calls.{LineTook, OutputTook, Received, SessionCall, SessionDoes}
-use Rattle.ddcmp_session.specs.Calls.{SessionStep, TimePassed, TimedOut, Typed}
+use Rattle.ddcmp_session.specs.Calls.{SessionStep, TimePassed, TimedOut, InputRead}
 use Rattle.ddcmp_session.specs.Connections.{AreDone, Connection, Does, after_step}
 use Rattle.ddcmp_laws.specs.Connected.{AreOverStreams, AreTwoRuns, BinaryIsInFiles, IsBareBefore}
 use Rattle.ddcmp_laws.specs.Connected.{IsConnectedOnce, RanOverStreams, connections_in}
@@ -30,7 +30,7 @@ use Rattle.ddcmp_laws.proofs.OneConnection.{step-once}
 does-so : (call : SessionCall) (text : List ℕ) (old new : SessionView)
     → SessionDoes call text old new → Does call text old new
 does-so Connected text old new d = d.0
-does-so (Typed used) text old new d = d
+does-so (InputRead used) text old new d = d
 does-so InputEnded text old new d = d
 does-so (LineEnded r) text old new d = d
 does-so (Received used) text old new d = d
@@ -100,7 +100,7 @@ starts-if Connected s (inl never) = no never
     no : {P : Type 0} → ◌≡◌ {A = ℕ} 1 0 → P
     no e = cc
 starts-if Connected s (inr empty) = starts-new s empty
-starts-if (Typed used) s is = tt
+starts-if (InputRead used) s is = tt
 starts-if InputEnded s is = tt
 starts-if (LineEnded r) s is = tt
 starts-if (Received used) s is = tt

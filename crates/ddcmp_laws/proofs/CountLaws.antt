@@ -33,8 +33,8 @@ use Rattle.ddcmp_pair.specs.declared.event.End.TheVariants.{A, B}
 use Rattle.ddcmp_pair.specs.declared.event.Event.{Event}
 use Rattle.ddcmp_pair.specs.declared.event.Event.TheVariants as event
 use Rattle.ddcmp_pair.specs.Place.{WholeFrame}
-use Rattle.ddcmp_pair.specs.Run.{EndState, PairState, at, whole_frame, after_event, after_event_here}
-use Rattle.ddcmp_pair.specs.Run.{run, new_end, new_pair}
+use Rattle.ddcmp_pair.specs.Run.{EndState, PairState, at, whole_frame, after_event}
+use Rattle.ddcmp_pair.specs.Run.{after_event_here, run, new_end, new_pair}
 use Rattle.ddcmp_pair.proofs.Calls.{take-up}
 use Rattle.ddcmp_pair.proofs.Steady.{inbox-sent, expired-inbox}
 use Rattle.ddcmp_core.proofs.Sent.{sending}

@@ -22,9 +22,9 @@ use Rattle.ddcmp_core.proofs.StartLaws.{read_sent}
 use Rattle.ddcmp_proto.specs.Bytes.{received_of, after_item, after_items, notices_of_item}
 use Rattle.ddcmp_proto.specs.Bytes.{notices_of_items, items_added, frame_on_line}
 use Rattle.ddcmp_proto.proofs.FeedLaws.{items_added-is, items_added-append, after_piece-limits}
-use Rattle.ddcmp_pair.specs.Run.{EndState, acknowledged_in, line_bytes, whole_frame, after_send_here}
-use Rattle.ddcmp_pair.specs.Run.{after_poll_here, after_arrival_here, after_expire_here}
-use Rattle.ddcmp_pair.specs.Run.{after_take_here}
+use Rattle.ddcmp_pair.specs.Run.{EndState, acknowledged_in, line_bytes, whole_frame}
+use Rattle.ddcmp_pair.specs.Run.{after_send_here, after_poll_here, after_arrival_here}
+use Rattle.ddcmp_pair.specs.Run.{after_expire_here, after_take_here}
 use Rattle.ddcmp_pair.proofs.Relation.{Face, face}
 use Rattle.ddcmp_pair.proofs.Receptions.{hearing}
 use Rattle.ddcmp_pair.proofs.Arrivals.{faced}

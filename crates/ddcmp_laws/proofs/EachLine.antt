@@ -4,10 +4,10 @@ use Rattle.std.proofs.Common.{◌≡◌, ◌∙◌, ap, sym, subst, refl, ℕ, L
 use Rattle.std.proofs.Common.{append_assoc, append-nil}
 use Rattle.ddcmp_input.specs.InBinary as binary
 use Rattle.ddcmp_input.specs.InLines as lines
-use Rattle.ddcmp_session.specs.declared.messages.Form.{Form}
-use Rattle.ddcmp_session.specs.declared.messages.Form.TheVariants as form
+use Rattle.ddcmp_streams.specs.declared.messages.MessageForm.{MessageForm}
+use Rattle.ddcmp_streams.specs.declared.messages.MessageForm.TheVariants as form
 use Rattle.ddcmp_session.specs.Session.{SessionView}
-use Rattle.ddcmp_session.specs.Calls.{SessionCall, Typed, InputEnded, Connected, LineEnded}
+use Rattle.ddcmp_session.specs.Calls.{SessionCall, InputRead, InputEnded, Connected, LineEnded}
 use Rattle.ddcmp_session.specs.Calls.{Received, Filled, LineTook, TimedOut, TimePassed, Delivered}
 use Rattle.ddcmp_session.specs.Calls.{OutputTook, Closed, SessionStep}
 use Rattle.ddcmp_session.specs.Connections.{AreDone, Connection, Does, after_all, after_step}
@@ -61,7 +61,7 @@ leaves-none : (call : SessionCall) (text : List ℕ) (old new : SessionView) →
 leaves-none Connected text old new of d was then = connected-none old new d was then.0 then.1
 leaves-none (LineEnded r) text old new of d was then =
     left-none old ((line-ended r old new d).lost then.0) was
-leaves-none (Typed used) text old new of d was then = absurd of
+leaves-none (InputRead used) text old new of d was then = absurd of
 leaves-none InputEnded text old new of d was then = absurd of
 leaves-none (Received used) text old new of d was then = absurd of
 leaves-none (Filled n) text old new of d was then = absurd of
@@ -103,7 +103,7 @@ left-with-none ran rest done more of held t closed ended none =
 
 -- ---- what its input has had over its lines
 
-pub none-in-nothing : (f : Form) (max : ℕ) → messages_of f max [] ≡ []
+pub none-in-nothing : (f : MessageForm) (max : ℕ) → messages_of f max [] ≡ []
 unfolding got_in binary.told_in lines.told_in
 none-in-nothing form.Digits max = refl
 none-in-nothing form.Binary max = refl
@@ -118,7 +118,7 @@ read-before : (call : SessionCall) (new : SessionView) (made : Made) (c : Connec
 read-before Connected new made c stays =
     sym stays.read
     ∙ ap (messages_of made.options.form made.options.config.max) (sym (append-nil c.history.input))
-read-before (Typed used) new made c stays = append-nil _
+read-before (InputRead used) new made c stays = append-nil _
 read-before InputEnded new made c stays = append-nil _
 read-before (LineEnded r) new made c stays = append-nil _
 read-before (Received used) new made c stays = append-nil _

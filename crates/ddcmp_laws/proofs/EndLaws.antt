@@ -8,9 +8,9 @@ use Rattle.ddcmp_frame.specs.Reader.{StandsFor}
 use Rattle.ddcmp_io.specs.Queue.{QueueView}
 use Rattle.ddcmp_station.specs.Linking.{LinkView}
 use Rattle.ddcmp_window.specs.Store.{first_message}
-use Rattle.ddcmp_session.specs.Messages.{after_input, entries_of_input}
+use Rattle.ddcmp_streams.specs.Messages.{after_input, entries_of_input}
 use Rattle.ddcmp_session.specs.Session.{SessionView, form_of}
-use Rattle.ddcmp_session.specs.Calls.{SessionCall, Typed, InputEnded, Connected, LineEnded}
+use Rattle.ddcmp_session.specs.Calls.{SessionCall, InputRead, InputEnded, Connected, LineEnded}
 use Rattle.ddcmp_session.specs.Calls.{Received, Filled, LineTook, TimedOut, TimePassed, Delivered}
 use Rattle.ddcmp_session.specs.Calls.{OutputTook, Closed, SessionStep, SessionHistory, Mail}
 use Rattle.ddcmp_session.specs.Calls.{IsSessionHistory, after_session_step, after_session_steps}
@@ -32,7 +32,7 @@ use Rattle.ddcmp_laws.proofs.Writing.{ended_keeps, entries_keep}
 
 pub size_stays : (call : SessionCall) (used : List ℕ) (old new : SessionView)
     → Does call used old new → new.output.size ≡ old.output.size
-size_stays (Typed bytes) used old new d =
+size_stays (InputRead bytes) used old new d =
     let s : SessionView = record old { messages = after_input bytes old.messages } in
     same-at (λ x. x.output.size) new _ d.state
     ∙ ap (λ (q : QueueView). q.size) (entries_keep (entries_of_input bytes old.messages) s).0
@@ -106,7 +106,7 @@ kept_one (OutputTook n) old new of d = record {
   counters = same-at (λ x. x.options.counters) new _ d;
   form = same-at (λ x. form_of x.messages) new _ d;
 }
-kept_one (Typed used) old new of d = absurd of
+kept_one (InputRead used) old new of d = absurd of
 kept_one InputEnded old new of d = absurd of
 kept_one Connected old new of d = absurd of
 kept_one (LineEnded r) old new of d = absurd of
@@ -186,7 +186,7 @@ led_one (OutputTook n) h new of d = record {
   shown = refl;
   inbox = same-at (λ x. x.link.station.core.station.inbox) new _ d;
 }
-led_one (Typed used) h new of d = absurd of
+led_one (InputRead used) h new of d = absurd of
 led_one InputEnded h new of d = absurd of
 led_one Connected h new of d = absurd of
 led_one (LineEnded r) h new of d = absurd of
@@ -256,7 +256,7 @@ only_one (OutputTook n) old new of d none = (
       ∙ take-append-drop n old.output.waiting,
   same-at (λ x. x.link) new _ d,
 )
-only_one (Typed used) old new of d none = absurd of
+only_one (InputRead used) old new of d none = absurd of
 only_one InputEnded old new of d none = absurd of
 only_one Connected old new of d none = absurd of
 only_one (LineEnded r) old new of d none = absurd of

@@ -257,7 +257,8 @@ ComesWell (event.Arrive e bytes) x =
     AllReceivable x.core.limits (items_added x.core.limits.longest x.arrived bytes)
 ComesWell e x = Unit {0}
 
-pub well_event : (e : Event) (x : EndState) → ComesWell e x → IsWell x → IsWell (after_event_here e x)
+pub well_event : (e : Event) (x : EndState) → ComesWell e x → IsWell x
+    → IsWell (after_event_here e x)
 well_event (event.Start e) x c h =
     record {
       sound = started_sound x.core.limits x.core.station (may_start x.core.station)

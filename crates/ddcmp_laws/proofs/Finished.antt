@@ -7,14 +7,15 @@ use Rattle.ddcmp_io.specs.Queue.{QueueView}
 use Rattle.ddcmp_io.specs.Written.{HandsOver, HoldsBy}
 use Rattle.ddcmp_station.specs.Linking.{LinkView}
 use Rattle.ddcmp_window.specs.Store.{first_message}
-use Rattle.ddcmp_session.specs.declared.messages.Form.{Form}
-use Rattle.ddcmp_session.specs.declared.messages.Form.TheVariants as form
+use Rattle.ddcmp_streams.specs.declared.messages.MessageForm.{MessageForm}
+use Rattle.ddcmp_streams.specs.declared.messages.MessageForm.TheVariants as form
 use Rattle.ddcmp_session.specs.Session.{SessionView, form_of, room_for_mail}
 use Rattle.ddcmp_session.specs.Calls.{Closed, Mail, SessionHistory, SessionStep, losses}
 use Rattle.ddcmp_session.specs.Calls.{after_session_step, after_session_steps}
 use Rattle.ddcmp_session.specs.Connections.{AreDone}
 use Rattle.ddcmp_session.specs.Devices.{BuffersView, Traffic}
-use Rattle.ddcmp_session.specs.EndText.{end_text, queued}
+use Rattle.ddcmp_session.specs.EndText.{end_text}
+use Rattle.ddcmp_streams.specs.Queued.{queued}
 use Rattle.ddcmp_session.specs.Finishing.{WritesEnd, WritesEndIf, after_taken_by, taken_in}
 use Rattle.ddcmp_session.proofs.GoingLaws.{same-at, same-now}
 use Rattle.ddcmp_laws.specs.Connections.{first_connection}
@@ -89,7 +90,7 @@ module _ (is_well : Bool) (ran : Ran) (held : BuffersView) (t after : Traffic) (
 module _ (ran : Ran) (held : BuffersView) (t after : Traffic) (last : SessionView)
     (does : AreDone ran.steps (first_connection ran.made))
     (fin : WasFinished true ran held t last after) where
-  abbrev f : Form
+  abbrev f : MessageForm
   f = ran.made.options.form
 
   abbrev h : SessionHistory
@@ -200,7 +201,7 @@ module _ (ran : Ran) (held : BuffersView) (t after : Traffic) (last : SessionVie
       ∙ ap (λ g. last_text g last) (sym binary)
   lines_text (inr whole) = by f refl
     where
-      by : (g : Form) → f ≡ g → lined.output.waiting ≡ last_text g last
+      by : (g : MessageForm) → f ≡ g → lined.output.waiting ≡ last_text g last
       by form.Binary is =
           ap (λ (s : SessionView). s.output.waiting) (ends.binary (kind_first ∙ is))
           ∙ none_first_waits

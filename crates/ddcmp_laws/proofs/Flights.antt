@@ -67,8 +67,8 @@ abbrev pub raised : Flight → ℕ → ℕ
 raised (data_flies q k m) most = max most k
 raised _ most = most
 
--- a position is less than a window behind what may be delivered then, and was sent; a REP reports no
--- less than that
+-- a position is less than a window behind what may be delivered then, and was sent; a REP reports
+-- no less than that
 abbrev pub IsNear : ℕ → ℕ → ℕ → Flight → Type 0
 IsNear w n most (data_flies q k m) = (most < k + w) × (k ≤ n)
 IsNear w n most (rep_flies k) = (most ≤ k) × (k ≤ n)

@@ -16,12 +16,12 @@ use Rattle.ddcmp_input.proofs.BinaryLaws as in_binary
 use Rattle.ddcmp_input.proofs.HexLinesLaws as hex_laws
 use Rattle.ddcmp_input.proofs.LengthsLaws as length_laws
 use Rattle.ddcmp_input.proofs.LineLaws as in_lines
-use Rattle.ddcmp_session.specs.declared.messages.Form.{Form}
-use Rattle.ddcmp_session.specs.declared.messages.Form.TheVariants as form
-use Rattle.ddcmp_session.specs.declared.messages.Messages.{Messages}
-use Rattle.ddcmp_session.specs.declared.messages.Messages.TheVariants.{Digits, Binary}
-use Rattle.ddcmp_session.specs.Messages.{after_input, count_of, entries_of_input, entry_of_last}
-use Rattle.ddcmp_session.specs.Messages.{messages_among, messages_begun}
+use Rattle.ddcmp_streams.specs.declared.messages.MessageForm.{MessageForm}
+use Rattle.ddcmp_streams.specs.declared.messages.MessageForm.TheVariants as form
+use Rattle.ddcmp_streams.specs.declared.messages.Messages.{Messages}
+use Rattle.ddcmp_streams.specs.declared.messages.Messages.TheVariants.{Digits, Binary}
+use Rattle.ddcmp_streams.specs.Messages.{after_input, count_of, entries_of_input, entry_of_last}
+use Rattle.ddcmp_streams.specs.Messages.{messages_among, messages_begun}
 use Rattle.ddcmp_session.specs.Session.{form_of, lost_among, lost_at_end, lost_with_last}
 use Rattle.ddcmp_session.specs.Calls.{SessionHistory, end_in}
 use Rattle.ddcmp_session.specs.Devices.{Agrees, BuffersView, Traffic}
@@ -97,14 +97,14 @@ lines_none (b ∷ rest) v none =
     ∙ none_by e w.message two.0
 
 -- the messages of more bytes
-abbrev More : Form → ℕ → List ℕ → List ℕ → Type 0
+abbrev More : MessageForm → ℕ → List ℕ → List ℕ → Type 0
 More f max input more =
     (rest : List (List ℕ))
     × (messages_of f max (input ++ more) ≡ messages_of f max input ++ rest)
     × ((m : Messages) → m ≡ after_input input (messages_begun f max)
     → messages_among (entries_of_input more m) ≡ 0 → rest ≡ [])
 
-pub messages_more : (f : Form) (max : ℕ) (input more : List ℕ) → More f max input more
+pub messages_more : (f : MessageForm) (max : ℕ) (input more : List ℕ) → More f max input more
 messages_more form.Digits max input more =
     let v = hex.after_bytes input (hex.begun max) in (
       got_in (map second (lines.told_in more v)),
@@ -132,7 +132,7 @@ entries_more : (xs ys : List ℕ) (m : Messages)
 entries_more xs ys (Digits v) = hex_laws.entries_of_more xs ys v
 entries_more xs ys (Binary v) = length_laws.entries_of_more xs ys v
 
-abbrev ending : Form → Bool → List ℕ
+abbrev ending : MessageForm → Bool → List ℕ
 ending f over = cond over (end_in f) []
 
 nothing : (m : Messages) → messages_among (entries_of_input [] m) ≡ 0
@@ -140,7 +140,7 @@ unfolding messages_among hex.entries_of_bytes lengths.entries_of_bytes
 nothing (Digits v) = refl
 nothing (Binary v) = refl
 
-none_ending : (f : Form) (over : Bool) (m : Messages) → form_of m ≡ f
+none_ending : (f : MessageForm) (over : Bool) (m : Messages) → form_of m ≡ f
     → lost_with_last over m ≡ 0 → messages_among (entries_of_input (ending f over) m) ≡ 0
 none_ending f true m is none =
     ap (λ g. messages_among (entries_of_input (end_in g) m)) (sym is)
@@ -149,7 +149,7 @@ none_ending f true m is none =
     ∙ none
 none_ending f false m is none = nothing m
 
-none_left : (f : Form) (left : List ℕ) (over : Bool) (m : Messages) → form_of m ≡ f
+none_left : (f : MessageForm) (left : List ℕ) (over : Bool) (m : Messages) → form_of m ≡ f
     → messages_among (entries_of_input left m) ≡ 0
     → lost_with_last over (after_input left m) ≡ 0
     → messages_among (entries_of_input (left ++ ending f over) m) ≡ 0
@@ -167,10 +167,10 @@ none_left f left over m is none last =
 -- ---- what devices gave
 
 -- the bytes that the session hasn't had yet
-abbrev pub unread : Form → Bool → BuffersView → List ℕ
+abbrev pub unread : MessageForm → Bool → BuffersView → List ℕ
 unread f told held = cond told [] (held.input ++ ending f held.is_over)
 
-pub gave_more : (f : Form) (h : SessionHistory) (held : BuffersView) (t : Traffic)
+pub gave_more : (f : MessageForm) (h : SessionHistory) (held : BuffersView) (t : Traffic)
     → form_of h.session.messages ≡ f → Agrees held h t
     → t.read ++ ending f t.is_over ≡ h.input ++ unread f h.is_told held
 gave_more f h held t kind a = by h.is_told refl
@@ -192,7 +192,7 @@ gave_more f h held t kind a = by h.is_told refl
         ∙ append_assoc h.input held.input (ending f held.is_over)
 
 -- nothing was lost: no message is among them
-pub none_unread : (f : Form) (max : ℕ) (h : SessionHistory) (held : BuffersView)
+pub none_unread : (f : MessageForm) (max : ℕ) (h : SessionHistory) (held : BuffersView)
     → Holds f max h → (h.session.is_read ≡ true → h.is_told ≡ true)
     → lost_among held.input h.session ≡ 0 → lost_at_end held.input held.is_over h.session ≡ 0
     → messages_of f max (h.input ++ unread f h.is_told held) ≡ messages_of f max h.input

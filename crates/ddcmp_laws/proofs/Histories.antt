@@ -4,8 +4,8 @@ use Rattle.std.proofs.Common.{◌++◌, refl, sym, ◌∙◌, ap, subst}
 use Rattle.std.proofs.Common.{append_assoc, append-nil}
 use Rattle.ddcmp_frame.specs.Reader.{ReaderView}
 use Rattle.ddcmp_io.specs.declared.line_kind.LineKind.{LineKind}
-use Rattle.ddcmp_session.specs.declared.options.Options.{Options}
-use Rattle.ddcmp_session.specs.declared.messages.Form.{Form}
+use Rattle.ddcmp_streams.specs.declared.options.Options.{Options}
+use Rattle.ddcmp_streams.specs.declared.messages.MessageForm.{MessageForm}
 use Rattle.ddcmp_laws.specs.Links.{LinkHistory, LinkStep, new_history}
 use Rattle.ddcmp_laws.specs.Links.{after_step, IsHistory, after_history, offered_in_call}
 use Rattle.ddcmp_laws.specs.Links.{offered_in}
@@ -33,14 +33,15 @@ offered_more (x ∷ xs) ys =
     ∙ sym (append_assoc (offered_in_call x.call) (offered_in xs) (offered_in ys))
 
 -- what a list of calls of a session leads to
-abbrev pub HistoryLeads : Form → ℕ → List SessionStep → SessionHistory → ℕ → Type 0
+abbrev pub HistoryLeads : MessageForm → ℕ → List SessionStep → SessionHistory → ℕ → Type 0
 HistoryLeads f max steps h k =
     Leads (link_steps_in steps h) (link_history f max h k) f max (after_session_steps steps h)
     × Holds f max (after_session_steps steps h)
     × (messages_of f max (after_session_steps steps h).input
     ≡ messages_of f max h.input ++ offered_in (link_steps_in steps h))
 
-pub history_leads : (f : Form) (max : ℕ) (steps : List SessionStep) (h : SessionHistory) (k : ℕ)
+pub history_leads : (f : MessageForm) (max : ℕ) (steps : List SessionStep) (h : SessionHistory)
+    (k : ℕ)
     → IsSessionHistory steps h → Holds f max h → HistoryLeads f max steps h k
 unfolding after_session_steps link_steps_in after_history offered_in
 history_leads f max [] h k does holds =

@@ -4,8 +4,8 @@ use Rattle.std.proofs.Common.{◌++◌, refl, sym, ◌∙◌, ap}
 use Rattle.std.proofs.Common.{arith, append-nil}
 use Rattle.ddcmp_station.specs.Linking.{LinkView}
 use Rattle.ddcmp_station.specs.Linking.{after_frame, after_frames}
-use Rattle.ddcmp_session.specs.declared.messages.Form.{Form}
-use Rattle.ddcmp_session.specs.Messages.{messages_begun, after_input}
+use Rattle.ddcmp_streams.specs.declared.messages.MessageForm.{MessageForm}
+use Rattle.ddcmp_streams.specs.Messages.{messages_begun, after_input}
 use Rattle.ddcmp_session.specs.Session.{SessionView, form_of}
 use Rattle.ddcmp_laws.specs.Links.{LinkCall, FillsOne}
 use Rattle.ddcmp_laws.specs.Links.{HasDone, LinkHistory, LinkStep}
@@ -18,7 +18,7 @@ use Rattle.ddcmp_laws.proofs.Limits.{longest_of}
 
 -- ---- what stays of a session with its history
 
-pub record Holds (f : Form) (max : ℕ) (h : SessionHistory) : Type 0 where
+pub record Holds (f : MessageForm) (max : ℕ) (h : SessionHistory) : Type 0 where
   pub kind : form_of h.session.messages ≡ f
   pub longest : h.session.link.station.core.limits.longest ≡ max
   pub reads : h.session.is_read ≡ false
@@ -27,7 +27,7 @@ pub record Holds (f : Form) (max : ℕ) (h : SessionHistory) : Type 0 where
   pub of_data : h.session.options.maintenance ≡ false
 
 -- the history of its link
-abbrev pub link_history : Form → ℕ → SessionHistory → ℕ → LinkHistory
+abbrev pub link_history : MessageForm → ℕ → SessionHistory → ℕ → LinkHistory
 link_history f max h acknowledged = record {
   link = h.session.link;
   used = h.used;
@@ -48,12 +48,12 @@ parts new used gone accepted taken acknowledged = record {
 }
 
 -- calls of a link lead from one history to another
-abbrev pub Leads : List LinkStep → LinkHistory → Form → ℕ → SessionHistory → Type 0
+abbrev pub Leads : List LinkStep → LinkHistory → MessageForm → ℕ → SessionHistory → Type 0
 Leads steps l f max new =
     IsHistory steps l × ((k : ℕ) × (after_history steps l ≡ link_history f max new k))
 
 -- and what stays stays
-abbrev pub StepLeads : Form → ℕ → SessionStep → SessionHistory → ℕ → Type 0
+abbrev pub StepLeads : MessageForm → ℕ → SessionStep → SessionHistory → ℕ → Type 0
 StepLeads f max step h k =
     Leads (link_steps_of step.call h.session step.session.link) (link_history f max h k) f max
     (after_session_step step h)
@@ -78,7 +78,7 @@ pub added_none : (d : LinkView) (l : LinkHistory)
 added_none d l = λ i. parts d (append-nil l.used i) (append-nil l.gone i) (append-nil l.accepted i)
     (append-nil l.taken i) (plus_none l.acknowledged i)
 
-pub no_input : (f : Form) (max : ℕ) (input : List ℕ)
+pub no_input : (f : MessageForm) (max : ℕ) (input : List ℕ)
     → messages_of f max (input ++ []) ≡ messages_of f max input
 no_input f max input = ap (messages_of f max) (append-nil input)
 
@@ -121,11 +121,10 @@ session_parts told new used gone input written shown = record {
   shown = shown;
 }
 
-pub holds_on : {told : Bool} (f : Form) (max : ℕ) (h : SessionHistory) (new : SessionView) (used gone written
-    : List ℕ)
-    (shown : List Shown) → Holds f max h → new.messages ≡ h.session.messages
-    → new.is_read ≡ h.session.is_read → longest_of new.link ≡ longest_of h.session.link
-    → IsText f written new.output shown
+pub holds_on : {told : Bool} (f : MessageForm) (max : ℕ) (h : SessionHistory) (new : SessionView)
+    (used gone written : List ℕ) (shown : List Shown) → Holds f max h
+    → new.messages ≡ h.session.messages → new.is_read ≡ h.session.is_read
+    → longest_of new.link ≡ longest_of h.session.link → IsText f written new.output shown
     → new.options.maintenance ≡ h.session.options.maintenance
     → Holds f max (session_parts told new used gone (h.input ++ []) written shown)
 holds_on {told} f max h new used gone written shown k same read longest text mode = record {
@@ -138,14 +137,14 @@ holds_on {told} f max h new used gone written shown k same read longest text mod
 }
 
 -- the text stays
-pub text_on : (f : Form) (max : ℕ) (h : SessionHistory) (new : SessionView) → Holds f max h
+pub text_on : (f : MessageForm) (max : ℕ) (h : SessionHistory) (new : SessionView) → Holds f max h
     → new.output ≡ h.session.output → IsText f (h.written ++ []) new.output (h.shown ++ [])
 text_on f max h new k same =
     writes f h.written h.shown [] h.session.output new.output [] k.text
     (keeps h.session.output new.output same) (no_text f)
 
 -- one call of the link, of a call that reads nothing
-pub one_call : (f : Form) (max : ℕ) (h : SessionHistory) (new : SessionView) (k : ℕ) (call :
+pub one_call : (f : MessageForm) (max : ℕ) (h : SessionHistory) (new : SessionView) (k : ℕ) (call :
     LinkCall)
     (used gone written : List ℕ) (shown : List Shown) (more : List (List ℕ))
     → HasDone call h.used h.session.link new.link
@@ -167,7 +166,8 @@ one_call f max h new k call used gone written shown more done after mail = (
 )
 
 -- no call of the link
-pub no_call : (f : Form) (max : ℕ) (h : SessionHistory) (new : SessionView) (k : ℕ) (written :
+pub no_call : (f : MessageForm) (max : ℕ) (h : SessionHistory) (new : SessionView) (k : ℕ)
+    (written :
     List ℕ)
     (shown : List Shown) → new.link ≡ h.session.link → mail_in shown ≡ mail_in h.shown
     → Leads [] (link_history f max h k) f max
@@ -182,7 +182,8 @@ no_call f max h new k written shown same mail = (
   ),
 )
 
-pub no_offer : (f : Form) (max : ℕ) (input : List ℕ) (steps : List LinkStep) → offered_in steps ≡ []
+pub no_offer : (f : MessageForm) (max : ℕ) (input : List ℕ) (steps : List LinkStep)
+    → offered_in steps ≡ []
     → messages_of f max (input ++ []) ≡ messages_of f max input ++ offered_in steps
 no_offer f max input steps e =
     no_input f max input ∙ sym (append-nil (messages_of f max input))

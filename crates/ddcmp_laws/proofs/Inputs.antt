@@ -7,8 +7,9 @@ use Rattle.std.specs.Prelude.{◌==◌, nat_le}
 use Rattle.ddcmp_input.specs.declared.entry.Entry.{Entry}
 use Rattle.ddcmp_input.specs.declared.entry.Entry.TheVariants.{Message, NotHexadecimal, TooLong}
 use Rattle.ddcmp_input.specs.declared.entry.Entry.TheVariants.{Empty}
-use Rattle.ddcmp_input.specs.declared.lengths.Place.{Place}
-use Rattle.ddcmp_input.specs.declared.lengths.Place.TheVariants.{Start, Half, Inside, Passing}
+use Rattle.ddcmp_input.specs.declared.lengths.LengthPlace.{LengthPlace}
+use Rattle.ddcmp_input.specs.declared.lengths.LengthPlace.TheVariants.{Start, Half, Inside}
+use Rattle.ddcmp_input.specs.declared.lengths.LengthPlace.TheVariants.{Skipping}
 use Rattle.ddcmp_input.specs.HexLines.{HexView, byte_of_digits, after_spelled, after_second}
 use Rattle.ddcmp_input.specs.HexLines.{after_digit_in, after_digit, entry_of_digits}
 use Rattle.ddcmp_input.specs.HexLines.{entry_of_line_in}
@@ -25,11 +26,11 @@ use Rattle.ddcmp_input.proofs.BinaryLaws as in_binary
 use Rattle.ddcmp_input.proofs.LineLaws as in_lines
 use Rattle.ddcmp_input.proofs.LengthsLaws as length_laws
 use Rattle.ddcmp_input.proofs.HexLinesLaws as hex_laws
-use Rattle.ddcmp_session.specs.declared.messages.Form.{Form}
-use Rattle.ddcmp_session.specs.declared.messages.Form.TheVariants as form
-use Rattle.ddcmp_session.specs.declared.messages.Messages.{Messages}
-use Rattle.ddcmp_session.specs.declared.messages.Messages.TheVariants.{Digits, Binary}
-use Rattle.ddcmp_session.specs.Messages.{messages_begun, message_in, after_input, entries_of_input}
+use Rattle.ddcmp_streams.specs.declared.messages.MessageForm.{MessageForm}
+use Rattle.ddcmp_streams.specs.declared.messages.MessageForm.TheVariants as form
+use Rattle.ddcmp_streams.specs.declared.messages.Messages.{Messages}
+use Rattle.ddcmp_streams.specs.declared.messages.Messages.TheVariants.{Digits, Binary}
+use Rattle.ddcmp_streams.specs.Messages.{messages_begun, message_in, after_input, entries_of_input}
 use Rattle.ddcmp_session.specs.Calls.{CompletesLast}
 use Rattle.ddcmp_laws.specs.Sessions.{got, got_in, messages_of}
 
@@ -141,12 +142,12 @@ read_lines used v part = by (last used)
 
 -- ---- what is read, and then more
 
-abbrev ReadsMore : Form → ℕ → List ℕ → List ℕ → Messages → Type 0
+abbrev ReadsMore : MessageForm → ℕ → List ℕ → List ℕ → Messages → Type 0
 ReadsMore f max input used m =
     messages_of f max (input ++ used)
     ≡ messages_of f max input ++ read_by (entries_of_input used m) (message_in (after_input used m))
 
-pub read_more : (f : Form) (max : ℕ) (input used : List ℕ) (m : Messages)
+pub read_more : (f : MessageForm) (max : ℕ) (input used : List ℕ) (m : Messages)
     → m ≡ after_input input (messages_begun f max) → CompletesLast used m
     → ReadsMore f max input used m
 read_more form.Digits max input used m is part =
@@ -172,7 +173,7 @@ read_more form.Binary max input used m is part =
     v : LengthsView
     v = lengths.after_bytes input (lengths.begun max)
 
-pub after_more : (f : Form) (max : ℕ) (input used : List ℕ) (m : Messages)
+pub after_more : (f : MessageForm) (max : ℕ) (input used : List ℕ) (m : Messages)
     → m ≡ after_input input (messages_begun f max)
     → after_input used m ≡ after_input (input ++ used) (messages_begun f max)
 after_more form.Digits max input used m is =
@@ -183,7 +184,7 @@ after_more form.Binary max input used m is =
 
 -- ---- no message is too long: in binary
 
-abbrev PlaceFits : Place → ℕ → ℕ → Type 0
+abbrev PlaceFits : LengthPlace → ℕ → ℕ → Type 0
 PlaceFits (Inside left) held max = (1 ≤ left) × (held + left ≤ max)
 PlaceFits _ held max = Unit {0}
 
@@ -198,7 +199,7 @@ IfMessage _ P = Unit {0}
 one_longer : (message : List ℕ) (byte : ℕ) → length (message ++ byte ∷ []) ≡ length message + 1
 one_longer message byte = length-append message (byte ∷ [])
 
-abbrev binary_at : ℕ → Place → List ℕ → LengthsView
+abbrev binary_at : ℕ → LengthPlace → List ℕ → LengthsView
 binary_at max place message = record { max = max; place = place; message = message }
 
 abbrev StaysBinary : ℕ → ℕ → LengthsView → Type 0
@@ -207,7 +208,7 @@ StaysBinary max byte v =
     × IfMessage (option_to_list (lengths.entry_of_byte byte v))
     (Fits max (lengths.after_byte byte v).message)
 
-stays_at : (max byte mx : ℕ) (p : Place) (message : List ℕ) → mx ≡ max
+stays_at : (max byte mx : ℕ) (p : LengthPlace) (message : List ℕ) → mx ≡ max
     → PlaceFits p (length message) max → StaysBinary max byte (binary_at mx p message)
 stays_at max byte mx Start message e fit = ((e, tt), tt)
 stays_at max byte mx (Half high) message e fit =
@@ -218,12 +219,12 @@ stays_at max byte mx (Half high) message e fit =
 
     by : (refused : Bool) → is_refused mx n ≡ refused → (none : Bool)
         → FitsBinary max
-        (cond refused (binary_at mx (cond none Start (Passing n)) message) (binary_at mx (Inside
+        (cond refused (binary_at mx (cond none Start (Skipping n)) message) (binary_at mx (Inside
         n) []))
         × IfMessage
         (option_to_list (cond refused (Some (cond none Empty TooLong)) None))
         (Fits max
-        (cond refused (binary_at mx (cond none Start (Passing n)) message)
+        (cond refused (binary_at mx (cond none Start (Skipping n)) message)
         (binary_at mx (Inside n) [])).message)
     by true r true = ((e, tt), tt)
     by true r false = ((e, tt), tt)
@@ -241,10 +242,10 @@ stays_at max byte mx (Inside left) message e fit = by (is_last left) refl
         let l = one_longer message byte in let f = fit.0 in let g = fit.1 in
         let more : 2 ≤ left = grind (arith, o) in
         ((e, (omega (arith, more), omega (arith, l, f, g, more))), tt)
-stays_at max byte mx (Passing left) message e fit = by (is_last left)
+stays_at max byte mx (Skipping left) message e fit = by (is_last left)
   where
     by : (over : Bool)
-        → FitsBinary max (binary_at mx (cond over Start (Passing (left - 1))) message) × Unit {0}
+        → FitsBinary max (binary_at mx (cond over Start (Skipping (left - 1))) message) × Unit {0}
     by true = ((e, tt), tt)
     by false = ((e, tt), tt)
 
@@ -437,7 +438,7 @@ fits_in_lines max used v f part = by (last used)
     by (inr r) =
         subst (λ u. ReadFits max u (Digits v)) (sym r.2) (one r.0 r.1 (part r.0 r.1 r.2))
 
-pub read_fits : (f : Form) (max : ℕ) (input used : List ℕ) (m : Messages)
+pub read_fits : (f : MessageForm) (max : ℕ) (input used : List ℕ) (m : Messages)
     → m ≡ after_input input (messages_begun f max) → CompletesLast used m → ReadFits max used m
 read_fits form.Digits max input used m is part =
     subst (ReadFits max used) (sym is)

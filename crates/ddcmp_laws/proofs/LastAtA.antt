@@ -24,7 +24,7 @@ use Rattle.ddcmp_laws.proofs.PairCallLaws.{notices_same, one_same}
 use Rattle.ddcmp_session.specs.Session.{SessionView, starts}
 use Rattle.ddcmp_session.specs.Calls.{Closed, Connected, Delivered, Filled, InputEnded, LineEnded}
 use Rattle.ddcmp_session.specs.Calls.{LineTook, OutputTook, Received, SessionCall, SessionStep}
-use Rattle.ddcmp_session.specs.Calls.{TimePassed, TimedOut, Typed, used_in}
+use Rattle.ddcmp_session.specs.Calls.{TimePassed, TimedOut, InputRead, used_in}
 use Rattle.ddcmp_session.specs.Connections.{Connection, after_step}
 use Rattle.ddcmp_laws.specs.Connections.{Connections, after_step_at}
 use Rattle.ddcmp_laws.specs.LastConnection.{EndOverStreams, StartsIf}
@@ -257,9 +257,9 @@ step-a first second Connected new rest c p j k inv f over in_range ready =
     begun-next-a first second new rest c p j k inv f over in_range ready
 step-a first second (Received used) new rest c p j k inv f over in_range ready =
     fed-next-a first second used new rest c p j k inv f over
-step-a first second (Typed used) new rest c p j k inv f over in_range ready =
-    calm-next-a first second (Typed used) new rest c p j k inv f refl
-    (calm-steps (Typed used) tt c.a.history.session new.link)
+step-a first second (InputRead used) new rest c p j k inv f over in_range ready =
+    calm-next-a first second (InputRead used) new rest c p j k inv f refl
+    (calm-steps (InputRead used) tt c.a.history.session new.link)
 step-a first second InputEnded new rest c p j k inv f over in_range ready =
     calm-next-a first second InputEnded new rest c p j k inv f refl
     (calm-steps InputEnded tt c.a.history.session new.link)

@@ -24,7 +24,7 @@ use Rattle.ddcmp_laws.proofs.PairCallLaws.{notices_same, one_same}
 use Rattle.ddcmp_session.specs.Session.{SessionView, starts}
 use Rattle.ddcmp_session.specs.Calls.{Closed, Connected, Delivered, Filled, InputEnded, LineEnded}
 use Rattle.ddcmp_session.specs.Calls.{LineTook, OutputTook, Received, SessionCall, SessionStep}
-use Rattle.ddcmp_session.specs.Calls.{TimePassed, TimedOut, Typed, used_in}
+use Rattle.ddcmp_session.specs.Calls.{TimePassed, TimedOut, InputRead, used_in}
 use Rattle.ddcmp_session.specs.Connections.{Connection, after_step}
 use Rattle.ddcmp_laws.specs.Connections.{Connections, after_step_at}
 use Rattle.ddcmp_laws.specs.LastConnection.{EndOverStreams, StartsIf}
@@ -257,9 +257,9 @@ step-b first second Connected new rest c p j k inv f over in_range ready =
     begun-next-b first second new rest c p j k inv f over in_range ready
 step-b first second (Received used) new rest c p j k inv f over in_range ready =
     fed-next-b first second used new rest c p j k inv f over
-step-b first second (Typed used) new rest c p j k inv f over in_range ready =
-    calm-next-b first second (Typed used) new rest c p j k inv f refl
-    (calm-steps (Typed used) tt c.b.history.session new.link)
+step-b first second (InputRead used) new rest c p j k inv f over in_range ready =
+    calm-next-b first second (InputRead used) new rest c p j k inv f refl
+    (calm-steps (InputRead used) tt c.b.history.session new.link)
 step-b first second InputEnded new rest c p j k inv f over in_range ready =
     calm-next-b first second InputEnded new rest c p j k inv f refl
     (calm-steps InputEnded tt c.b.history.session new.link)

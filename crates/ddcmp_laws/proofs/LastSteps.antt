@@ -31,12 +31,12 @@ use Rattle.ddcmp_laws.specs.StationRuns.{has_heard_none}
 use Rattle.ddcmp_laws.proofs.InTurn.{begins_more}
 use Rattle.ddcmp_laws.proofs.StationRuns.{Kept}
 use Rattle.ddcmp_laws.proofs.TwoLinks.{AreSame}
-use Rattle.ddcmp_session.specs.Messages.{after_input, after_last, entries_of_input, entry_of_last}
-use Rattle.ddcmp_session.specs.Messages.{message_in}
+use Rattle.ddcmp_streams.specs.Messages.{after_input, after_last, entries_of_input, entry_of_last}
+use Rattle.ddcmp_streams.specs.Messages.{message_in}
 use Rattle.ddcmp_session.specs.Session.{SessionView, starts, takes_end}
 use Rattle.ddcmp_session.specs.Calls.{Closed, Connected, Delivered, Filled, InputEnded, LineEnded}
 use Rattle.ddcmp_session.specs.Calls.{LineTook, OutputTook, Received, SessionCall, SessionStep}
-use Rattle.ddcmp_session.specs.Calls.{TimePassed, TimedOut, Typed, after_session_step}
+use Rattle.ddcmp_session.specs.Calls.{TimePassed, TimedOut, InputRead, after_session_step}
 use Rattle.ddcmp_session.specs.Connections.{Connection, after_step}
 use Rattle.ddcmp_laws.specs.Connections.{Connections}
 use Rattle.ddcmp_laws.specs.Pipe.{Made, connects, connects_in_call}
@@ -70,7 +70,7 @@ after-same Connected new c e = no e
   where
     no : {P : Type 0} → ◌≡◌ {A = ℕ} 1 0 → P
     no e = cc
-after-same (Typed used) new c e = refl
+after-same (InputRead used) new c e = refl
 after-same InputEnded new c e = refl
 after-same (LineEnded r) new c e = refl
 after-same (Received used) new c e = refl
@@ -86,7 +86,7 @@ pub gone-anew : (call : SessionCall) (new : SessionView) (c : Connection)
     → (connects_in_call call ≡ 0 → ⊥)
     → (after_step (record { call = call; session = new }) c).history.gone ≡ []
 gone-anew Connected new c is = refl
-gone-anew (Typed used) new c is = absurd (is refl)
+gone-anew (InputRead used) new c is = absurd (is refl)
 gone-anew InputEnded new c is = absurd (is refl)
 gone-anew (LineEnded r) new c is = absurd (is refl)
 gone-anew (Received used) new c is = absurd (is refl)
@@ -190,7 +190,7 @@ pub calm-steps : (call : SessionCall) → IsCalmCall call → (s : SessionView) 
     → AreCalmSteps (link_steps_of call s new)
 calm-steps Connected i s new = absurd i
 calm-steps (Received used) i s new = absurd i
-calm-steps (Typed used) i s new =
+calm-steps (InputRead used) i s new =
     offers-calm (entries_of_input used s.messages) (message_in (after_input used s.messages)) new
 calm-steps InputEnded i s new = by (takes_end s)
   where

@@ -19,8 +19,8 @@ use Rattle.ddcmp_laws.proofs.Traffic.{h_ack, h_nak, h_rep_all, h_rep, h_up, h_fu
 use Rattle.ddcmp_laws.proofs.Traffic.{h_passes, Expires, x_asks, x_told, x_repeats, x_back}
 use Rattle.ddcmp_laws.proofs.Traffic.{Base}
 
--- v knows what is up at w, or will: an answer is owed, or the last count in flight reports it, or it
--- asks. Before its timer expired (expired) it may also sleep, and hears nothing.
+-- v knows what is up at w, or will: an answer is owed, or the last count in flight reports it, or
+-- it asks. Before its timer expired (expired) it may also sleep, and hears nothing.
 pub data Learns (expired : Bool) (v w : View) (fl gl : List Flight) : Type 0 where
   l_owed : is_quiet w.reply ≡ false → Learns expired v w fl gl
   l_latest : latest v.acked gl ≡ w.up → Learns expired v w fl gl

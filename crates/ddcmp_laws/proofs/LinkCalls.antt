@@ -1,7 +1,6 @@
 -- Calls of a link are calls of its station.
 use Rattle.std.proofs.Common.{◌≡◌, ℕ, ◌+◌, Bool, true, false, cond, List, [], ◌∷◌, ◌++◌, take, drop}
-use Rattle.std.proofs.Common.{refl, sym, ◌∙◌, ap, subst, arith, append_assoc, append-nil, Option}
-use Rattle.std.proofs.Common.{Some, None}
+use Rattle.std.proofs.Common.{refl, sym, ◌∙◌, ap, subst, arith, append_assoc, append-nil}
 use Rattle.std.specs.Prelude.{◌&&◌, option_to_list}
 use Rattle.std.proofs.lemmas.List.{take-append-drop}
 use Rattle.ddcmp_frame.specs.Reader.{ReaderView}
@@ -10,7 +9,7 @@ use Rattle.ddcmp_core.specs.Table.{Frame, is_on, may_send, after_accept, after_h
 use Rattle.ddcmp_proto.specs.declared.config.Config.{Config}
 use Rattle.ddcmp_station.specs.Driving.{deadline_at, is_due, core_after_take_arm, frame_bytes}
 use Rattle.ddcmp_station.specs.Linking.{LinkView, total_plus, with_state, started, anew, after_wake}
-use Rattle.ddcmp_station.specs.Linking.{after_offered, polls, frame_of_link, bytes_of as bytes_put}
+use Rattle.ddcmp_station.specs.Linking.{after_offered, polls, frame_of_link}
 use Rattle.ddcmp_station.specs.Linking.{after_polled, after_frame, after_sent, after_taking}
 use Rattle.ddcmp_pair.specs.Place.{WholeFrame}
 use Rattle.ddcmp_pair.specs.Run.{EndState, with_station, new_end, after_start_here, after_halt_here}
@@ -160,10 +159,6 @@ done_offered message h sent starts w =
         (plus_none h.acknowledged)
     by false = still (end_of h sent starts) h.link h (same h sent starts w)
 
-put_is : (syn : ℕ) (f : Option Frame) → frame_bytes syn f ≡ bytes_put syn f
-put_is syn None = refl
-put_is syn (Some f) = refl
-
 done_polled : (h : LinkHistory) (sent : List WholeFrame) (starts : ℕ) → HasWritten h sent
     → Done FillsOne h sent starts (after_frame h.link)
 unfolding after_calls_here
@@ -176,11 +171,9 @@ done_polled h sent starts w = by (polls h.link)
         let new = after_polled h.link in
         let k : LinkHistory = record h { link = new } in
         let x = after_poll_here (end_of h sent starts) in
-        let put = bytes_put h.link.station.syn (frame_of_link h.link) in
+        let put = frame_bytes h.link.station.syn (frame_of_link h.link) in
         let e = frame_written h.link.station.syn sent (frame_of_link h.link)
-        ∙ ap (λ ys. ys ++ frame_bytes h.link.station.syn (frame_of_link h.link)) w
-        ∙ ap (λ ys. (h.gone ++ h.link.outbox.waiting) ++ ys)
-        (put_is h.link.station.syn (frame_of_link h.link))
+        ∙ ap (λ ys. ys ++ put) w
         ∙ append_assoc h.gone h.link.outbox.waiting put in
         still x new h (same k x.sent starts e)
     by false = still (end_of h sent starts) h.link h (same h sent starts w)

@@ -16,7 +16,8 @@ use Rattle.ddcmp_proto.specs.Bytes.{frame_on_line}
 use Rattle.ddcmp_proto.specs.Config.{first_refusal}
 use Rattle.ddcmp_proto.specs.declared.config.Config.{Config}
 use Rattle.ddcmp_station.specs.Driving.{deadline_at, is_due, core_after_take_arm}
-use Rattle.ddcmp_station.specs.Linking.{LinkView, OutboxView, frame_of_link, bytes_of, polls}
+use Rattle.ddcmp_station.specs.Linking.{LinkView, OutboxView, frame_of_link, polls}
+use Rattle.ddcmp_station.specs.Driving.{frame_bytes}
 use Rattle.ddcmp_station.specs.Linking.{after_polled, with_state, total_plus}
 use Rattle.ddcmp_pair.specs.declared.event.End.{End}
 use Rattle.ddcmp_pair.specs.declared.event.End.TheVariants.{A, B}
@@ -82,11 +83,11 @@ module _ (x y : EndState) (h : LinkHistory) (s : IsSameEnd x h)
 
   put : (f : Option Frame)
       → bytes_or_none (option_map (frame_on_line h.link.station.syn) f)
-      ≡ bytes_of h.link.station.syn f
+      ≡ frame_bytes h.link.station.syn f
   put None = refl
   put (Some f) = refl
 
-  bytes-are : bytes_or_none (line_bytes y) ≡ bytes_of h.link.station.syn (frame_of_link h.link)
+  bytes-are : bytes_or_none (line_bytes y) ≡ frame_bytes h.link.station.syn (frame_of_link h.link)
   bytes-are =
       ap (λ n. bytes_or_none (option_map (frame_on_line n) (next_frame (next y.core.station))))
       syn-is

@@ -22,7 +22,8 @@ use Rattle.ddcmp_station.specs.Driving.{core_after_expire, before_offer, before_
 use Rattle.ddcmp_station.specs.Linking.{LinkView, puts_frame, polls, fits, holds_back, after_frame}
 use Rattle.ddcmp_station.specs.Linking.{after_polled, is_held_back, frame_of_link}
 use Rattle.ddcmp_station.specs.Linking.{is_nak_for_buffer}
-use Rattle.ddcmp_station.specs.Linking.{bytes_of, takes_message, answer_to_offered, after_offered}
+use Rattle.ddcmp_station.specs.Linking.{takes_message, answer_to_offered, after_offered}
+use Rattle.ddcmp_station.specs.Driving.{frame_bytes}
 use Rattle.ddcmp_station.specs.Linking.{delivered, wakes_at, moment_or_now, after_wake, with_state}
 use Rattle.ddcmp_station.specs.Linking.{total_plus}
 use Rattle.ddcmp_laws.specs.Links.{LinkCall, Starts, BeginsAnew, Halts, Wakes, Offers, FillsOne}
@@ -90,7 +91,7 @@ puts d f e few either =
       puts = ap (λ b. b && is_some (frame_of_link d)) polled ∙ ap is_some e;
       waiting =
           ap (λ b. (frame_by d b).outbox.waiting) polled
-          ∙ ap (λ o. d.outbox.waiting ++ bytes_of d.station.syn o) e;
+          ∙ ap (λ o. d.outbox.waiting ++ frame_bytes d.station.syn o) e;
       sent = ap (λ b. (frame_by d b).station.core.station) polled;
     }
   where
@@ -130,7 +131,7 @@ puts_none d e = (no_frame (polls d) ∙ refl, by (polls d))
 
     by : (b : Bool) → (frame_by d b).outbox.waiting ≡ d.outbox.waiting
     by true =
-        ap (λ o. d.outbox.waiting ++ bytes_of d.station.syn o) e ∙ append-nil d.outbox.waiting
+        ap (λ o. d.outbox.waiting ++ frame_bytes d.station.syn o) e ∙ append-nil d.outbox.waiting
     by false = refl
 
 pub has_no_room : (d : LinkView)

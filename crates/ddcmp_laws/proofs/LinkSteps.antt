@@ -15,16 +15,16 @@ use Rattle.ddcmp_proto.specs.Bytes.{notices_of_piece}
 use Rattle.ddcmp_station.specs.Linking.{LinkView}
 use Rattle.ddcmp_station.specs.Linking.{after_frames, after_wake, after_sent}
 use Rattle.ddcmp_station.specs.Linking.{anew}
-use Rattle.ddcmp_session.specs.declared.messages.Form.{Form}
-use Rattle.ddcmp_session.specs.declared.messages.Form.TheVariants as form
-use Rattle.ddcmp_session.specs.declared.messages.Messages.{Messages}
-use Rattle.ddcmp_session.specs.Messages.{messages_begun, message_in, after_input, entries_of_input}
-use Rattle.ddcmp_session.specs.Messages.{after_last, entry_of_last}
+use Rattle.ddcmp_streams.specs.declared.messages.MessageForm.{MessageForm}
+use Rattle.ddcmp_streams.specs.declared.messages.MessageForm.TheVariants as form
+use Rattle.ddcmp_streams.specs.declared.messages.Messages.{Messages}
+use Rattle.ddcmp_streams.specs.Messages.{messages_begun, message_in, after_input, entries_of_input}
+use Rattle.ddcmp_streams.specs.Messages.{after_last, entry_of_last}
 use Rattle.ddcmp_session.specs.Session.{SessionView, form_of, takes_end}
 use Rattle.ddcmp_session.specs.Session.{after_last_line, after_unfinished, after_input_end}
 use Rattle.ddcmp_session.specs.declared.course.Course.{Course}
 use Rattle.ddcmp_io.specs.declared.line_kind.LineKind.{LineKind}
-use Rattle.ddcmp_session.specs.declared.options.Options.{Options}
+use Rattle.ddcmp_streams.specs.declared.options.Options.{Options}
 use Rattle.ddcmp_session.specs.Course.{after_connecting, lost_more}
 use Rattle.ddcmp_session.specs.Session.{lost_by_end, after_timeout, after_connected, anew_in}
 use Rattle.ddcmp_session.specs.Session.{after_connecting_in, lost_by_start, starts}
@@ -33,7 +33,7 @@ use Rattle.ddcmp_laws.specs.Links.{LinkCall, BeginsAnew, Halts, Wakes, IsSent, F
 use Rattle.ddcmp_laws.specs.Links.{Takes, HasDone, HasFed, new_history}
 use Rattle.ddcmp_laws.specs.Links.{after_step, after_history}
 use Rattle.ddcmp_laws.specs.Links.{offered_in}
-use Rattle.ddcmp_session.specs.Calls.{SessionCall, Typed, InputEnded, Connected, LineEnded}
+use Rattle.ddcmp_session.specs.Calls.{SessionCall, InputRead, InputEnded, Connected, LineEnded}
 use Rattle.ddcmp_session.specs.Calls.{Received, Filled, LineTook, TimedOut, TimePassed, Delivered}
 use Rattle.ddcmp_session.specs.Calls.{OutputTook}
 use Rattle.ddcmp_session.specs.Calls.{Closed, HasReceived, HasDelivered, HasLeft, HasClosed}
@@ -49,12 +49,12 @@ use Rattle.ddcmp_laws.proofs.Holding.{Holds, Leads, StepLeads, frames_done, fram
 use Rattle.ddcmp_laws.proofs.Holding.{holds_on, link_history, no_call, no_input, no_offer, one_call}
 use Rattle.ddcmp_laws.proofs.Holding.{parts, quiet_mail, quiet_mail_more, session_parts, text_on}
 use Rattle.ddcmp_laws.proofs.Reading.{HasRead, ended_reads, offered_is, read_holds, read_leads}
-use Rattle.ddcmp_laws.proofs.Reading.{typed_reads}
+use Rattle.ddcmp_laws.proofs.Reading.{reading_input}
 
 -- ---- each call
 
-pub read_step : {told : Bool} (f : Form) (max : ℕ) (h : SessionHistory) (used : List ℕ) (es : List Entry)
-    (message : List ℕ) (new : SessionView) (k : ℕ) → Holds f max h
+pub read_step : {told : Bool} (f : MessageForm) (max : ℕ) (h : SessionHistory) (used : List ℕ)
+    (es : List Entry) (message : List ℕ) (new : SessionView) (k : ℕ) → Holds f max h
     → HasRead f max h used es message new
     → Leads (offers_of es message new.link) (link_history f max h k) f max
     (session_parts told new (h.used ++ []) (h.gone ++ []) (h.input ++ used) (h.written ++ [])
@@ -70,7 +70,7 @@ read_step {told} f max h used es message new k holds r = (
   r.more ∙ ap (λ ms. messages_of f max h.input ++ ms) (sym (offered_is es message new.link)),
 )
 
-pub ended_step : (f : Form) (max : ℕ) (h : SessionHistory) (new : SessionView) (k : ℕ)
+pub ended_step : (f : MessageForm) (max : ℕ) (h : SessionHistory) (new : SessionView) (k : ℕ)
     → Holds f max h
     → new ≡ after_input_end h.session
     → StepLeads f max (record { call = InputEnded; session = new }) h k
@@ -116,8 +116,8 @@ ended_step f max h new k holds e = by (takes_end h.session) refl e
     )
 
 -- a call of the link that leaves all but the link
-pub link_only : {told : Bool} (f : Form) (max : ℕ) (h : SessionHistory) (new : SessionView) (used gone : List ℕ)
-    → Holds f max h → new ≡ record h.session { link = new.link }
+pub link_only : {told : Bool} (f : MessageForm) (max : ℕ) (h : SessionHistory) (new : SessionView)
+    (used gone : List ℕ) → Holds f max h → new ≡ record h.session { link = new.link }
     → longest_of new.link ≡ longest_of h.session.link
     → Holds f max
     (session_parts told new used gone (h.input ++ []) (h.written ++ []) (h.shown ++ []))
@@ -133,8 +133,9 @@ same_link old new d e =
     e ∙ ap (λ x. record old { link = x }) (sym (ap (λ (x : SessionView). x.link) e))
 
 -- a call of the link and no text
-pub link_step_leads : {told : Bool} (f : Form) (max : ℕ) (h : SessionHistory) (new : SessionView) (k : ℕ)
-    (call : LinkCall) (used gone : List ℕ) (d : LinkView) → Holds f max h
+pub link_step_leads : {told : Bool} (f : MessageForm) (max : ℕ) (h : SessionHistory)
+    (new : SessionView)
+    (k : ℕ) (call : LinkCall) (used gone : List ℕ) (d : LinkView) → Holds f max h
     → new ≡ record h.session { link = d } → HasDone call h.used h.session.link new.link
     → longest_of d ≡ longest_of h.session.link
     → after_history (link_step call new.link ∷ []) (link_history f max h k)
@@ -143,7 +144,8 @@ pub link_step_leads : {told : Bool} (f : Form) (max : ℕ) (h : SessionHistory) 
     → offered_in (link_step call new.link ∷ []) ≡ []
     → Leads (link_step call new.link ∷ []) (link_history f max h k) f max
     (session_parts told new used gone (h.input ++ []) (h.written ++ []) (h.shown ++ []))
-    × Holds f max (session_parts told new used gone (h.input ++ []) (h.written ++ []) (h.shown ++ []))
+    × Holds f max
+    (session_parts told new used gone (h.input ++ []) (h.written ++ []) (h.shown ++ []))
     × (messages_of f max (h.input ++ [])
     ≡ messages_of f max h.input ++ offered_in (link_step call new.link ∷ []))
 link_step_leads {told} f max h new k call used gone d holds is done longest after quiet = (
@@ -154,7 +156,8 @@ link_step_leads {told} f max h new k call used gone d holds is done longest afte
   no_offer f max h.input (link_step call new.link ∷ []) quiet,
 )
 
-pub filled_step : (f : Form) (max : ℕ) (h : SessionHistory) (new : SessionView) (k frames : ℕ)
+pub filled_step : (f : MessageForm) (max : ℕ) (h : SessionHistory) (new : SessionView)
+    (k frames : ℕ)
     → Holds f max h → new ≡ record h.session { link = after_frames frames h.session.link }
     → StepLeads f max (record { call = Filled frames; session = new }) h k
 filled_step f max h new k frames holds is =
@@ -181,7 +184,7 @@ fed_of : (text used : List ℕ) (old new : SessionView) → HasReceived text use
     → HasFed text used old.link new.link
 fed_of text used old new r = record { core = r.core; syn = r.syn; stays = r.link }
 
-pub received_step : (f : Form) (max : ℕ) (h : SessionHistory) (new : SessionView) (k : ℕ)
+pub received_step : (f : MessageForm) (max : ℕ) (h : SessionHistory) (new : SessionView) (k : ℕ)
     (used : List ℕ) → Holds f max h → HasReceived h.used used h.session new
     → StepLeads f max (record { call = Received used; session = new }) h k
 unfolding after_history offered_in
@@ -204,7 +207,7 @@ received_step f max h new k used holds r =
       no_offer f max h.input (link_step (Feeds used) new.link ∷ []) refl,
     )
 
-pub delivered_step : (f : Form) (max : ℕ) (h : SessionHistory) (new : SessionView) (k : ℕ)
+pub delivered_step : (f : MessageForm) (max : ℕ) (h : SessionHistory) (new : SessionView) (k : ℕ)
     → Holds f max h → HasDelivered h.session new
     → StepLeads f max (record { call = Delivered true; session = new }) h k
 unfolding after_history offered_in
@@ -228,13 +231,14 @@ delivered_step f max h new k holds r =
     )
 
 -- a call that leaves the link
-pub output_step : {told : Bool} (f : Form) (max : ℕ) (h : SessionHistory) (new : SessionView) (k : ℕ)
-    (written : List ℕ) (shown : List Shown) → Holds f max h
+pub output_step : {told : Bool} (f : MessageForm) (max : ℕ) (h : SessionHistory) (new : SessionView)
+    (k : ℕ) (written : List ℕ) (shown : List Shown) → Holds f max h
     → new ≡ record h.session { output = new.output } → mail_in shown ≡ mail_in h.shown
     → IsText f written new.output shown
     → Leads [] (link_history f max h k) f max
     (session_parts told new (h.used ++ []) (h.gone ++ []) (h.input ++ []) written shown)
-    × Holds f max (session_parts told new (h.used ++ []) (h.gone ++ []) (h.input ++ []) written shown)
+    × Holds f max
+    (session_parts told new (h.used ++ []) (h.gone ++ []) (h.input ++ []) written shown)
     × (messages_of f max (h.input ++ []) ≡ messages_of f max h.input ++ offered_in [])
 unfolding offered_in
 output_step {told} f max h new k written shown holds is mail text = (
@@ -246,7 +250,8 @@ output_step {told} f max h new k written shown holds is mail text = (
   no_offer f max h.input [] refl,
 )
 
-pub left_step : (f : Form) (max : ℕ) (h : SessionHistory) (r : Bool) (new : SessionView) (k : ℕ)
+pub left_step : (f : MessageForm) (max : ℕ) (h : SessionHistory) (r : Bool) (new : SessionView)
+    (k : ℕ)
     → Holds f max h → HasLeft r h.session new
     → StepLeads f max (record { call = LineEnded r; session = new }) h k
 unfolding after_history offered_in
@@ -270,7 +275,7 @@ left_step f max h r new k holds d =
       no_offer f max h.input (link_step Halts new.link ∷ []) refl,
     )
 
-pub closed_step : (f : Form) (max : ℕ) (h : SessionHistory) (left : List ℕ) (over r : Bool)
+pub closed_step : (f : MessageForm) (max : ℕ) (h : SessionHistory) (left : List ℕ) (over r : Bool)
     (new : SessionView) (k : ℕ) → Holds f max h → HasClosed left over r h.session new
     → StepLeads f max (record { call = Closed left over r; session = new }) h k
 unfolding after_history offered_in
@@ -304,7 +309,7 @@ abbrev pub with_line : Bool → Course → SessionHistory → SessionHistory
 with_line has_line course h =
     record h { session = record h.session { has_line = has_line; course = course } }
 
-pub holds_with_line : (f : Form) (max : ℕ) (b : Bool) (c : Course) (h : SessionHistory)
+pub holds_with_line : (f : MessageForm) (max : ℕ) (b : Bool) (c : Course) (h : SessionHistory)
     → Holds f max h → Holds f max (with_line b c h)
 holds_with_line f max b c h k =
     record {
@@ -335,7 +340,7 @@ connected_is s new of_data e =
       course = after_connecting_in b (starts s) (lost_more (lost_by_start s) s.course);
     }) of_data
 
-pub step_leads : (f : Form) (max : ℕ) (step : SessionStep) (h : SessionHistory) (k : ℕ)
+pub step_leads : (f : MessageForm) (max : ℕ) (step : SessionStep) (h : SessionHistory) (k : ℕ)
     → SessionDoes step.call h.used h.session step.session → Holds f max h
     → StepLeads f max step h k
 unfolding after_history offered_in
@@ -343,10 +348,10 @@ step_leads f max step h k does holds = by step.call step.session does
   where
     by : (call : SessionCall) (new : SessionView) → SessionDoes call h.used h.session new
         → StepLeads f max (record { call = call; session = new }) h k
-    by (Typed used) new d =
+    by (InputRead used) new d =
         read_step f max h used (entries_of_input used h.session.messages)
         (message_in (after_input used h.session.messages)) new k holds
-        (typed_reads f max h used new holds d)
+        (reading_input f max h used new holds d)
     by InputEnded new d = ended_step f max h new k holds d
     by Connected new d =
         let b = starts h.session || h.session.has_line in
@@ -398,17 +403,18 @@ step_leads f max step h k does holds = by step.call step.session does
 -- ---- a new session
 
 -- whatever the form of its messages
-begun : Form → Options → LineKind → ReaderView → SessionHistory
+begun : MessageForm → Options → LineKind → ReaderView → SessionHistory
 begun f o kind line =
     let h = new_session o kind line in
     record h { session = record h.session { messages = messages_begun f o.config.max } }
 
-begun_holds : (f : Form) (o : Options) (kind : LineKind) (line : ReaderView)
+begun_holds : (f : MessageForm) (o : Options) (kind : LineKind) (line : ReaderView)
     → o.maintenance ≡ false
     → Holds f o.config.max (begun f o kind line)
     × (new_history o.config o.timer_ms line
     ≡ link_history f o.config.max (begun f o kind line) 0)
-unfolding begun got_in mail_in texts_of binary.told_in lines.told_in lengths.after_bytes hex.after_bytes
+unfolding begun got_in mail_in texts_of binary.told_in lines.told_in lengths.after_bytes
+    hex.after_bytes
 begun_holds form.Digits o kind line of_data = (
   record {
     kind = refl;

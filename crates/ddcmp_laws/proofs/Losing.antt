@@ -36,16 +36,17 @@ use Rattle.ddcmp_station.specs.Linking.{LinkView, after_frame, after_frames, aft
 use Rattle.ddcmp_station.specs.Linking.{after_sent, is_needed}
 use Rattle.ddcmp_station.specs.Linking.{after_polled, after_wake, polls, state_of, total_plus}
 use Rattle.ddcmp_station.specs.Linking.{with_state, after_offered_maintenance}
-use Rattle.ddcmp_session.specs.Calls.{SessionCall, Typed, InputEnded, Connected, LineEnded}
+use Rattle.ddcmp_session.specs.Calls.{SessionCall, InputRead, InputEnded, Connected, LineEnded}
 use Rattle.ddcmp_session.specs.Calls.{Received as Heard, Filled, LineTook, TimedOut, TimePassed}
-use Rattle.ddcmp_session.specs.Calls.{Delivered, OutputTook, Closed, SessionDoes, HasClosed, HasLeft}
-use Rattle.ddcmp_session.specs.Messages.{after_input, after_last, entries_of_input}
-use Rattle.ddcmp_session.specs.Messages.{entry_of_last, has_last_line, is_message_unfinished}
+use Rattle.ddcmp_session.specs.Calls.{Delivered, OutputTook, Closed, SessionDoes, HasClosed}
+use Rattle.ddcmp_session.specs.Calls.{HasLeft}
+use Rattle.ddcmp_streams.specs.Messages.{after_input, after_last, entries_of_input}
+use Rattle.ddcmp_streams.specs.Messages.{entry_of_last, has_last_line, is_message_unfinished}
 use Rattle.ddcmp_session.specs.declared.course.Course.{Course}
 use Rattle.ddcmp_session.specs.declared.course.Progress.{Progress}
 use Rattle.ddcmp_session.specs.Session.{SessionView, after_connected, after_entry, after_entries}
 use Rattle.ddcmp_session.specs.Session.{after_input_end, after_last_line, after_time, after_timeout}
-use Rattle.ddcmp_session.specs.Session.{after_typed, after_unfinished, awaits_peer, expires}
+use Rattle.ddcmp_session.specs.Session.{after_input_read, after_unfinished, awaits_peer, expires}
 use Rattle.ddcmp_session.specs.Session.{course_received, lost_among, lost_at_end, lost_by_end}
 use Rattle.ddcmp_session.specs.Session.{takes_end, wants_input, wants_line, after_connecting_in}
 use Rattle.ddcmp_session.specs.Session.{anew_in}
@@ -187,8 +188,8 @@ entry-keeps NotHexadecimal s = (refl, refl)
 entry-keeps TooLong s = (refl, refl)
 entry-keeps Empty s = (refl, refl)
 
-pub entries-halted : (es : List Entry) (s : SessionView) → s.link.station.core.station.state ≡ Halted
-    → (after_entries es s).link ≡ s.link
+pub entries-halted : (es : List Entry) (s : SessionView)
+    → s.link.station.core.station.state ≡ Halted → (after_entries es s).link ≡ s.link
 entries-halted [] s halted = refl
 entries-halted (e ∷ rest) s halted = entry-halted e s halted
 
@@ -362,8 +363,9 @@ leaves : (old new : SessionView)
 leaves old new same station =
     inl (record { line = same.0; lost = λ e. sym same.1 ∙ e; station = station })
 
-typed : (used : List ℕ) (old new : SessionView) → new ≡ after_typed used old → Outcome old new
-typed used old new does =
+input_read : (used : List ℕ) (old new : SessionView) → new ≡ after_input_read used old
+    → Outcome old new
+input_read used old new does =
     let es = entries_of_input used old.messages in
     let s : SessionView = record old { messages = after_input used old.messages } in
     let k = entries-keep es s in
@@ -463,7 +465,7 @@ closed-loses left over r old new does e =
 
 pub outcome : (call : SessionCall) (text : List ℕ) (old new : SessionView)
     → SessionDoes call text old new → Outcome old new
-outcome (Typed used) text old new d = typed used old new d.state
+outcome (InputRead used) text old new d = input_read used old new d.state
 outcome InputEnded text old new d = input-ended old new d
 outcome Connected text old new d = inr (inr d.0)
 outcome (LineEnded r) text old new d = inr (inl (line-ended r old new d))

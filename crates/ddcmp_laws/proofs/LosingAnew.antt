@@ -3,7 +3,7 @@ use Rattle.std.proofs.Common.{◌≡◌, refl, sym, subst, inr, ℕ, List, [], �
 use Rattle.ddcmp_pair.specs.declared.event.End.{End}
 use Rattle.ddcmp_pair.specs.declared.event.End.TheVariants.{A, B}
 use Rattle.ddcmp_session.specs.Session.{SessionView}
-use Rattle.ddcmp_session.specs.Calls.{SessionCall, Typed, InputEnded, Connected, LineEnded}
+use Rattle.ddcmp_session.specs.Calls.{SessionCall, InputRead, InputEnded, Connected, LineEnded}
 use Rattle.ddcmp_session.specs.Calls.{Received, Filled, LineTook, TimedOut, TimePassed, Delivered}
 use Rattle.ddcmp_session.specs.Calls.{OutputTook, Closed, SessionStep}
 use Rattle.ddcmp_session.specs.Connections.{Connection, Does, after_step}
@@ -13,7 +13,7 @@ use Rattle.ddcmp_laws.proofs.Losing.{Counted, Outcome, counts, outcome}
 does-so : (call : SessionCall) (text : List ℕ) (old new : SessionView)
     → Does call text old new → Outcome old new
 does-so Connected text old new d = inr (inr d)
-does-so (Typed used) text old new d = outcome (Typed used) text old new d
+does-so (InputRead used) text old new d = outcome (InputRead used) text old new d
 does-so InputEnded text old new d = outcome InputEnded text old new d
 does-so (LineEnded r) text old new d = outcome (LineEnded r) text old new d
 does-so (Received used) text old new d = outcome (Received used) text old new d
@@ -29,7 +29,7 @@ does-so (Closed left over r) text old new d = outcome (Closed left over r) text 
 pub session-after : (call : SessionCall) (new : SessionView) (c : Connection)
     → (after_step (record { call = call; session = new }) c).history.session ≡ new
 session-after Connected new c = refl
-session-after (Typed used) new c = refl
+session-after (InputRead used) new c = refl
 session-after InputEnded new c = refl
 session-after (LineEnded r) new c = refl
 session-after (Received used) new c = refl

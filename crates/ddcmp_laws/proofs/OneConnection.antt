@@ -6,7 +6,7 @@ use Rattle.ddcmp_session.specs.Session.{SessionView}
 use Rattle.ddcmp_session.specs.Calls.{Closed, Connected, Delivered, Filled, InputEnded}
 use Rattle.ddcmp_session.specs.Calls.{IsSessionHistory, LineEnded, LineTook, OutputTook, Received}
 use Rattle.ddcmp_session.specs.Calls.{SessionCall, SessionDoes, SessionHistory, SessionStep}
-use Rattle.ddcmp_session.specs.Calls.{TimePassed, TimedOut, Typed, after_session_step}
+use Rattle.ddcmp_session.specs.Calls.{TimePassed, TimedOut, InputRead, after_session_step}
 use Rattle.ddcmp_session.specs.Calls.{after_session_steps, gone_in, input_in, shown_in, used_in}
 use Rattle.ddcmp_session.specs.Connections.{AreDone, Connection, Does, after_all, after_step}
 use Rattle.ddcmp_laws.specs.Connected.{IsBareBefore, IsConnectedOnce, IsOneHistory, connections_in}
@@ -101,8 +101,8 @@ step-once Connected new rest c d (inr w) bare =
   where
     none-after : {A : Type 0} (xs : List A) → xs ++ [] ≡ xs
     none-after xs = append-nil xs
-step-once (Typed used) new rest c d once bare =
-    goes-on (Typed used) new rest c refl d refl once bare
+step-once (InputRead used) new rest c d once bare =
+    goes-on (InputRead used) new rest c refl d refl once bare
 step-once InputEnded new rest c d once bare =
     goes-on InputEnded new rest c refl d refl once bare
 step-once (LineEnded r) new rest c d once bare =

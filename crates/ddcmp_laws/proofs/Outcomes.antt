@@ -13,8 +13,8 @@ use Rattle.ddcmp_station.specs.Linking.{delivered}
 use Rattle.ddcmp_pair.specs.declared.event.End.{End}
 use Rattle.ddcmp_pair.specs.Prefix.{IsPrefixOf}
 use Rattle.ddcmp_pair.specs.Run.{new_pair}
-use Rattle.ddcmp_session.specs.declared.messages.Form.{Form}
-use Rattle.ddcmp_session.specs.declared.messages.Form.TheVariants as form
+use Rattle.ddcmp_streams.specs.declared.messages.MessageForm.{MessageForm}
+use Rattle.ddcmp_streams.specs.declared.messages.MessageForm.TheVariants as form
 use Rattle.ddcmp_laws.specs.PairCalls.{run_calls}
 use Rattle.ddcmp_laws.specs.Links.{LinkOverStreams}
 use Rattle.ddcmp_laws.specs.Links.{Links, after_steps}
@@ -50,7 +50,8 @@ last_true true b e = e
 last_true false b e = cc
 
 -- what is received begins what is accepted
-pub delivers_first : (f : Form) (max : ℕ) (g : Form) (other : ℕ) (giver taker : SessionHistory)
+pub delivers_first : (f : MessageForm) (max : ℕ) (g : MessageForm) (other : ℕ)
+    (giver taker : SessionHistory)
     (j k : ℕ) → LinkReaches (link_history f max giver j) (link_history g other taker k)
     → IsPrefixOf (mail_in taker.shown) (messages_of f max giver.input)
 delivers_first f max g other giver taker j k r = (
@@ -100,7 +101,8 @@ output_is made other taker is holds =
 
 pub bytes_first : (made other : Made) (giver taker : SessionHistory)
     → Holds other.options.form other.options.config.max taker
-    → IsPrefixOf (mail_in taker.shown) (messages_of made.options.form made.options.config.max giver.input)
+    → IsPrefixOf (mail_in taker.shown)
+    (messages_of made.options.form made.options.config.max giver.input)
     → PipesBytes made other giver taker
 bytes_first made other giver taker holds order is other_is messages fit begins_file =
     let max = made.options.config.max in
@@ -211,7 +213,8 @@ module _ (first second : Made) (steps : List (End × SessionStep)) where
         omega (arith, e, h);
   }
 
-  pub honest_links : first_refusal first.options.config ≡ None → first_refusal second.options.config ≡ None
+  pub honest_links : first_refusal first.options.config ≡ None
+      → first_refusal second.options.config ≡ None
       → AreSessionCalls steps (new_sessions first second)
       → (run_calls
       (calls_of_steps (link_steps_at steps (new_sessions first second)) (links_made first second))
@@ -224,20 +227,21 @@ module _ (first second : Made) (steps : List (End × SessionStep)) where
       let started = are_once once in
       record {
         to_b =
-            reaches_b first.options.config second.options.config first.options.timer_ms second.options.timer_ms first.line
-            second.line calls f g are honest started;
+            reaches_b first.options.config second.options.config first.options.timer_ms
+            second.options.timer_ms first.line second.line calls f g are honest started;
         to_a =
-            reaches_a first.options.config second.options.config first.options.timer_ms second.options.timer_ms first.line
-            second.line calls f g are honest started;
+            reaches_a first.options.config second.options.config first.options.timer_ms
+            second.options.timer_ms first.line second.line calls f g are honest started;
         all_b =
-            acknowledged_to_b first.options.config second.options.config first.options.timer_ms second.options.timer_ms first.line
-            second.line calls f g are honest started;
+            acknowledged_to_b first.options.config second.options.config first.options.timer_ms
+            second.options.timer_ms first.line second.line calls f g are honest started;
         all_a =
-            acknowledged_to_a first.options.config second.options.config first.options.timer_ms second.options.timer_ms first.line
-            second.line calls f g are honest started;
+            acknowledged_to_a first.options.config second.options.config first.options.timer_ms
+            second.options.timer_ms first.line second.line calls f g are honest started;
       }
 
-  pub stream_links : first_refusal first.options.config ≡ None → first_refusal second.options.config ≡ None
+  pub stream_links : first_refusal first.options.config ≡ None
+      → first_refusal second.options.config ≡ None
       → SessionsOverStreams steps (new_sessions first second) → AreConnectedOnce steps
       → LinksDo (links_after first second steps)
   stream_links f g over once =
@@ -249,19 +253,21 @@ module _ (first second : Made) (steps : List (End × SessionStep)) where
       let started = are_once once in
       record {
         to_b =
-            kept (λ q. LinkReaches q.a q.b) reaches_b first.options.config second.options.config first.options.timer_ms
+            kept (λ q. LinkReaches q.a q.b) reaches_b
+            first.options.config second.options.config first.options.timer_ms
             second.options.timer_ms first.line second.line calls f g are started;
         to_a =
-            kept (λ q. LinkReaches q.b q.a) reaches_a first.options.config second.options.config first.options.timer_ms
+            kept (λ q. LinkReaches q.b q.a) reaches_a
+            first.options.config second.options.config first.options.timer_ms
             second.options.timer_ms first.line second.line calls f g are started;
         all_b =
             kept (λ q. NoneOut q.a → received q.b ≡ q.a.accepted) acknowledged_to_b
-            first.options.config second.options.config first.options.timer_ms second.options.timer_ms first.line
-            second.line calls f g are started;
+            first.options.config second.options.config first.options.timer_ms
+            second.options.timer_ms first.line second.line calls f g are started;
         all_a =
             kept (λ q. NoneOut q.b → received q.a ≡ q.b.accepted) acknowledged_to_a
-            first.options.config second.options.config first.options.timer_ms second.options.timer_ms first.line
-            second.line calls f g are started;
+            first.options.config second.options.config first.options.timer_ms
+            second.options.timer_ms first.line second.line calls f g are started;
       }
 
   module _ (does : AreSessionCalls steps (new_sessions first second))
@@ -280,14 +286,16 @@ module _ (first second : Made) (steps : List (End × SessionStep)) where
     pub pipes_b : Pipes first (after_sessions steps (new_sessions first second)).a
         (after_sessions steps (new_sessions first second)).b
     pipes_b =
-        delivers_first first.options.form first.options.config.max second.options.form second.options.config.max
+        delivers_first first.options.form first.options.config.max
+        second.options.form second.options.config.max
         (after_sessions steps (new_sessions first second)).a
         (after_sessions steps (new_sessions first second)).b keeps.1.0 keeps.1.1 done.to_b
 
     pub pipes_a : Pipes second (after_sessions steps (new_sessions first second)).b
         (after_sessions steps (new_sessions first second)).a
     pipes_a =
-        delivers_first second.options.form second.options.config.max first.options.form first.options.config.max
+        delivers_first second.options.form second.options.config.max
+        first.options.form first.options.config.max
         (after_sessions steps (new_sessions first second)).b
         (after_sessions steps (new_sessions first second)).a keeps.1.1 keeps.1.0 done.to_a
 

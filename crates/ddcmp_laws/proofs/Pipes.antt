@@ -8,13 +8,13 @@ use Rattle.ddcmp_input.specs.declared.entry.Entry.TheVariants.{Empty}
 use Rattle.ddcmp_station.specs.Linking.{LinkView, after_frame}
 use Rattle.ddcmp_pair.specs.declared.event.End.{End}
 use Rattle.ddcmp_pair.specs.declared.event.End.TheVariants.{A, B}
-use Rattle.ddcmp_session.specs.Messages.{message_in, after_input, entries_of_input, after_last}
-use Rattle.ddcmp_session.specs.Messages.{entry_of_last}
+use Rattle.ddcmp_streams.specs.Messages.{message_in, after_input, entries_of_input, after_last}
+use Rattle.ddcmp_streams.specs.Messages.{entry_of_last}
 use Rattle.ddcmp_session.specs.Session.{SessionView, takes_end}
 use Rattle.ddcmp_laws.specs.Links.{LinkStep, IsHistory, after_history, after_step}
 use Rattle.ddcmp_laws.specs.Links.{Links, after_steps, starts_in_call, link_starts}
 use Rattle.ddcmp_laws.specs.LinkLines.{AreLinkCalls}
-use Rattle.ddcmp_session.specs.Calls.{SessionCall, Typed, InputEnded, Connected, LineEnded}
+use Rattle.ddcmp_session.specs.Calls.{SessionCall, InputRead, InputEnded, Connected, LineEnded}
 use Rattle.ddcmp_session.specs.Calls.{Received, Filled, LineTook, TimedOut, TimePassed, Delivered}
 use Rattle.ddcmp_session.specs.Calls.{OutputTook}
 use Rattle.ddcmp_session.specs.Calls.{Closed, SessionDoes, SessionStep}
@@ -58,7 +58,8 @@ links_of first second p j k = record {
 
 abbrev pub BothHold : Made → Made → Sessions → Type 0
 BothHold first second p =
-    Holds first.options.form first.options.config.max p.a × Holds second.options.form second.options.config.max p.b
+    Holds first.options.form first.options.config.max p.a
+    × Holds second.options.form second.options.config.max p.b
 
 abbrev pub Keeps : Made → Made → List (End × SessionStep) → Sessions → ℕ → ℕ → Type 0
 Keeps first second steps p j k =
@@ -152,7 +153,7 @@ offers_start_none (Empty ∷ rest) message d = refl
 pub call_starts : (call : SessionCall) (s : SessionView) (new : LinkView)
     → starts_in_steps (link_steps_of call s new) ≡ connects_in_call call
 unfolding starts_in_steps
-call_starts (Typed used) s new =
+call_starts (InputRead used) s new =
     offers_start_none (entries_of_input used s.messages) (message_in (after_input used s.messages))
     new
 call_starts InputEnded s new = by (takes_end s)

@@ -11,12 +11,12 @@ use Rattle.ddcmp_input.specs.InBinary.{Fits}
 use Rattle.ddcmp_input.specs.Lengths as lengths
 use Rattle.ddcmp_station.specs.Linking.{LinkView}
 use Rattle.ddcmp_station.specs.Linking.{after_offered, takes_message}
-use Rattle.ddcmp_session.specs.declared.messages.Form.{Form}
-use Rattle.ddcmp_session.specs.declared.messages.Messages.{Messages}
-use Rattle.ddcmp_session.specs.declared.messages.Messages.TheVariants.{Digits, Binary}
-use Rattle.ddcmp_session.specs.Messages.{message_in, after_input, entries_of_input}
-use Rattle.ddcmp_session.specs.Messages.{after_last, entry_of_last, has_last_line}
-use Rattle.ddcmp_session.specs.Messages.{is_message_unfinished}
+use Rattle.ddcmp_streams.specs.declared.messages.MessageForm.{MessageForm}
+use Rattle.ddcmp_streams.specs.declared.messages.Messages.{Messages}
+use Rattle.ddcmp_streams.specs.declared.messages.Messages.TheVariants.{Digits, Binary}
+use Rattle.ddcmp_streams.specs.Messages.{message_in, after_input, entries_of_input}
+use Rattle.ddcmp_streams.specs.Messages.{after_last, entry_of_last, has_last_line}
+use Rattle.ddcmp_streams.specs.Messages.{is_message_unfinished}
 use Rattle.ddcmp_session.specs.Session.{SessionView, form_of, takes_end, wants_input}
 use Rattle.ddcmp_session.specs.Session.{after_entries}
 use Rattle.ddcmp_session.specs.Session.{after_last_line, after_unfinished, after_offered_in}
@@ -24,7 +24,7 @@ use Rattle.ddcmp_session.specs.Session.{takes_in}
 use Rattle.ddcmp_laws.specs.Links.{Offers}
 use Rattle.ddcmp_laws.specs.Links.{after_history}
 use Rattle.ddcmp_laws.specs.Links.{offered_in}
-use Rattle.ddcmp_session.specs.Calls.{CompletesLast, HasTyped, SessionHistory, end_in}
+use Rattle.ddcmp_session.specs.Calls.{CompletesLast, HasReadInput, SessionHistory, end_in}
 use Rattle.ddcmp_laws.specs.Sessions.{messages_of, link_step, offers_of}
 use Rattle.ddcmp_session.proofs.InputLaws.{form-stays}
 use Rattle.ddcmp_laws.proofs.Inputs.{read_by, read_more, after_more, read_fits}
@@ -99,7 +99,8 @@ unfinished_mode s = by (is_message_unfinished s.messages)
     by false = refl
 
 -- what reading needs of what was read
-pub record HasRead (f : Form) (max : ℕ) (h : SessionHistory) (used : List ℕ) (es : List Entry)
+pub record HasRead (f : MessageForm) (max : ℕ) (h : SessionHistory) (used : List ℕ)
+    (es : List Entry)
     (message : List ℕ) (new : SessionView) : Type 0 where
   pub messages : new.messages ≡ after_input used h.session.messages
   pub output : new.output ≡ h.session.output
@@ -118,9 +119,9 @@ entered_longest (NotHexadecimal ∷ rest) message old new e = ap longest_of e
 entered_longest (TooLong ∷ rest) message old new e = ap longest_of e
 entered_longest (Empty ∷ rest) message old new e = ap longest_of e
 
-pub read_holds : {told : Bool} (f : Form) (max : ℕ) (h : SessionHistory) (used : List ℕ) (es : List Entry)
-    (message : List ℕ) (new : SessionView) → Holds f max h → HasRead f max h used es message new
-    → Holds f max
+pub read_holds : {told : Bool} (f : MessageForm) (max : ℕ) (h : SessionHistory) (used : List ℕ)
+    (es : List Entry) (message : List ℕ) (new : SessionView) → Holds f max h
+    → HasRead f max h used es message new → Holds f max
     (session_parts told new (h.used ++ []) (h.gone ++ []) (h.input ++ used) (h.written ++ [])
     (h.shown ++ []))
 read_holds {told} f max h used es message new k r = record {
@@ -146,7 +147,7 @@ after_reading h used new =
     session_parts false new (h.used ++ []) (h.gone ++ []) (h.input ++ used) (h.written ++ [])
     (h.shown ++ [])
 
-pub read_leads : (f : Form) (max : ℕ) (h : SessionHistory) (used : List ℕ) (es : List Entry)
+pub read_leads : (f : MessageForm) (max : ℕ) (h : SessionHistory) (used : List ℕ) (es : List Entry)
     (message : List ℕ) (new : SessionView) (k : ℕ) → Holds f max h
     → HasRead f max h used es message new
     → Leads (offers_of es message new.link) (link_history f max h k) f max
@@ -211,7 +212,7 @@ if_message (TooLong ∷ rest) p = tt
 if_message (Empty ∷ rest) p = tt
 
 -- some bytes were read: what they complete fits, is taken, and is more of the messages
-abbrev pub IsReading : Form → ℕ → SessionHistory → List ℕ → Type 0
+abbrev pub IsReading : MessageForm → ℕ → SessionHistory → List ℕ → Type 0
 IsReading f max h used =
     IfMessage (entries_of_input used h.session.messages)
     (Fits max (message_in (after_input used h.session.messages)))
@@ -221,7 +222,7 @@ IsReading f max h used =
     ++ read_by (entries_of_input used h.session.messages)
     (message_in (after_input used h.session.messages)))
 
-pub none_reading : (f : Form) (max : ℕ) (h : SessionHistory) → IsReading f max h []
+pub none_reading : (f : MessageForm) (max : ℕ) (h : SessionHistory) → IsReading f max h []
 none_reading f max h =
     let m = h.session.messages in
     let none = sym (none_read m) in (
@@ -232,7 +233,7 @@ none_reading f max h =
           ∙ ap (λ es. messages_of f max h.input ++ read_by es (message_in (after_input [] m))) none,
     )
 
-pub is_reading : (f : Form) (max : ℕ) (h : SessionHistory) (used : List ℕ) → Holds f max h
+pub is_reading : (f : MessageForm) (max : ℕ) (h : SessionHistory) (used : List ℕ) → Holds f max h
     → (wants_input h.session ≡ false → used ≡ []) → CompletesLast used h.session.messages
     → IsReading f max h used
 is_reading f max h used k wanted part =
@@ -251,11 +252,12 @@ is_reading f max h used k wanted part =
       read_more f max h.input used h.session.messages (k.reads e) part,
     )
 
-pub typed_reads : (f : Form) (max : ℕ) (h : SessionHistory) (used : List ℕ) (new : SessionView)
-    → Holds f max h → HasTyped used h.session new
+pub reading_input : (f : MessageForm) (max : ℕ) (h : SessionHistory) (used : List ℕ)
+    (new : SessionView)
+    → Holds f max h → HasReadInput used h.session new
     → HasRead f max h used (entries_of_input used h.session.messages)
     (message_in (after_input used h.session.messages)) new
-typed_reads f max h used new k t =
+reading_input f max h used new k t =
     let e = entered (entries_of_input used h.session.messages)
     (record h.session { messages = after_input used h.session.messages }) new k.of_data t.state in
     let r = is_reading f max h used k t.wanted t.part in
@@ -324,7 +326,8 @@ last_taken false ran None taken = tt
 last_taken false true (Some e) taken = cc
 last_taken false false (Some e) taken = cc
 
-pub ended_reads : (f : Form) (max : ℕ) (h : SessionHistory) (new : SessionView) → Holds f max h
+pub ended_reads : (f : MessageForm) (max : ℕ) (h : SessionHistory) (new : SessionView)
+    → Holds f max h
     → takes_end h.session ≡ true → new ≡ after_unfinished (after_last_line h.session)
     → HasRead f max h (end_in (form_of h.session.messages))
     (option_to_list (entry_of_last h.session.messages))

@@ -3,7 +3,7 @@ use Rattle.std.proofs.Common.{◌≡◌, ◌∙◌, ap, refl, List, [], ◌∷�
 use Rattle.std.specs.Prelude.{◌≤◌, Bool}
 use Rattle.ddcmp_frame.specs.Reader.{StandsFor}
 use Rattle.ddcmp_session.specs.Session.{SessionView, room_for_mail}
-use Rattle.ddcmp_session.specs.Calls.{SessionCall, Typed, InputEnded, Connected, LineEnded}
+use Rattle.ddcmp_session.specs.Calls.{SessionCall, InputRead, InputEnded, Connected, LineEnded}
 use Rattle.ddcmp_session.specs.Calls.{Received, Filled, LineTook, TimedOut, TimePassed, Delivered}
 use Rattle.ddcmp_session.specs.Calls.{OutputTook, Closed, SessionStep}
 use Rattle.ddcmp_session.specs.Connections.{AreDone, Connection, after_step}
@@ -25,7 +25,7 @@ starts-ready : (call : SessionCall) (s : SessionView) → room_for_mail s ≤ s.
     → ReadyIf call s → StartsIf call s
 starts-ready Connected s room ready =
     starts-new s (none_first s.link.station.core.station.inbox (ready room))
-starts-ready (Typed used) s room ready = tt
+starts-ready (InputRead used) s room ready = tt
 starts-ready InputEnded s room ready = tt
 starts-ready (LineEnded r) s room ready = tt
 starts-ready (Received used) s room ready = tt

@@ -8,17 +8,17 @@ use Rattle.ddcmp_proto.specs.Config.{first_refusal}
 use Rattle.ddcmp_laws.specs.Faithful.{Begins}
 use Rattle.ddcmp_pair.specs.declared.event.End.{End}
 use Rattle.ddcmp_pair.specs.declared.event.End.TheVariants.{A, B}
-use Rattle.ddcmp_session.specs.declared.messages.Form.TheVariants as form
+use Rattle.ddcmp_streams.specs.declared.messages.MessageForm.TheVariants as form
 use Rattle.ddcmp_session.specs.Session.{SessionView, takes_end, after_last_line}
 use Rattle.ddcmp_session.specs.Session.{after_unfinished}
-use Rattle.ddcmp_session.specs.Calls.{SessionCall, Typed, InputEnded, Connected, LineEnded}
+use Rattle.ddcmp_session.specs.Calls.{SessionCall, InputRead, InputEnded, Connected, LineEnded}
 use Rattle.ddcmp_session.specs.Calls.{Received, Filled, LineTook, TimedOut, TimePassed, Delivered}
 use Rattle.ddcmp_session.specs.Calls.{OutputTook, Closed, SessionStep, SessionHistory, end_in}
 use Rattle.ddcmp_session.specs.Calls.{is_told_in}
 use Rattle.ddcmp_session.specs.Connections.{AreDone, Connection, Does, after_all, after_step}
 use Rattle.ddcmp_session.specs.Devices.{BuffersView, Traffic, nothing_read}
 use Rattle.ddcmp_session.specs.Lines.{AllKeepOpen, Closes, Ends, IsReady, KeepsOpen, WentOver}
-use Rattle.ddcmp_session.specs.Messages.{after_input, entries_of_input}
+use Rattle.ddcmp_streams.specs.Messages.{after_input, entries_of_input}
 use Rattle.ddcmp_session.proofs.InputGoes.{entries-read}
 use Rattle.ddcmp_session.proofs.GoingLaws.{same-at}
 use Rattle.ddcmp_laws.specs.Sessions.{got_in, messages_of, mail_in}
@@ -76,7 +76,7 @@ ended-read false told old last new is was e =
 read-step : (call : SessionCall) (h : SessionHistory) (new : SessionView) → KeepsOpen call
     → Does call h.used h.session new → ReadTold h.session h.is_told
     → ReadTold new (is_told_in call h.session || h.is_told)
-read-step (Typed used) h new of d =
+read-step (InputRead used) h new of d =
     let s : SessionView =
     record h.session { messages = after_input used h.session.messages } in
     same-read h.is_told h.session new
@@ -85,7 +85,8 @@ read-step (Typed used) h new of d =
 read-step InputEnded h new of d =
     ended-read (takes_end h.session) h.is_told h.session
     (after_unfinished (after_last_line h.session)) new d
-read-step Connected h new of d = same-read h.is_told h.session new (same-at (λ s. s.is_read) new _ d)
+read-step Connected h new of d =
+    same-read h.is_told h.session new (same-at (λ s. s.is_read) new _ d)
 read-step (LineEnded r) h new of d =
     same-read h.is_told h.session new (same-at (λ s. s.is_read) new _ d.stays)
 read-step (Received used) h new of d =
@@ -110,7 +111,7 @@ told-after : (call : SessionCall) (new : SessionView) (c : Connection)
     → (after_step (record { call = call; session = new }) c).history.is_told
     ≡ is_told_in call c.history.session || c.history.is_told
 told-after Connected new c = refl
-told-after (Typed used) new c = refl
+told-after (InputRead used) new c = refl
 told-after InputEnded new c = refl
 told-after (LineEnded r) new c = refl
 told-after (Received used) new c = refl

@@ -5,8 +5,8 @@ use Rattle.std.proofs.Common.{take, length, arith}
 use Rattle.ddcmp_input.specs.declared.entry.Entry.{Entry}
 use Rattle.ddcmp_input.specs.InBinary.{behind_length}
 use Rattle.ddcmp_input.specs.Lengths.{entries_of_bytes}
-use Rattle.ddcmp_session.specs.declared.messages.Form.TheVariants as form
-use Rattle.ddcmp_session.specs.Messages.{messages_begun, entries_of_input}
+use Rattle.ddcmp_streams.specs.declared.messages.MessageForm.TheVariants as form
+use Rattle.ddcmp_streams.specs.Messages.{messages_begun, entries_of_input}
 use Rattle.ddcmp_laws.specs.Vectors.{abc}
 use Rattle.ddcmp_session.specs.Calls.{CompletesLast}
 use Rattle.ddcmp_session.proofs.InputLaws.{completes_last}

@@ -8,15 +8,15 @@ use Rattle.ddcmp_input.specs.declared.entry.Entry.TheVariants.{Empty}
 use Rattle.ddcmp_station.specs.Linking.{LinkView, after_frame}
 use Rattle.ddcmp_pair.specs.declared.event.End.{End}
 use Rattle.ddcmp_pair.specs.declared.event.End.TheVariants.{A, B}
-use Rattle.ddcmp_session.specs.Messages.{message_in, after_input, entries_of_input, after_last}
-use Rattle.ddcmp_session.specs.Messages.{entry_of_last}
+use Rattle.ddcmp_streams.specs.Messages.{message_in, after_input, entries_of_input, after_last}
+use Rattle.ddcmp_streams.specs.Messages.{entry_of_last}
 use Rattle.ddcmp_session.specs.Session.{SessionView, takes_end}
 use Rattle.ddcmp_laws.specs.Faithful.{Begins}
 use Rattle.ddcmp_laws.specs.Links.{LinkHistory, LinkStep, IsHistory, after_history, after_step}
 use Rattle.ddcmp_laws.specs.Links.{LinkCall, Starts, BeginsAnew, Halts, Wakes, Offers, FillsOne}
 use Rattle.ddcmp_laws.specs.Links.{IsSent, Feeds, Takes, used_by, gone_by, LinkOverStreams}
 use Rattle.ddcmp_laws.specs.Links.{Links}
-use Rattle.ddcmp_session.specs.Calls.{SessionCall, Typed, InputEnded, Connected, LineEnded}
+use Rattle.ddcmp_session.specs.Calls.{SessionCall, InputRead, InputEnded, Connected, LineEnded}
 use Rattle.ddcmp_session.specs.Calls.{Received, Filled, LineTook, TimedOut, TimePassed, Delivered}
 use Rattle.ddcmp_session.specs.Calls.{OutputTook}
 use Rattle.ddcmp_session.specs.Calls.{Closed, SessionDoes, SessionStep}
@@ -110,7 +110,7 @@ Shape xs = AreStill xs ⊎ ((x : LinkStep) × (xs ≡ x ∷ []))
 
 pub shape : (call : SessionCall) (s : SessionView) (new : LinkView)
     → Shape (link_steps_of call s new)
-shape (Typed used) s new =
+shape (InputRead used) s new =
     inl
     (offers_still (entries_of_input used s.messages) (message_in (after_input used s.messages)) new)
 shape InputEnded s new = by (takes_end s)

@@ -27,9 +27,9 @@ use Rattle.ddcmp_pair.specs.declared.event.End.TheVariants.{A, B}
 use Rattle.ddcmp_pair.specs.declared.event.Event.{Event}
 use Rattle.ddcmp_pair.specs.declared.event.Event.TheVariants as event
 use Rattle.ddcmp_pair.specs.Run.{EndState, PairState, line_bytes, wrote, started, accepted, took}
-use Rattle.ddcmp_pair.specs.Run.{after_start_here, after_halt_here, after_send_here, after_poll_here}
-use Rattle.ddcmp_pair.specs.Run.{after_arrival_here, after_expire_here, after_take_here, after_event}
-use Rattle.ddcmp_pair.specs.Run.{reply_to, new_end, new_pair}
+use Rattle.ddcmp_pair.specs.Run.{after_start_here, after_halt_here, after_send_here}
+use Rattle.ddcmp_pair.specs.Run.{after_poll_here, after_arrival_here, after_expire_here}
+use Rattle.ddcmp_pair.specs.Run.{after_take_here, after_event, reply_to, new_end, new_pair}
 use Rattle.ddcmp_pair.specs.Recovery.{larger_window}
 use Rattle.ddcmp_laws.specs.LossFree.{Line, bytes_or_none, after_on_line, LosesNothing}
 use Rattle.ddcmp_laws.specs.LossFree.{IsLossFree, run_on_line, empty_line, ComesWhole, IsWhole}

@@ -16,7 +16,8 @@ use Rattle.ddcmp_proto.specs.declared.config.Config.{Config}
 use Rattle.ddcmp_pair.specs.declared.event.End.{End}
 use Rattle.ddcmp_pair.specs.InOrder.{IsRun}
 use Rattle.ddcmp_pair.specs.Recovery.{IsDelivered}
-use Rattle.ddcmp_pair.specs.Run.{EndState, PairState, handed_up, line_bytes, is_clean, new_pair, run}
+use Rattle.ddcmp_pair.specs.Run.{EndState, PairState, handed_up, line_bytes, is_clean, new_pair}
+use Rattle.ddcmp_pair.specs.Run.{run}
 use Rattle.ddcmp_station.specs.Linking.{frame_of_link, fits}
 use Rattle.ddcmp_station.specs.Linking.{is_held_back, is_nak_for_buffer}
 use Rattle.ddcmp_laws.proofs.Waiting.{sleeps-a, sleeps-b}

@@ -529,8 +529,8 @@ station-calls-acknowledged first second calls f g h c =
     let k = kept-calls first second calls f g in
     let p = run_station_calls calls (new_pair first second) in
     let q = k.pair in
-    let l = k.keeps.holds.linked (sym (honest_same p q k.same) ∙ h) (sym (clean_same p q k.same) ∙ c)
-    in
+    let l =
+    k.keeps.holds.linked (sym (honest_same p q k.same) ∙ h) (sym (clean_same p q k.same) ∙ c) in
     let both : AllAcknowledged (noted q) =
     (linked_all q.a q.b l, linked_all q.b q.a (linked-turned q.a q.b l)) in
     subst AllAcknowledged (sym k.same) both

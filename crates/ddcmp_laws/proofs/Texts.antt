@@ -6,8 +6,8 @@ use Rattle.std.proofs.Common.{option_to_list}
 use Rattle.std.proofs.lemmas.List.{take-append-drop}
 use Rattle.ddcmp_core.specs.declared.notice.Notice.{Notice}
 use Rattle.ddcmp_input.specs.InBinary.{in_binary}
-use Rattle.ddcmp_session.specs.declared.messages.Form.{Form}
-use Rattle.ddcmp_session.specs.declared.messages.Form.TheVariants as form
+use Rattle.ddcmp_streams.specs.declared.messages.MessageForm.{MessageForm}
+use Rattle.ddcmp_streams.specs.declared.messages.MessageForm.TheVariants as form
 use Rattle.ddcmp_io.specs.Queue.{QueueView}
 use Rattle.ddcmp_session.specs.Session.{SessionView, lost_by_end}
 use Rattle.ddcmp_session.specs.Text.{Wrote, notice_text, notices_text, mail_text, lost_text}
@@ -37,7 +37,7 @@ unfolding mail_in
 nothing_lost true s = refl
 nothing_lost false s = refl
 
-texts_more : (f : Form) (xs ys : List Shown)
+texts_more : (f : MessageForm) (xs ys : List Shown)
     → texts_of f (xs ++ ys) ≡ texts_of f xs ++ texts_of f ys
 unfolding texts_of
 texts_more f [] ys = refl
@@ -45,34 +45,35 @@ texts_more f (x ∷ xs) ys =
     ap (λ ts. text_of f x ++ ts) (texts_more f xs ys)
     ∙ sym (append_assoc (text_of f x) (texts_of f xs) (texts_of f ys))
 
-pub notices_are : (f : Form) (notices : List Notice)
+pub notices_are : (f : MessageForm) (notices : List Notice)
     → notices_text f notices ≡ texts_of f (map Reports notices)
 unfolding notices_text texts_of
 notices_are f [] = refl
 notices_are f (n ∷ rest) = ap (λ t. notice_text f n ++ t) (notices_are f rest)
 
-pub mail_text_is : (f : Form) (first : Option (List ℕ)) (message : List ℕ) → first ≡ Some message
+pub mail_text_is : (f : MessageForm) (first : Option (List ℕ)) (message : List ℕ)
+    → first ≡ Some message
     → mail_text f message ≡ texts_of f (map Mail (option_to_list first))
 unfolding texts_of
 mail_text_is f first message is =
     sym (append-nil (mail_text f message))
     ∙ ap (λ o. texts_of f (map Mail (option_to_list o))) (sym is)
 
-pub lost_text_is : (r : Bool) (f : Form) (s : SessionView)
+pub lost_text_is : (r : Bool) (f : MessageForm) (s : SessionView)
     → reported_lost r f (lost_by_end s) ≡ texts_of f (losses r s)
 unfolding texts_of
 lost_text_is true f s = sym (append-nil (lost_text f (lost_by_end s)))
 lost_text_is false f s = refl
 
-pub no_text : (f : Form) → [] ≡ texts_of f []
+pub no_text : (f : MessageForm) → [] ≡ texts_of f []
 unfolding texts_of
 no_text f = refl
 
 -- what was written, and what waits, is the text of what was shown
-abbrev pub IsText : Form → List ℕ → QueueView → List Shown → Type 0
+abbrev pub IsText : MessageForm → List ℕ → QueueView → List Shown → Type 0
 IsText f written q shown = written ++ q.waiting ≡ texts_of f shown
 
-pub writes : (f : Form) (written : List ℕ) (shown more : List Shown) (old new : QueueView)
+pub writes : (f : MessageForm) (written : List ℕ) (shown more : List Shown) (old new : QueueView)
     (text : List ℕ) → IsText f written old shown → Wrote text old new → text ≡ texts_of f more
     → IsText f (written ++ []) new (shown ++ more)
 writes f written shown more old new text was wrote is =
@@ -91,7 +92,7 @@ keeps old new same = record {
   is_cut = ap (λ (q : QueueView). q.is_cut) same;
 }
 
-pub took : (f : Form) (written : List ℕ) (n : ℕ) (shown : List Shown) (old new : QueueView)
+pub took : (f : MessageForm) (written : List ℕ) (n : ℕ) (shown : List Shown) (old new : QueueView)
     → IsText f written old shown → new.waiting ≡ drop n old.waiting
     → IsText f (written ++ take n old.waiting) new (shown ++ [])
 took f written n shown old new was left =

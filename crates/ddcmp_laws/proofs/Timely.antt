@@ -20,10 +20,10 @@ use Rattle.ddcmp_core.specs.NextFrame.{SentFor, sends_strt, sends_stack, sends_n
 use Rattle.ddcmp_core.specs.NextFrame.{sends_data, sends_ack, sends_maint, halted_idles}
 use Rattle.ddcmp_core.specs.NextFrame.{starting_idles, running_idles, maintenance_idles}
 use Rattle.ddcmp_core.specs.Table.{Limits, StationState, Data, Acked, Naked, Rep, Strt, Stack}
-use Rattle.ddcmp_core.specs.Table.{Frame, has_room, Maint, Received, Good, BadHeader, BadData, TooLong, BadFormat}
-use Rattle.ddcmp_core.specs.Table.{Next, next, next_frame, after_next, after_ack}
-use Rattle.ddcmp_core.specs.Table.{after_startup, after_restart, after_halt, reply_to_offer}
-use Rattle.ddcmp_core.specs.Table.{on_data, may_restart, on_by, on}
+use Rattle.ddcmp_core.specs.Table.{Frame, has_room, Maint, Received, Good, BadHeader, BadData}
+use Rattle.ddcmp_core.specs.Table.{TooLong, BadFormat, Next, next, next_frame, after_next}
+use Rattle.ddcmp_core.specs.Table.{after_ack, after_startup, after_restart, after_halt}
+use Rattle.ddcmp_core.specs.Table.{reply_to_offer, on_data, may_restart, on_by, on}
 use Rattle.ddcmp_core.specs.Core.{CoreView}
 use Rattle.ddcmp_core.proofs.Sent.{sending}
 use Rattle.ddcmp_proto.specs.Bytes.{received_of, after_item, after_items, items_added}

@@ -16,20 +16,23 @@ use Rattle.ddcmp_proto.specs.Bytes.{items_added, notices_of_piece}
 use Rattle.ddcmp_io.specs.Queue.{after_taken}
 use Rattle.ddcmp_station.specs.Driving.{core_after_expire, core_after_take_arm, deadline_at, is_due}
 use Rattle.ddcmp_station.specs.Linking.{LinkView, after_frame, after_frames, after_polled}
-use Rattle.ddcmp_station.specs.Linking.{after_sent, after_wake, bytes_of, frame_of_link, polls}
+use Rattle.ddcmp_station.specs.Linking.{after_sent, after_wake, frame_of_link, polls}
+use Rattle.ddcmp_station.specs.Driving.{frame_bytes}
 use Rattle.ddcmp_station.specs.Linking.{with_state}
-use Rattle.ddcmp_session.specs.Messages.{after_input, entries_of_input}
+use Rattle.ddcmp_streams.specs.Messages.{after_input, entries_of_input}
 use Rattle.ddcmp_session.specs.declared.course.Course.{Course}
 use Rattle.ddcmp_session.specs.Course.{after_looked, after_moment, after_notices}
 use Rattle.ddcmp_session.specs.Course.{after_opening_failed, after_pause, try_counted}
 use Rattle.ddcmp_session.specs.Session.{SessionView, after_last_line, after_time, after_timeout}
 use Rattle.ddcmp_session.specs.Session.{after_tried, after_unfinished, after_unheard, awaits_peer}
-use Rattle.ddcmp_session.specs.Session.{expires, form_of, report_ms, wants_line}
+use Rattle.ddcmp_session.specs.Session.{expires, form_of, wants_line}
+use Rattle.ddcmp_streams.specs.Options.{report_ms}
 use Rattle.ddcmp_session.specs.Timing.{after_failure, after_line, is_listener}
 use Rattle.ddcmp_session.specs.Calls.{Closed, Connected, Delivered, Filled, HasDelivered}
-use Rattle.ddcmp_session.specs.Calls.{HasReceived, HasTyped, InputEnded, LineEnded, LineTook}
+use Rattle.ddcmp_session.specs.Calls.{HasReceived, HasReadInput, InputEnded, LineEnded, LineTook}
 use Rattle.ddcmp_session.specs.Calls.{OutputTook, Received, SessionCall, SessionDoes, TimePassed}
-use Rattle.ddcmp_session.specs.Calls.{TimedOut, Typed, end_in, gone_in, input_in, shown_in, used_in}
+use Rattle.ddcmp_session.specs.Calls.{TimedOut, InputRead, end_in, gone_in, input_in, shown_in}
+use Rattle.ddcmp_session.specs.Calls.{used_in}
 use Rattle.ddcmp_session.proofs.GoingLaws.{same-at}
 use Rattle.ddcmp_laws.specs.Pipe.{connects_in_call}
 use Rattle.ddcmp_laws.specs.Sessions.{mail_in}
@@ -86,10 +89,10 @@ unwanted : (s : SessionView) → s.has_line ≡ false → wants_line s ≡ false
 unwanted s shut = ap (λ b. wants_line (record s { has_line = b })) shut
 
 no-frame : (d : LinkView) → d.station.core.station.state ≡ Halted
-    → bytes_of d.station.syn (frame_of_link d) ≡ []
+    → frame_bytes d.station.syn (frame_of_link d) ≡ []
 unfolding next
 no-frame d halted =
-    ap (λ st. bytes_of d.station.syn (next_frame (next_by st d.station.core.station))) halted
+    ap (λ st. frame_bytes d.station.syn (next_frame (next_by st d.station.core.station))) halted
 
 frame-waiting : (d : LinkView) → d.station.core.station.state ≡ Halted → d.outbox.waiting ≡ []
     → (after_frame d).outbox.waiting ≡ []
@@ -97,7 +100,7 @@ frame-waiting d halted empty = by (polls d)
   where
     by : (b : Bool) → (cond b (after_polled d) d).outbox.waiting ≡ []
     by true =
-        none-more d.outbox.waiting (bytes_of d.station.syn (frame_of_link d)) empty
+        none-more d.outbox.waiting (frame_bytes d.station.syn (frame_of_link d)) empty
         (no-frame d halted)
     by false = empty
 
@@ -195,10 +198,11 @@ pub record AddsNone (call : SessionCall) (text : List ℕ) (old new : SessionVie
   pub input : input_in call old ≡ []
   pub mail : mail_in (shown_in call text old) ≡ []
 
-typed-none : (used text : List ℕ) (old new : SessionView) → HasTyped used old new → IsIdle old
-    → AddsNone (Typed used) text old new
+input_read-none : (used text : List ℕ) (old new : SessionView) → HasReadInput used old new
+    → IsIdle old
+    → AddsNone (InputRead used) text old new
 unfolding mail_in
-typed-none used text old new d was =
+input_read-none used text old new d was =
     let es = entries_of_input used old.messages in
     let s : SessionView = record old { messages = after_input used old.messages } in
     record {
@@ -282,7 +286,7 @@ pub call-none : (call : SessionCall) → connects_in_call call ≡ 0 → (text :
     → AddsNone call text old new
 unfolding mail_in
 call-none Connected none text old new d was = cc
-call-none (Typed used) none text old new d was = typed-none used text old new d was
+call-none (InputRead used) none text old new d was = input_read-none used text old new d was
 call-none InputEnded none text old new d was = ended-none text old new d was
 call-none (LineEnded r) none text old new d was = record {
   idle =

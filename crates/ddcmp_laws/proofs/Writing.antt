@@ -7,19 +7,19 @@ use Rattle.ddcmp_input.specs.declared.entry.Entry.{Entry}
 use Rattle.ddcmp_input.specs.declared.entry.Entry.TheVariants.{Message, NotHexadecimal, TooLong}
 use Rattle.ddcmp_input.specs.declared.entry.Entry.TheVariants.{Empty}
 use Rattle.ddcmp_proto.specs.Bytes.{notices_of_piece}
-use Rattle.ddcmp_session.specs.declared.messages.Form.{Form}
-use Rattle.ddcmp_session.specs.declared.messages.Form.TheVariants as form
-use Rattle.ddcmp_session.specs.declared.messages.Messages.{Messages}
-use Rattle.ddcmp_session.specs.declared.messages.Messages.TheVariants.{Digits, Binary}
+use Rattle.ddcmp_streams.specs.declared.messages.MessageForm.{MessageForm}
+use Rattle.ddcmp_streams.specs.declared.messages.MessageForm.TheVariants as form
+use Rattle.ddcmp_streams.specs.declared.messages.Messages.{Messages}
+use Rattle.ddcmp_streams.specs.declared.messages.Messages.TheVariants.{Digits, Binary}
 use Rattle.ddcmp_io.specs.declared.line_kind.LineKind.{LineKind}
-use Rattle.ddcmp_session.specs.declared.options.Options.{Options}
-use Rattle.ddcmp_session.specs.Messages.{messages_begun, after_input, entries_of_input, after_last}
-use Rattle.ddcmp_session.specs.Messages.{entry_of_last, is_message_unfinished}
+use Rattle.ddcmp_streams.specs.declared.options.Options.{Options}
+use Rattle.ddcmp_streams.specs.Messages.{messages_begun, after_input, entries_of_input, after_last}
+use Rattle.ddcmp_streams.specs.Messages.{entry_of_last, is_message_unfinished}
 use Rattle.ddcmp_session.specs.Session.{SessionView, form_of, takes_end, after_entries}
 use Rattle.ddcmp_session.specs.Session.{after_last_line, after_unfinished, after_input_end}
 use Rattle.ddcmp_session.specs.Session.{lost_by_end}
 use Rattle.ddcmp_session.specs.Text.{reported_lost, mail_text, notices_text}
-use Rattle.ddcmp_session.specs.Calls.{SessionCall, Typed, InputEnded, Connected, LineEnded}
+use Rattle.ddcmp_session.specs.Calls.{SessionCall, InputRead, InputEnded, Connected, LineEnded}
 use Rattle.ddcmp_session.specs.Calls.{Received, Filled, LineTook, TimedOut, TimePassed, Delivered}
 use Rattle.ddcmp_session.specs.Calls.{OutputTook, Closed, SessionDoes, Mail, Reports, losses}
 use Rattle.ddcmp_session.specs.Calls.{SessionHistory, SessionStep, new_session, IsSessionHistory}
@@ -28,13 +28,13 @@ use Rattle.ddcmp_session.proofs.InputLaws.{form-stays}
 use Rattle.ddcmp_laws.proofs.Texts.{IsText, writes, keeps, took, no_text, notices_are}
 use Rattle.ddcmp_laws.proofs.Texts.{mail_text_is, lost_text_is}
 
-pub record Writes (f : Form) (h : SessionHistory) : Type 0 where
+pub record Writes (f : MessageForm) (h : SessionHistory) : Type 0 where
   pub kind : form_of h.session.messages ≡ f
   pub text : IsText f h.written h.session.output h.shown
 
 -- ---- calls that write nothing
 
-text_stays : (f : Form) (h : SessionHistory) (new : SessionView) → Writes f h
+text_stays : (f : MessageForm) (h : SessionHistory) (new : SessionView) → Writes f h
     → new.output ≡ h.session.output → IsText f (h.written ++ []) new.output (h.shown ++ [])
 text_stays f h new w same =
     writes f h.written h.shown [] h.session.output new.output [] w.text
@@ -79,7 +79,7 @@ ended_keeps s = by (takes_end s)
 
 -- ---- each call
 
-pub writes_step : (f : Form) (step : SessionStep) (h : SessionHistory)
+pub writes_step : (f : MessageForm) (step : SessionStep) (h : SessionHistory)
     → SessionDoes step.call h.used h.session step.session → Writes f h
     → Writes f (after_session_step step h)
 writes_step f step h does w = by step.call step.session does
@@ -94,7 +94,7 @@ writes_step f step h does w = by step.call step.session does
 
     by : (call : SessionCall) (new : SessionView) → SessionDoes call h.used h.session new
         → Writes f (after_session_step (record { call = call; session = new }) h)
-    by (Typed used) new d =
+    by (InputRead used) new d =
         let s = record h.session { messages = after_input used h.session.messages } in
         let es = entries_of_input used h.session.messages in
         let e = entries_keep es s in
@@ -169,7 +169,7 @@ writes_step f step h does w = by step.call step.session does
           (lost r ∙ lost_text_is r f h.session);
     }
 
-pub writes_all : (f : Form) (steps : List SessionStep) (h : SessionHistory)
+pub writes_all : (f : MessageForm) (steps : List SessionStep) (h : SessionHistory)
     → IsSessionHistory steps h → Writes f h → Writes f (after_session_steps steps h)
 unfolding after_session_steps
 writes_all f [] h does w = w
@@ -178,7 +178,7 @@ writes_all f (step ∷ rest) h does w =
 
 -- ---- a new session
 
-begun_kind : (f : Form) (max : ℕ) → form_of (messages_begun f max) ≡ f
+begun_kind : (f : MessageForm) (max : ℕ) → form_of (messages_begun f max) ≡ f
 begun_kind form.Digits max = refl
 begun_kind form.Binary max = refl
 

@@ -4,7 +4,7 @@ use Rattle.std.specs.Prelude.{◌≡◌, ℕ, ◌+◌, ◌≤◌, ⊤, List, [],
 use Rattle.ddcmp_proto.specs.Config.{first_refusal}
 use Rattle.ddcmp_pair.specs.declared.event.End.{End}
 use Rattle.ddcmp_pair.specs.declared.event.End.TheVariants.{A, B}
-use Rattle.ddcmp_session.specs.declared.messages.Form.TheVariants as form
+use Rattle.ddcmp_streams.specs.declared.messages.MessageForm.TheVariants as form
 use Rattle.ddcmp_session.specs.Calls.{IsSessionHistory, SessionStep, after_session_steps}
 use Rattle.ddcmp_session.specs.Connections.{AreDone, Connection}
 use Rattle.ddcmp_laws.specs.Connections.{Connections, after_step_at, first_connection}

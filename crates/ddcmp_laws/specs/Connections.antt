@@ -7,7 +7,7 @@ use Rattle.ddcmp_pair.specs.declared.event.End.TheVariants.{A, B}
 use Rattle.ddcmp_pair.specs.Prefix.{IsPrefixOf}
 use Rattle.ddcmp_pair.specs.Run.{new_pair, is_clean}
 use Rattle.ddcmp_input.specs.InBinary.{in_binary}
-use Rattle.ddcmp_session.specs.declared.messages.Form.TheVariants as form
+use Rattle.ddcmp_streams.specs.declared.messages.MessageForm.TheVariants as form
 use Rattle.ddcmp_session.specs.Session.{SessionView, is_delivered, lost_among, lost_at_end}
 use Rattle.ddcmp_laws.specs.Links.{LinkStep}
 use Rattle.ddcmp_laws.specs.LinkRestarts.{calls_of_links}

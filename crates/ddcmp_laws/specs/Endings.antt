@@ -2,8 +2,8 @@
 use Rattle.std.specs.Prelude.{◌≡◌, ◌⊎◌, ℕ, Bool, true, false, List, [], ◌++◌, map, Some}
 use Rattle.std.specs.List.{All}
 use Rattle.ddcmp_input.specs.InBinary.{in_binary, Fits}
-use Rattle.ddcmp_session.specs.declared.messages.Form.{Form}
-use Rattle.ddcmp_session.specs.declared.messages.Form.TheVariants as form
+use Rattle.ddcmp_streams.specs.declared.messages.MessageForm.{MessageForm}
+use Rattle.ddcmp_streams.specs.declared.messages.MessageForm.TheVariants as form
 use Rattle.ddcmp_session.specs.Session.{SessionView}
 use Rattle.ddcmp_session.specs.Calls.{SessionHistory, Shown, Mail, losses}
 use Rattle.ddcmp_session.specs.Devices.{BuffersView, Traffic}
@@ -28,7 +28,7 @@ shown_at_last is_reported h =
     h.shown ++ (losses is_reported h.session ++ map Mail (undelivered h))
 
 -- the last lines of the output; in binary they are no part of it
-abbrev pub last_text : Form → SessionView → List ℕ
+abbrev pub last_text : MessageForm → SessionView → List ℕ
 last_text form.Digits s = end_text s.options.counters s.link
 last_text form.Binary s = []
 

@@ -1,16 +1,15 @@
 -- One run of two links, written out: both are started, and one message is transferred.
-use Rattle.std.specs.Prelude.{◌≡◌, ℕ, true, false, List, [], ◌∷◌, ◌++◌}
+use Rattle.std.specs.Prelude.{◌≡◌, ℕ, true, List, [], ◌∷◌, ◌++◌}
 use Rattle.ddcmp_frame.specs.Reader.{ReaderView}
 use Rattle.ddcmp_core.specs.Table.{after_halt}
 use Rattle.ddcmp_proto.specs.Bytes.{after_piece}
-use Rattle.ddcmp_proto.specs.declared.config.Config.{Config}
 use Rattle.ddcmp_station.specs.Linking.{LinkView, with_state, started, anew, after_wake}
 use Rattle.ddcmp_station.specs.Linking.{after_offered}
 use Rattle.ddcmp_station.specs.Linking.{after_frame, after_sent, after_taking, delivered}
 use Rattle.ddcmp_pair.specs.declared.event.End.{End}
 use Rattle.ddcmp_pair.specs.declared.event.End.TheVariants.{A, B}
 use Rattle.ddcmp_laws.specs.Story.{strt_bytes, stack_bytes, first_bytes, ack_1_bytes}
-use Rattle.ddcmp_laws.specs.Vectors.{abc}
+use Rattle.ddcmp_laws.specs.Vectors.{abc, small}
 use Rattle.ddcmp_laws.specs.Links.{LinkCall, Starts, BeginsAnew, Halts, Wakes, Offers, FillsOne}
 use Rattle.ddcmp_laws.specs.Links.{IsSent, Feeds, Takes, LinkHistory, LinkStep, Links, link_at}
 use Rattle.ddcmp_laws.specs.Links.{after_step_at, new_links}
@@ -45,10 +44,6 @@ steps_of (one ∷ rest) p =
     ∷ steps_of rest (after_step_at one.0 (step_of one.1 (link_at one.0 p)) p)
 
 -- ---- the story
-
--- one message at a time, of at most 5 bytes
-abbrev pub small : Config
-small = record { window = 1; max = 5; inbox = 1; syn = 0; restart = false }
 
 abbrev pub small_links : ReaderView → ReaderView → Links
 small_links line other_line = new_links small 1000 line small 1000 other_line

@@ -3,7 +3,7 @@ use Rattle.std.specs.Prelude.{◌≡◌, ℕ, true, false, if◌then◌else◌, 
 use Rattle.std.specs.List.{All}
 use Rattle.ddcmp_input.specs.InBinary.{in_binary, Fits}
 use Rattle.ddcmp_laws.specs.Faithful.{Begins}
-use Rattle.ddcmp_session.specs.declared.messages.Form.TheVariants as form
+use Rattle.ddcmp_streams.specs.declared.messages.MessageForm.TheVariants as form
 use Rattle.ddcmp_session.specs.Session.{SessionView, is_delivered}
 use Rattle.ddcmp_session.specs.Calls.{SessionHistory, SessionStep, IsSessionHistory}
 use Rattle.ddcmp_session.specs.Calls.{after_session_steps, end_in}

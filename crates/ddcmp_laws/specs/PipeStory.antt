@@ -8,18 +8,17 @@ use Rattle.ddcmp_station.specs.Linking.{LinkView, with_state, after_frames, afte
 use Rattle.ddcmp_station.specs.Linking.{after_taking}
 use Rattle.ddcmp_pair.specs.declared.event.End.{End}
 use Rattle.ddcmp_pair.specs.declared.event.End.TheVariants.{A, B}
-use Rattle.ddcmp_session.specs.declared.messages.Form.TheVariants as form
+use Rattle.ddcmp_streams.specs.declared.messages.MessageForm.TheVariants as form
 use Rattle.ddcmp_io.specs.declared.line_kind.LineKind.TheVariants.{Connect}
-use Rattle.ddcmp_session.specs.declared.options.Options.{Options}
+use Rattle.ddcmp_streams.specs.declared.options.Options.{Options}
 use Rattle.ddcmp_io.specs.Queue.{after_pushed, after_taken}
-use Rattle.ddcmp_session.specs.Session.{SessionView, form_of, after_typed, after_input_end}
+use Rattle.ddcmp_session.specs.Session.{SessionView, form_of, after_input_read, after_input_end}
 use Rattle.ddcmp_session.specs.Session.{is_delivered, after_connected, after_timeout}
 use Rattle.ddcmp_session.specs.Session.{course_received, lost_among, lost_at_end, lost_by_end}
 use Rattle.ddcmp_session.specs.Course.{lost_more}
 use Rattle.ddcmp_laws.specs.Story.{strt_bytes, stack_bytes, first_bytes, ack_1_bytes}
-use Rattle.ddcmp_laws.specs.Vectors.{abc}
-use Rattle.ddcmp_laws.specs.LinkStory.{small}
-use Rattle.ddcmp_session.specs.Calls.{SessionCall, Typed, InputEnded, Connected, LineEnded}
+use Rattle.ddcmp_laws.specs.Vectors.{abc, small}
+use Rattle.ddcmp_session.specs.Calls.{SessionCall, InputRead, InputEnded, Connected, LineEnded}
 use Rattle.ddcmp_session.specs.Calls.{Received, Filled, LineTook, TimedOut, TimePassed, Delivered}
 use Rattle.ddcmp_session.specs.Calls.{OutputTook}
 use Rattle.ddcmp_session.specs.Calls.{Closed, SessionHistory, SessionStep}
@@ -44,7 +43,7 @@ link_fed used h = record h.session.link {
 
 -- a session after a call, whose text has room
 abbrev pub session_after : SessionCall → SessionHistory → SessionView
-session_after (Typed used) h = after_typed used h.session
+session_after (InputRead used) h = after_input_read used h.session
 session_after InputEnded h = after_input_end h.session
 session_after Connected h = after_connected h.session.link.station.line h.session
 session_after (LineEnded r) h = after_shown (LineEnded r) h
@@ -129,7 +128,7 @@ pipe_calls =
     (A, Connected) ∷ (B, Connected) ∷ []
     ++ carried_from_a 8 strt_bytes
     ++ carried_from_b 8 stack_bytes
-    ++ (A, Typed (behind_length abc)) ∷ []
+    ++ (A, InputRead (behind_length abc)) ∷ []
     ++ carried_from_a 13 first_bytes
     ++ carried_from_b 8 ack_1_bytes
     ++ (A, InputEnded) ∷ (B, Delivered true) ∷ (B, OutputTook 5) ∷ []

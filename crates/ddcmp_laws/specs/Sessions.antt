@@ -5,15 +5,15 @@ use Rattle.ddcmp_input.specs.declared.entry.Entry.{Entry}
 use Rattle.ddcmp_input.specs.declared.entry.Entry.TheVariants.{Message}
 use Rattle.ddcmp_input.specs.Told.{Told, Got, Refused}
 use Rattle.ddcmp_station.specs.Linking.{LinkView, after_frame}
-use Rattle.ddcmp_session.specs.declared.messages.Form.{Form}
-use Rattle.ddcmp_session.specs.declared.messages.Form.TheVariants.{Digits, Binary}
-use Rattle.ddcmp_session.specs.Messages.{message_in, after_input, entries_of_input, after_last}
-use Rattle.ddcmp_session.specs.Messages.{entry_of_last}
+use Rattle.ddcmp_streams.specs.declared.messages.MessageForm.{MessageForm}
+use Rattle.ddcmp_streams.specs.declared.messages.MessageForm.TheVariants.{Digits, Binary}
+use Rattle.ddcmp_streams.specs.Messages.{message_in, after_input, entries_of_input, after_last}
+use Rattle.ddcmp_streams.specs.Messages.{entry_of_last}
 use Rattle.ddcmp_session.specs.Session.{SessionView, takes_end}
 use Rattle.ddcmp_session.specs.Text.{mail_text, notice_text, lost_text}
 use Rattle.ddcmp_laws.specs.Links.{LinkCall, BeginsAnew, Halts, Wakes, Offers, FillsOne}
 use Rattle.ddcmp_laws.specs.Links.{IsSent, Feeds, Takes, LinkStep, LinkHistory}
-use Rattle.ddcmp_session.specs.Calls.{SessionCall, Typed, InputEnded, Connected, LineEnded}
+use Rattle.ddcmp_session.specs.Calls.{SessionCall, InputRead, InputEnded, Connected, LineEnded}
 use Rattle.ddcmp_session.specs.Calls.{Received, Filled, LineTook, TimedOut, TimePassed, Delivered}
 use Rattle.ddcmp_session.specs.Calls.{OutputTook}
 use Rattle.ddcmp_session.specs.Calls.{Closed, Shown, Mail, Reports, Loses, SessionHistory}
@@ -34,7 +34,7 @@ got_in [] = []
 got_in (told ∷ rest) = got told ++ got_in rest
 
 -- the messages of at most `max` bytes in an input
-abbrev pub messages_of : Form → ℕ → List ℕ → List (List ℕ)
+abbrev pub messages_of : MessageForm → ℕ → List ℕ → List (List ℕ)
 messages_of Digits max input =
     got_in (map (λ (told : ℕ × Told). told.1) (lines.told_in input (hex.begun max)))
 messages_of Binary max input = got_in (binary.told_in input (lengths.begun max))
@@ -48,12 +48,12 @@ unfoldable pub mail_in : List Shown → List (List ℕ)
 mail_in [] = []
 mail_in (one ∷ rest) = mail_of one ++ mail_in rest
 
-abbrev pub text_of : Form → Shown → List ℕ
+abbrev pub text_of : MessageForm → Shown → List ℕ
 text_of form (Mail message) = mail_text form message
 text_of form (Reports notice) = notice_text form notice
 text_of form (Loses count) = lost_text form count
 
-unfoldable pub texts_of : Form → List Shown → List ℕ
+unfoldable pub texts_of : MessageForm → List Shown → List ℕ
 texts_of form [] = []
 texts_of form (one ∷ rest) = text_of form one ++ texts_of form rest
 
@@ -73,7 +73,7 @@ frames_put (suc n) d = link_step FillsOne (after_frame d) ∷ frames_put n (afte
 
 -- the calls of the link that a call of a session makes; the link is `new` after them
 abbrev pub link_steps_of : SessionCall → SessionView → LinkView → List LinkStep
-link_steps_of (Typed used) s new =
+link_steps_of (InputRead used) s new =
     offers_of (entries_of_input used s.messages) (message_in (after_input used s.messages)) new
 link_steps_of InputEnded s new =
     if takes_end s
@@ -101,7 +101,8 @@ link_steps_in (step ∷ rest) h =
 -- The history of a session and that of its link agree: the same bytes of the line were used and
 -- written; the link accepted the messages of the input, and the messages taken from it were
 -- delivered.
-pub record IsOfLink (form : Form) (max : ℕ) (h : SessionHistory) (l : LinkHistory) : Type 0 where
+pub record IsOfLink (form : MessageForm) (max : ℕ) (h : SessionHistory)
+    (l : LinkHistory) : Type 0 where
   pub link : l.link ≡ h.session.link
   pub used : l.used ≡ h.used
   pub gone : l.gone ≡ h.gone

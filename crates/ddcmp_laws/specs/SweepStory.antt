@@ -1,9 +1,8 @@
 -- One recovery by sweeps, written out: a message was lost, and arrives.
-use Rattle.std.specs.Prelude.{false, List, [], ◌∷◌, ◌++◌, replicate}
-use Rattle.ddcmp_proto.specs.declared.config.Config.{Config}
+use Rattle.std.specs.Prelude.{List, [], ◌∷◌, ◌++◌, replicate}
 use Rattle.ddcmp_laws.specs.Story.{strt_bytes, stack_bytes, ack_0_bytes, rep_1_bytes, nak_3_bytes}
 use Rattle.ddcmp_laws.specs.Story.{first_bytes, ack_1_bytes}
-use Rattle.ddcmp_laws.specs.Vectors.{abc}
+use Rattle.ddcmp_laws.specs.Vectors.{abc, small}
 use Rattle.ddcmp_pair.specs.declared.event.End.TheVariants.{A, B}
 use Rattle.ddcmp_pair.specs.declared.event.Event.{Event}
 use Rattle.ddcmp_pair.specs.declared.event.Event.TheVariants as event
@@ -11,10 +10,6 @@ use Rattle.ddcmp_pair.specs.Recovery.{both_expire}
 use Rattle.ddcmp_pair.specs.Run.{new_pair, run}
 use Rattle.ddcmp_laws.specs.LossFree.{Line, empty_line}
 use Rattle.ddcmp_laws.specs.Sweeps.{in_a_row}
-
--- one message at a time, of at most 5 bytes
-abbrev pub small : Config
-small = record { window = 1; max = 5; inbox = 1; syn = 0; restart = false }
 
 -- Both start; the STRT of A arrives, and the STACK of B. A accepts a message and sends it.
 abbrev pub until_loss : List Event

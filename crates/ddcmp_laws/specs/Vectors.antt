@@ -1,5 +1,5 @@
--- Frames and their bytes on the line.
-use Rattle.std.specs.Prelude.{◌≡◌, ℕ, List, [], ◌∷◌, map, Bool, Ok}
+-- Frames and their bytes on the line, and sizes of stations.
+use Rattle.std.specs.Prelude.{◌≡◌, ℕ, List, [], ◌∷◌, map, Bool, false, Ok}
 use Rattle.ddcmp_frame.specs.declared.header.Flags.{Flags}
 use Rattle.ddcmp_frame.specs.declared.header.ControlType.{ControlType}
 use Rattle.ddcmp_frame.specs.declared.header.Header.{Header}
@@ -9,6 +9,7 @@ use Rattle.ddcmp_frame.specs.Wire.{eight_bytes}
 use Rattle.ddcmp_frame.specs.Reading.{items}
 use Rattle.ddcmp_core.specs.Table.{Frame, Good}
 use Rattle.ddcmp_proto.specs.Bytes.{frame_on_line, received_of}
+use Rattle.ddcmp_proto.specs.declared.config.Config.{Config}
 
 -- the text `123456789`, whose CRC is published for each kind of CRC
 abbrev pub nine_digits : List ℕ
@@ -17,6 +18,10 @@ nine_digits = 0x31 ∷ 0x32 ∷ 0x33 ∷ 0x34 ∷ 0x35 ∷ 0x36 ∷ 0x37 ∷ 0x3
 -- the text `abc`
 abbrev pub abc : List ℕ
 abc = 0x61 ∷ 0x62 ∷ 0x63 ∷ []
+
+-- sizes for one message at a time, of at most 5 bytes
+abbrev pub small : Config
+small = record { window = 1; max = 5; inbox = 1; syn = 0; restart = false }
 
 abbrev pub flags : Bool → Bool → Flags
 flags q s = record { q = q; s = s }

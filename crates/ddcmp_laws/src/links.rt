@@ -12,7 +12,8 @@ ghost use Rattle.ddcmp_laws.specs.Links.{IsKeptOverStreams, LinkReaches, receive
 ghost use Rattle.ddcmp_laws.specs.LinkLines.{IsKeptOverHonestLines, LinksAreUp, LinkIsAsleep};
 ghost use Rattle.ddcmp_laws.specs.Links.{LinkOverStreams, AreStartedOnce, after_steps};
 ghost use Rattle.ddcmp_laws.specs.LinkLines.{InboxIsFull, LinkIsDelivered, calls_of_steps};
-ghost use Rattle.ddcmp_laws.specs.LinkStory.{small, small_links, story_steps, HasGotAcross};
+ghost use Rattle.ddcmp_laws.specs.LinkStory.{small_links, story_steps, HasGotAcross};
+ghost use Rattle.ddcmp_laws.specs.Vectors.{small};
 
 /// Each call of a link makes calls of its station, and so does a history of calls. They lead to the
 /// same station; the bytes that were written to the link's line, and then those queued for it, are

@@ -6,7 +6,7 @@ ghost use Rattle.ddcmp_pair.specs.Run.{is_clean, new_pair};
 ghost use Rattle.ddcmp_laws.specs.PairCalls.{run_calls};
 ghost use Rattle.ddcmp_laws.specs.LinkLines.{calls_of_steps};
 ghost use Rattle.ddcmp_laws.specs.LinkRestarts.{calls_of_links};
-ghost use Rattle.ddcmp_laws.specs.LinkStory.{small};
+ghost use Rattle.ddcmp_laws.specs.Vectors.{small};
 ghost use Rattle.ddcmp_laws.specs.StationRuns.{run_station_calls};
 ghost use Rattle.ddcmp_laws.specs.Pipe.{IsKeptByPipes, Pipes, PipesAll, PipesBytes};
 ghost use Rattle.ddcmp_laws.specs.Pipe.{PipesClosed, PipesWhole};

@@ -7,10 +7,11 @@ ghost use Rattle.ddcmp_window.specs.Store.{first_message};
 ghost use Rattle.ddcmp_core.specs.Table.{after_halt, answer_to_start};
 ghost use Rattle.ddcmp_proto.specs.Config.{first_refusal};
 ghost use Rattle.ddcmp_station.specs.Linking.{countable};
-ghost use Rattle.ddcmp_session.specs.Messages.{entries_of_input};
+ghost use Rattle.ddcmp_streams.specs.Messages.{entries_of_input};
 ghost use Rattle.ddcmp_session.specs.Session.{wants_input, wants_line, room_for_mail};
 ghost use Rattle.ddcmp_session.specs.Session.{reports_loss};
-ghost use Rattle.ddcmp_session.specs.Calls.{SessionDoes, Typed, InputEnded, Connected, LineEnded};
+ghost use Rattle.ddcmp_session.specs.Calls.{SessionDoes, InputRead, InputEnded};
+ghost use Rattle.ddcmp_session.specs.Calls.{Connected, LineEnded};
 ghost use Rattle.ddcmp_session.specs.Calls.{Received, Filled, LineTook, TimedOut, Delivered};
 ghost use Rattle.ddcmp_session.specs.Calls.{OutputTook, Closed, new_session};
 ghost use Rattle.ddcmp_session.specs.Connections.{Does};
@@ -30,15 +31,15 @@ pub fn makes(alloc: Global, options: Options, kind: LineKind) -> Result<Session,
 }
 
 /// Handles bytes of the input and returns how many were used: all, if they complete nothing.
-pub fn types(session: &mut Session, bytes: &[u8]) -> usize
+pub fn reads_input(session: &mut Session, bytes: &[u8]) -> usize
     ensures done { (text : List ℕ)
-        → SessionDoes (Typed (take result bytes.now)) text session.old.state session.new.state }
+        → SessionDoes (InputRead (take result bytes.now)) text session.old.state session.new.state }
     ensures whole { wants_input session.old.state ≡ true
         → entries_of_input (take result bytes.now) session.old.state.messages ≡ []
         → result ≡ length bytes.now }
     ensures line { session.new.state.link.station.line ≡ session.old.state.link.station.line }
 {
-    session.typed(bytes)
+    session.input_read(bytes)
 }
 
 /// Handles the end of the input.

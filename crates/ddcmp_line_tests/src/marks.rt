@@ -50,7 +50,7 @@ impl Paper for List {
                     Fate::Arrived => b" arrived: ",
                     Fate::Cut { .. } => b" cut: ",
                     Fate::Lost => b" lost: ",
-                    Fate::OnItsWay => b" on its way: ",
+                    Fate::InFlight => b" on its way: ",
                 };
                 self.line(trip.from, what, fate.label(trip).as_slice());
             }

@@ -110,8 +110,8 @@ pub record AllFed (arrived : List ℕ) (from : ℕ) (k0 : CoreView) (h0 : Notice
       ≡ count_plus h0.starts
       (restarts_in (notices_of_piece (take from arrived) (drop from arrived) k0))
 
-pub left-none : (arrived : List ℕ) (from : ℕ) (k0 : CoreView) (h0 : NoticeTally) (at : ℕ) (k : CoreView)
-    (h : NoticeTally)
+pub left-none : (arrived : List ℕ) (from : ℕ) (k0 : CoreView) (h0 : NoticeTally) (at : ℕ)
+    (k : CoreView) (h : NoticeTally)
     → LeftToFeed arrived from k0 h0 at k h → at ≡ length arrived → AllFed arrived from k0 h0 k h
 left-none arrived from k0 h0 at k h left e =
     let d : drop at arrived ≡ [] = ap (λ n. drop n arrived) e ∙ drop-length arrived in

@@ -20,9 +20,9 @@ use Rattle.ddcmp_pair.specs.declared.event.Event.{Event}
 use Rattle.ddcmp_pair.specs.declared.event.Event.TheVariants as event
 use Rattle.ddcmp_pair.specs.Place.{place_of, place_from}
 use Rattle.ddcmp_pair.specs.Run.{EndState, restarts_in, whole_frame, frames_polled, notices_at}
-use Rattle.ddcmp_pair.specs.Run.{after_start_here, after_halt_here, after_send_here, after_poll_here}
-use Rattle.ddcmp_pair.specs.Run.{after_arrival_here, after_expire_here, after_take_here}
-use Rattle.ddcmp_pair.specs.Run.{after_event_here, is_honest_here}
+use Rattle.ddcmp_pair.specs.Run.{after_start_here, after_halt_here, after_send_here}
+use Rattle.ddcmp_pair.specs.Run.{after_poll_here, after_arrival_here, after_expire_here}
+use Rattle.ddcmp_pair.specs.Run.{after_take_here, after_event_here, is_honest_here}
 use Rattle.ddcmp_pair.proofs.Places.{place-stays, good_frames_in-append, place_from-append}
 use Rattle.ddcmp_pair.proofs.Relation.{Face, face, Stands, not_begun, begun, Fits, fits_turned}
 use Rattle.ddcmp_pair.proofs.Calls.{fits_halt, fits_expire, fits_take, fits_give, fits_start}

@@ -6,8 +6,8 @@ use Rattle.std.specs.Prelude.{if◌then◌else◌, ◌==◌, remove, slice_index
 use Rattle.ddcmp_pair.specs.Prefix.{IsPrefixOf}
 use Rattle.ddcmp_pair.specs.Link.{Link, Move, Give, Send, Answer, LoseForward, LoseBack}
 use Rattle.ddcmp_pair.specs.Link.{ForwardComes, BackComes, new_link, may_send_position}
-use Rattle.ddcmp_pair.specs.Link.{after_send_position, message_at, handed_up_by, after_forward_comes}
-use Rattle.ddcmp_pair.specs.Link.{after_back_comes, after_move, after_moves}
+use Rattle.ddcmp_pair.specs.Link.{after_send_position, message_at, handed_up_by}
+use Rattle.ddcmp_pair.specs.Link.{after_forward_comes, after_back_comes, after_move, after_moves}
 
 -- ---- the invariant
 

@@ -5,7 +5,8 @@ use Rattle.ddcmp_pair.specs.declared.event.End.TheVariants.{A, B}
 use Rattle.ddcmp_pair.specs.declared.event.Event.TheVariants as event
 use Rattle.ddcmp_pair.specs.Run.{PairState, after_event, asks_memory, run}
 use Rattle.ddcmp_pair.specs.Settle.{settling, settled, WantsMemory}
-use Rattle.ddcmp_pair.specs.Recovery.{both_expire, rounding, rounded, in_turn, recovering, recovered}
+use Rattle.ddcmp_pair.specs.Recovery.{both_expire, rounding, rounded, in_turn, recovering}
+use Rattle.ddcmp_pair.specs.Recovery.{recovered}
 use Rattle.ddcmp_pair.proofs.Runs.{run-append, wanted-next, wanted-second, wanted-first}
 use Rattle.ddcmp_pair.proofs.Runs.{wanted-later}
 

@@ -4,7 +4,7 @@ use Rattle.std.specs.Prelude.{codes, decimal, Option, Some, None}
 use Rattle.ddcmp_pair.specs.declared.event.End.{End}
 use Rattle.ddcmp_pair.specs.declared.event.End.TheVariants.{A, B}
 use Rattle.ddcmp_picture.specs.declared.mark.Fate.{Fate}
-use Rattle.ddcmp_picture.specs.declared.mark.Fate.TheVariants.{Arrived, Cut, Lost, OnItsWay}
+use Rattle.ddcmp_picture.specs.declared.mark.Fate.TheVariants.{Arrived, Cut, Lost, InFlight}
 use Rattle.ddcmp_picture.specs.declared.mark.Trip.{Trip}
 use Rattle.ddcmp_picture.specs.declared.short_text.ShortText.{ShortText}
 use Rattle.ddcmp_picture.specs.ShortTexts.{with_text}
@@ -37,7 +37,7 @@ part_label (Cut part of) label =
     with_text (with_text (with_text (with_text label (codes ", ")) (decimal part)) (codes " of "))
     (decimal of)
 part_label Lost label = label
-part_label OnItsWay label = label
+part_label InFlight label = label
 
 abbrev pub end_label : Fate → Trip → ShortText
 end_label fate t =

@@ -43,7 +43,7 @@ impl Stroke {
     fn of(trip: &Trip, fate: Fate, row: u64) -> Stroke {
         let x2 = match fate {
             Fate::Arrived | Fate::Cut { .. } => line_of(trip.from.other()),
-            Fate::Lost | Fate::OnItsWay => MIDDLE,
+            Fate::Lost | Fate::InFlight => MIDDLE,
         };
         Stroke {
             from: trip.from,
@@ -237,7 +237,7 @@ impl Stroke {
             Fate::Lost => {
                 self.write_shape(page, writer, self.x2, b"m-6 -6l12 12m0 -12l-12 12");
             }
-            Fate::OnItsWay => self.write_shape(page, writer, self.x2, b"m-4 0l4 4l4 -4l-4 -4z"),
+            Fate::InFlight => self.write_shape(page, writer, self.x2, b"m-4 0l4 4l4 -4l-4 -4z"),
         }
     }
 

@@ -299,13 +299,13 @@ impl<P: Paper + Drop> Drawing<P> {
     /// Draws the frames that are still in flight when the run is over.
     pub fn end_flights(&mut self)
         ensures marks { Logs (P.drawn self.old.paper) (P.drawn self.new.paper)
-            (all_end Fate.OnItsWay self.old.flights) }
+            (all_end Fate.InFlight self.old.flights) }
         ensures trips { self.new.flights ≡ no_trips }
         ensures whole { self.new.is_whole ≡ self.old.is_whole }
         ensures states { self.new.states ≡ self.old.states }
         ensures asked { self.new.asked ≡ self.old.asked }
     {
-        end_all(&mut self.paper, &mut self.flights, Fate::OnItsWay);
+        end_all(&mut self.paper, &mut self.flights, Fate::InFlight);
     }
 
     /// Draws the result of a settle.

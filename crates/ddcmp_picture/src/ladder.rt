@@ -138,7 +138,7 @@ pub(crate) fn write_ladder_head<W: Sink>(page: &mut Page, writer: &mut W) {
 
 /// Writes the line of a step.
 pub(crate) fn write_ladder<W: Sink>(page: &mut Page, writer: &mut W, mark: &Mark) {
-    if let Mark::Ends(_, Fate::OnItsWay) = mark {
+    if let Mark::Ends(_, Fate::InFlight) = mark {
         return;
     }
     let mut row = Row::new();

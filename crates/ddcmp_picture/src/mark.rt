@@ -46,7 +46,7 @@ pub enum Fate {
     Cut { part: usize, of: usize },
     Lost,
     /// The run ended before.
-    OnItsWay,
+    InFlight,
 }
 
 /// A mark of a picture, made by a step of a run.
@@ -85,7 +85,7 @@ impl Fate {
                 .with_number(part as u64)
                 .with(b" of ")
                 .with_number(of as u64),
-            Fate::Arrived | Fate::Lost | Fate::OnItsWay => label,
+            Fate::Arrived | Fate::Lost | Fate::InFlight => label,
         }
     }
 }

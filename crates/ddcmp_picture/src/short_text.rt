@@ -36,6 +36,7 @@ impl ShortText {
         self.len == 0
     }
 
+    /// Returns the bytes of the text.
     pub fn as_slice(&self) -> &[u8]
         ensures { result.now ≡ text_in self.now }
     {

@@ -6,11 +6,12 @@ use Rattle.ddcmp_core.specs.declared.counters.NakCounts.{NakCounts}
 use Rattle.ddcmp_core.specs.declared.notice.Notice.{Notice}
 use Rattle.ddcmp_station.specs.Linking.{LinkView, after_wake}
 use Rattle.ddcmp_session.specs.declared.course.Course.{Course}
-use Rattle.ddcmp_session.specs.declared.session.End.TheVariants.{Time}
+use Rattle.ddcmp_session.specs.declared.session.EndReason.TheVariants.{Time}
 use Rattle.ddcmp_session.specs.Course.{after_looked, after_moment, after_notice, after_notices}
 use Rattle.ddcmp_session.specs.Course.{after_pause, try_counted}
 use Rattle.ddcmp_session.specs.Session.{SessionView, after_timeout, after_tried, awaits_peer}
-use Rattle.ddcmp_session.specs.Session.{course_received, expires, report_ms}
+use Rattle.ddcmp_session.specs.Session.{course_received, expires}
+use Rattle.ddcmp_streams.specs.Options.{report_ms}
 use Rattle.ddcmp_session.specs.Timing.{end, run_ends_at}
 use Rattle.ddcmp_session.specs.Session.{wants_line}
 

@@ -4,7 +4,7 @@ use Rattle.std.proofs.Common.{Some, None, option_map, [], ◌∷◌, refl, ◌�
 use Rattle.std.proofs.Math.Seq.{take-append_seam}
 use Rattle.ddcmp_station.specs.Linking.{LinkView, after_taking, totals_after_take, with_state}
 use Rattle.ddcmp_window.specs.Store.{with_front, first_message}
-use Rattle.ddcmp_session.specs.declared.messages.Form.{Form}
+use Rattle.ddcmp_streams.specs.declared.messages.MessageForm.{MessageForm}
 use Rattle.ddcmp_io.specs.Queue.{QueueView}
 use Rattle.ddcmp_session.specs.Text.{Puts, Wrote, mail_text}
 use Rattle.ddcmp_session.proofs.TextLaws.{writes}
@@ -24,7 +24,7 @@ taken (Some message) n old new is put = (
     counted e = cc
 
 -- The text of what was taken, written after room was made.
-pub delivers : (form : Form) (f : Option (List ℕ)) (n : ℕ) (mail out : List ℕ)
+pub delivers : (form : MessageForm) (f : Option (List ℕ)) (n : ℕ) (mail out : List ℕ)
     (old settled new : QueueView) → Some n ≡ option_map length f → out ≡ with_front f mail
     → settled.waiting ≡ old.waiting → old.room ≤ settled.room → settled.size ≡ old.size
     → settled.is_cut ≡ old.is_cut

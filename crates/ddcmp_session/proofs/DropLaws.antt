@@ -1,15 +1,16 @@
 -- Parts of an input that are dropped once the run is over.
-use Rattle.std.proofs.Common.{◌≡◌, ◌∙◌, ◌≤◌, ◌<◌, ◌+◌, ◌-◌, ℕ, zero, suc, refl, ap, sym, subst, arith, length}
+use Rattle.std.proofs.Common.{◌≡◌, ◌∙◌, ◌≤◌, ◌<◌, ◌+◌, ◌-◌, ℕ, zero, suc, refl, ap, sym, subst}
+use Rattle.std.proofs.Common.{arith, length}
 use Rattle.std.proofs.Common.{List, [], ◌∷◌, ◌++◌, take, drop, take-add, take_all, length-drop}
 use Rattle.std.proofs.Common.{Option, Some, None, option_to_list}
 use Rattle.ddcmp_input.specs.declared.entry.Entry.{Entry}
 use Rattle.ddcmp_input.specs.declared.entry.Entry.TheVariants as entry
 use Rattle.ddcmp_input.proofs.LengthsLaws as length_laws
 use Rattle.ddcmp_input.proofs.HexLinesLaws as line_laws
-use Rattle.ddcmp_session.specs.declared.messages.Messages.{Messages}
-use Rattle.ddcmp_session.specs.declared.messages.Messages.TheVariants.{Digits, Binary}
-use Rattle.ddcmp_session.specs.Messages.{after_input, count_of, entries_of_input}
-use Rattle.ddcmp_session.specs.Messages.{messages_among}
+use Rattle.ddcmp_streams.specs.declared.messages.Messages.{Messages}
+use Rattle.ddcmp_streams.specs.declared.messages.Messages.TheVariants.{Digits, Binary}
+use Rattle.ddcmp_streams.specs.Messages.{after_input, count_of, entries_of_input}
+use Rattle.ddcmp_streams.specs.Messages.{messages_among}
 use Rattle.ddcmp_session.specs.Session.{SessionView, lost_among}
 use Rattle.ddcmp_session.proofs.InputLaws.{no-entries, nothing-read}
 
@@ -96,7 +97,8 @@ module _ (bytes : List ℕ) (old b v : SessionView) (parts at lost used : ℕ) (
       let rest = length-drop at bytes in
       let was : v.messages ≡ after_input (take at bytes) old.messages =
       ap (λ (s : SessionView). s.messages) view ∙ d.messages in
-      let two : take (at + used) bytes ≡ take at bytes ++ take used (drop at bytes) = take-add at used bytes in
+      let two : take (at + used) bytes ≡ take at bytes ++ take used (drop at bytes) =
+      take-add at used bytes in
       record {
         most = omega (arith, most, rest, d.most);
         parts = omega (arith, one, d.parts);
@@ -108,8 +110,10 @@ module _ (bytes : List ℕ) (old b v : SessionView) (parts at lost used : ℕ) (
             ∙ ap (λ k. lost_among (take at bytes) old
             + messages_among (entries_of_input (take used (drop at bytes)) k)) was
             ∙ sym (among-more (entries_of_input (take at bytes) old.messages)
-            (entries_of_input (take used (drop at bytes)) (after_input (take at bytes) old.messages)))
-            ∙ ap messages_among (sym (entries-more (take at bytes) (take used (drop at bytes)) old.messages))
+            (entries_of_input (take used (drop at bytes))
+            (after_input (take at bytes) old.messages)))
+            ∙ ap messages_among
+            (sym (entries-more (take at bytes) (take used (drop at bytes)) old.messages))
             ∙ ap (λ xs. lost_among xs old) (sym two);
         messages =
             ap (λ (s : SessionView). s.messages) is

@@ -4,10 +4,10 @@ use Rattle.std.proofs.Common.{◌≡◌, ◌∙◌, ◌≤◌, ◌+◌, ◌-◌,
 use Rattle.std.proofs.Common.{length, List, [], ◌∷◌, ◌++◌, take, drop, take-add, take_all}
 use Rattle.std.proofs.Common.{Bool, Option, Some, None, option_to_list}
 use Rattle.ddcmp_input.specs.declared.entry.Entry.{Entry}
-use Rattle.ddcmp_session.specs.declared.messages.Messages.{Messages}
-use Rattle.ddcmp_session.specs.Errors.{ErrorsView}
+use Rattle.ddcmp_streams.specs.declared.messages.Messages.{Messages}
+use Rattle.ddcmp_streams.specs.Errors.{ErrorsView}
 use Rattle.ddcmp_session.specs.Logged.{LogView, read_after}
-use Rattle.ddcmp_session.specs.Messages.{after_input, entries_of_input}
+use Rattle.ddcmp_streams.specs.Messages.{after_input, entries_of_input}
 use Rattle.ddcmp_session.specs.Reported.{Dropping, Drops, DropsBytes, DropsEach}
 use Rattle.ddcmp_session.specs.Reported.{refused_after}
 use Rattle.ddcmp_session.proofs.DropLaws.{read-more, entries-more}

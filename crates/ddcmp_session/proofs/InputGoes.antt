@@ -10,11 +10,12 @@ use Rattle.ddcmp_input.specs.declared.entry.Entry.TheVariants as entry
 use Rattle.ddcmp_core.specs.Table.{may_send, may_send_maintenance, after_accept}
 use Rattle.ddcmp_station.specs.Linking.{after_offered, after_offered_maintenance, with_state}
 use Rattle.ddcmp_station.specs.Linking.{total_plus}
-use Rattle.ddcmp_session.specs.declared.messages.Messages.{Messages}
-use Rattle.ddcmp_session.specs.declared.messages.Messages.TheVariants.{Digits, Binary}
-use Rattle.ddcmp_session.specs.Messages.{message_in, after_input, entries_of_input, after_last}
-use Rattle.ddcmp_session.specs.Messages.{entry_of_last, has_last_line, is_message_unfinished}
-use Rattle.ddcmp_session.specs.Session.{after_entry, after_entries, after_typed, after_unfinished}
+use Rattle.ddcmp_streams.specs.declared.messages.Messages.{Messages}
+use Rattle.ddcmp_streams.specs.declared.messages.Messages.TheVariants.{Digits, Binary}
+use Rattle.ddcmp_streams.specs.Messages.{message_in, after_input, entries_of_input, after_last}
+use Rattle.ddcmp_streams.specs.Messages.{entry_of_last, has_last_line, is_message_unfinished}
+use Rattle.ddcmp_session.specs.Session.{after_entry, after_entries, after_input_read}
+use Rattle.ddcmp_session.specs.Session.{after_unfinished}
 use Rattle.ddcmp_session.specs.Session.{after_offered_in, takes_in}
 use Rattle.ddcmp_session.proofs.InputLaws.{form-stays}
 use Rattle.std.proofs.Common.{cond}
@@ -23,8 +24,8 @@ use Rattle.ddcmp_io.specs.declared.device.Got.TheVariants as got
 use Rattle.ddcmp_station.specs.Linking.{LinkView}
 use Rattle.ddcmp_session.specs.Session.{SessionView, form_of, takes_end, wants_input}
 use Rattle.ddcmp_session.specs.Session.{after_input_end}
-use Rattle.ddcmp_session.specs.Calls.{Typed, InputEnded}
-use Rattle.ddcmp_session.specs.Calls.{HasTyped}
+use Rattle.ddcmp_session.specs.Calls.{InputRead, InputEnded}
+use Rattle.ddcmp_session.specs.Calls.{HasReadInput}
 use Rattle.ddcmp_session.specs.Calls.{SessionHistory, end_in}
 use Rattle.ddcmp_session.specs.Calls.{input_in}
 use Rattle.ddcmp_session.specs.Devices.{Traffic, BuffersView, Agrees, GoesOn, Becomes}
@@ -78,19 +79,19 @@ none-dropped : (n : ℕ) → ◌≡◌ {A = List ℕ} (drop n []) []
 none-dropped zero = refl
 none-dropped (suc n) = refl
 
--- a call of `typed` took bytes
-pub typed-goes : {held : BuffersView} {known : Option Traffic} (old new : SessionView) (n : ℕ)
-    → HasTyped (take n held.input) old new → form_of new.messages ≡ form_of old.messages
+-- a call of `input_read` took bytes
+pub input_read-goes : {held : BuffersView} {known : Option Traffic} (old new : SessionView) (n : ℕ)
+    → HasReadInput (take n held.input) old new → form_of new.messages ≡ form_of old.messages
     → new.is_read ≡ old.is_read
     → new.link.station.line ≡ old.link.station.line
     → GoesOn held old known (record held { input = drop n held.input }) new known
-typed-goes {held} {known} old new n does form reads line = λ h t is was a.
+input_read-goes {held} {known} old new n does form reads line = λ h t is was a.
     let used = take n held.input in
     let to : SessionHistory = record h { session = old } in (
       t,
       was,
-      one-went (Typed used) h new (record held { input = drop n held.input }) t tt
-          (subst (λ (x : SessionView). HasTyped used x new) (sym is) does)
+      one-went (InputRead used) h new (record held { input = drop n held.input }) t tt
+          (subst (λ (x : SessionView). HasReadInput used x new) (sym is) does)
           (record {
             read =
                 ap (λ xs. t.read ++ xs)
@@ -231,21 +232,22 @@ entries-messages : (es : List Entry) (s : SessionView)
 entries-messages [] s = refl
 entries-messages (e ∷ rest) s = entry-messages e s
 
--- a call of `typed` took the first bytes of those that are held
+-- a call of `input_read` took the first bytes of those that are held
 pub types : {held : BuffersView} {known : Option Traffic} (old new : SessionView) (n : ℕ)
-    → HasTyped (take n held.input) old new
+    → HasReadInput (take n held.input) old new
     → GoesOn held old known (record held { input = drop n held.input }) new known
 types {held} {known} old new n does =
     let used = take n held.input in
     let es = entries_of_input used old.messages in
     let s = record old { messages = after_input used old.messages } in
     let reads =
-    same-at (λ x. x.is_read) new (after_typed used old) does.state ∙ entries-read es s in
-    typed-goes old new n does
-    (same-at (λ x. form_of x.messages) new (after_typed used old) does.state
+    same-at (λ x. x.is_read) new (after_input_read used old) does.state ∙ entries-read es s in
+    input_read-goes old new n does
+    (same-at (λ x. form_of x.messages) new (after_input_read used old) does.state
     ∙ ap form_of (entries-messages es s) ∙ form-stays used old.messages)
     reads
-    (same-at (λ x. x.link.station.line) new (after_typed used old) does.state ∙ entries-line es s)
+    (same-at (λ x. x.link.station.line) new (after_input_read used old) does.state
+    ∙ entries-line es s)
 
 -- the end of the input
 last-form : (m : Messages) → form_of (after_last m) ≡ form_of m
@@ -315,11 +317,11 @@ takes-wanted s = by s.is_read (takes_in s.options.maintenance s.link)
 -- the same of bytes that are those held
 pub types-held : {held : BuffersView} {known : Option Traffic} (old new : SessionView) (n : ℕ)
     (bytes rest : List ℕ) → bytes ≡ held.input → rest ≡ drop n held.input
-    → HasTyped (take n bytes) old new
+    → HasReadInput (take n bytes) old new
     → GoesOn held old known (record held { input = rest }) new known
 types-held {held} {known} old new n bytes rest same left does =
     subst (λ xs. GoesOn held old known (record held { input = xs }) new known) (sym left)
-    (types old new n (subst (λ xs. HasTyped (take n xs) old new) same does))
+    (types old new n (subst (λ xs. HasReadInput (take n xs) old new) same does))
 
 -- bytes of the input, or none, are held now
 pub input-given : {held : BuffersView} {s : SessionView} {k k' : Option Traffic} (n : ℕ)

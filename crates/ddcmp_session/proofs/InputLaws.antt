@@ -7,14 +7,14 @@ use Rattle.std.proofs.Math.Seq.{take-append_seam}
 use Rattle.ddcmp_input.specs.declared.entry.Entry.{Entry}
 use Rattle.ddcmp_input.proofs.LengthsLaws as length_laws
 use Rattle.ddcmp_input.proofs.HexLinesLaws as line_laws
-use Rattle.ddcmp_session.specs.Calls.{CompletesLast, HasTyped}
+use Rattle.ddcmp_session.specs.Calls.{CompletesLast, HasReadInput}
 use Rattle.std.specs.Prelude.{option_to_list}
 use Rattle.ddcmp_input.specs.HexLines as lines
 use Rattle.ddcmp_input.specs.Lengths as lengths
-use Rattle.ddcmp_session.specs.declared.messages.Messages.{Messages}
-use Rattle.ddcmp_session.specs.declared.messages.Messages.TheVariants.{Digits, Binary}
-use Rattle.ddcmp_session.specs.Messages.{after_input, entries_of_input}
-use Rattle.ddcmp_session.specs.Session.{SessionView, after_typed, after_entries, form_of}
+use Rattle.ddcmp_streams.specs.declared.messages.Messages.{Messages}
+use Rattle.ddcmp_streams.specs.declared.messages.Messages.TheVariants.{Digits, Binary}
+use Rattle.ddcmp_streams.specs.Messages.{after_input, entries_of_input}
+use Rattle.ddcmp_session.specs.Session.{SessionView, after_input_read, after_entries, form_of}
 use Rattle.ddcmp_session.specs.Session.{wants_input}
 
 pub no-entries : (m : Messages) → entries_of_input [] m ≡ []
@@ -27,8 +27,8 @@ unfolding lines.after_bytes lengths.after_bytes
 nothing-read (Digits v) = refl
 nothing-read (Binary v) = refl
 
-pub nothing-typed : (s : SessionView) → s ≡ after_typed [] s
-nothing-typed s =
+pub nothing-input_read : (s : SessionView) → s ≡ after_input_read [] s
+nothing-input_read s =
     ap (λ m. record s { messages = m }) (sym (nothing-read s.messages))
     ∙ ap (λ es. after_entries es (record s { messages = after_input [] s.messages }))
     (sym (no-entries s.messages))
@@ -42,7 +42,7 @@ pub form-stays : (bytes : List ℕ) (m : Messages) → form_of (after_input byte
 form-stays bytes (Digits v) = refl
 form-stays bytes (Binary v) = refl
 
--- ---- the bytes that `typed` takes
+-- ---- the bytes that `input_read` takes
 
 empty_front : {A : Type 0} (xs ys : List A) → xs ++ ys ≡ [] → xs ≡ []
 empty_front [] ys e = refl
@@ -92,15 +92,15 @@ completes_last n bytes m most first few front byte is =
 pub nothing_taken : (n : ℕ) (bytes : List ℕ) → n ≡ 0 → take n bytes ≡ []
 nothing_taken n bytes e = ap (λ k. take k bytes) e
 
--- what a call of `typed` says that it does
-pub has-typed : (n : ℕ) (bytes : List ℕ) (old new : SessionView) → n ≤ length bytes
-    → new ≡ after_typed (take n bytes) old
+-- what a call of `input_read` says that it does
+pub has-input_read : (n : ℕ) (bytes : List ℕ) (old new : SessionView) → n ≤ length bytes
+    → new ≡ after_input_read (take n bytes) old
     → ((k : ℕ) (entry : Entry) → entries_of_input (take n bytes) old.messages ≡ entry ∷ []
     → n ≡ k + 1 → entries_of_input (take k bytes) old.messages ≡ [])
     → length (entries_of_input (take n bytes) old.messages) ≤ 1
     → (wants_input old ≡ false → n ≡ 0)
-    → HasTyped (take n bytes) old new
-has-typed n bytes old new most state first few none = record {
+    → HasReadInput (take n bytes) old new
+has-input_read n bytes old new most state first few none = record {
   state = state;
   wanted = λ e. nothing_taken n bytes (none e);
   part = completes_last n bytes old.messages most first few;

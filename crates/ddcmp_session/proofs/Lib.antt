@@ -3,13 +3,10 @@ pub mod DeliverLaws
 pub mod DrainLaws
 pub mod DropLaws
 pub mod DropReportLaws
-pub mod ErrorsLaws
 pub mod Finished
 pub mod FrameLaws
 pub mod GoingLaws
 pub mod InputGoes
-pub mod HeardLaws
-pub mod JunkLaws
 pub mod LineGoes
 pub mod LineLogLaws
 pub mod LinesGo
@@ -21,4 +18,3 @@ pub mod NoticeLaws
 pub mod RestLaws
 pub mod StopLaws
 pub mod TextLaws
-pub mod TraceLaws

@@ -4,14 +4,14 @@ use Rattle.std.specs.Prelude.{◌==◌, Some, None}
 use Rattle.ddcmp_core.specs.declared.notice.Notice.{Notice}
 use Rattle.ddcmp_core.specs.declared.notice.Notice.TheVariants as notice
 use Rattle.ddcmp_station.specs.StationText.{notice_line}
-use Rattle.ddcmp_session.specs.declared.errors.TheConstants.{SHORT_LINE}
-use Rattle.ddcmp_session.specs.declared.messages.Form.{Form}
-use Rattle.ddcmp_session.specs.declared.messages.Form.TheVariants as form
-use Rattle.ddcmp_session.specs.Errors.{ErrorsView, HasLine}
+use Rattle.ddcmp_streams.specs.declared.errors.TheConstants.{SHORT_LINE}
+use Rattle.ddcmp_streams.specs.declared.messages.MessageForm.{MessageForm}
+use Rattle.ddcmp_streams.specs.declared.messages.MessageForm.TheVariants as form
+use Rattle.ddcmp_streams.specs.Errors.{ErrorsView, HasLine}
 use Rattle.ddcmp_session.specs.Logged.{HasLost, HasNotice, HasNotices, LogView, Traces}
 use Rattle.ddcmp_session.specs.Text.{dropped_by, lost_line}
-use Rattle.ddcmp_session.specs.Trace.{TraceView}
-use Rattle.ddcmp_session.proofs.ErrorsLaws.{if-room}
+use Rattle.ddcmp_streams.specs.Trace.{TraceView}
+use Rattle.ddcmp_streams.proofs.ErrorsLaws.{if-room}
 
 -- ---- a trace
 
@@ -30,17 +30,18 @@ traces-none goes old new is same = subst (λ t. Traces goes t old new) (sym is) 
 -- ---- notices
 
 -- the line of a notice alone
-abbrev pub HasNoticeLine : Form → Notice → ErrorsView → ErrorsView → Type 0
+abbrev pub HasNoticeLine : MessageForm → Notice → ErrorsView → ErrorsView → Type 0
 HasNoticeLine form.Digits n old new = new ≡ old
 HasNoticeLine form.Binary n old new = HasLine SHORT_LINE (notice_line [] n) old new
 
-pub lost-none : (by : Form) (count : ℕ) (e : ErrorsView) → count ≡ 0 → HasLost by count e e
+pub lost-none : (by : MessageForm) (count : ℕ) (e : ErrorsView) → count ≡ 0 → HasLost by count e e
 lost-none form.Digits count e is = refl
 lost-none form.Binary count e is =
     if-room (count == 0) (e ≡ e) (HasLine SHORT_LINE (lost_line count) e e) (ap (λ n. n == 0) is)
     refl
 
-pub noticed : (by : Form) (n : Notice) (old mid new : ErrorsView) → HasNoticeLine by n old mid
+pub noticed : (by : MessageForm) (n : Notice) (old mid new : ErrorsView)
+    → HasNoticeLine by n old mid
     → HasLost by (dropped_by n) mid new → HasNotice by n old new
 noticed form.Digits n old mid new line lost = lost ∙ line
 noticed form.Binary n old mid new line lost = (mid, line, lost)
@@ -60,24 +61,24 @@ drops-none notice.MaintenanceSeen never = refl
 drops-none notice.MaintenanceHandedUp never = refl
 drops-none notice.MaintenanceDropped never = refl
 
-pub noticed-alone : (by : Form) (n : Notice) (old new : ErrorsView) → dropped_by n ≡ 0
+pub noticed-alone : (by : MessageForm) (n : Notice) (old new : ErrorsView) → dropped_by n ≡ 0
     → HasNoticeLine by n old new → HasNotice by n old new
 noticed-alone by n old new is line =
     noticed by n old new new line (lost-none by (dropped_by n) new is)
 
-pub line-in-digits : (by : Form) (n : Notice) (old new : ErrorsView) → by ≡ form.Digits
+pub line-in-digits : (by : MessageForm) (n : Notice) (old new : ErrorsView) → by ≡ form.Digits
     → new ≡ old → HasNoticeLine by n old new
 line-in-digits by n old new is same =
     subst (λ f. HasNoticeLine f n old new) (sym is) same
 
-pub line-in-binary : (by : Form) (n : Notice) (old mid new : ErrorsView) → by ≡ form.Binary
+pub line-in-binary : (by : MessageForm) (n : Notice) (old mid new : ErrorsView) → by ≡ form.Binary
     → new ≡ mid → HasLine SHORT_LINE (notice_line [] n) old mid → HasNoticeLine by n old new
 line-in-binary by n old mid new is same line =
     subst (λ f. HasNoticeLine f n old new) (sym is)
     (subst (λ e. HasLine SHORT_LINE (notice_line [] n) old e) (sym same) line)
 
 -- what a restart dropped was reported after its line
-pub noticed-loss : (by other : Form) (n : Notice) (count : ℕ) (old mid new : ErrorsView)
+pub noticed-loss : (by other : MessageForm) (n : Notice) (count : ℕ) (old mid new : ErrorsView)
     → other ≡ by → n ≡ notice.Restarted count → HasNoticeLine by n old mid
     → HasLost other count mid new → HasNotice by n old new
 noticed-loss by other n count old mid new same is line lost =
@@ -85,11 +86,11 @@ noticed-loss by other n count old mid new same is line lost =
     (subst (λ k. HasLost by k mid new) (sym (ap dropped_by is))
     (subst (λ f. HasLost f count mid new) same lost))
 
-pub notices-none : (by : Form) (notices : List Notice) (e : ErrorsView) → notices ≡ []
+pub notices-none : (by : MessageForm) (notices : List Notice) (e : ErrorsView) → notices ≡ []
     → HasNotices by notices e e
 notices-none by notices e is = subst (λ ns. HasNotices by ns e e) (sym is) refl
 
-pub notices-one : (by : Form) (notices : List Notice) (n : Notice) (old new : ErrorsView)
+pub notices-one : (by : MessageForm) (notices : List Notice) (n : Notice) (old new : ErrorsView)
     → notices ≡ n ∷ [] → HasNotice by n old new → HasNotices by notices old new
 notices-one by notices n old new is noticed =
     subst (λ ns. HasNotices by ns old new) (sym is) (new, noticed, refl)

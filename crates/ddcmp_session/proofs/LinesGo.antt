@@ -6,7 +6,7 @@ use Rattle.ddcmp_frame.specs.Reader.{StandsFor}
 use Rattle.ddcmp_station.specs.Linking.{LinkView}
 use Rattle.ddcmp_session.specs.Session.{SessionView, after_connected, after_time, form_of}
 use Rattle.ddcmp_session.specs.Calls.{SessionCall, SessionStep, SessionHistory, SessionDoes}
-use Rattle.ddcmp_session.specs.Calls.{Typed, InputEnded, Connected, LineEnded, Received, Filled}
+use Rattle.ddcmp_session.specs.Calls.{InputRead, InputEnded, Connected, LineEnded, Received, Filled}
 use Rattle.ddcmp_session.specs.Calls.{LineTook, TimedOut, TimePassed, Delivered, OutputTook, Closed}
 use Rattle.ddcmp_session.specs.Calls.{HasClosed, HasLeft, IsSessionHistory, after_session_step}
 use Rattle.ddcmp_session.specs.Calls.{after_session_steps}
@@ -29,7 +29,7 @@ one-over : (call : SessionCall) (new : SessionView) (c : Connection) → IsOfRun
     → Does call c.history.used c.history.session new
     × ((after_step (record { call = call; session = new }) c)
     ≡ record c { history = after_session_step (record { call = call; session = new }) c.history })
-one-over (Typed used) new c of does = (does, refl)
+one-over (InputRead used) new c of does = (does, refl)
 one-over InputEnded new c of does = (does, refl)
 one-over (Received used) new c of does = (does, refl)
 one-over (Filled n) new c of does = (does, refl)
@@ -43,7 +43,7 @@ one-over (LineEnded reported) new c of does = absurd of
 one-over (Closed left over reported) new c of does = absurd of
 
 one-open : (call : SessionCall) → IsOfRun call → KeepsOpen call
-one-open (Typed used) of = tt
+one-open (InputRead used) of = tt
 one-open InputEnded of = tt
 one-open (Received used) of = tt
 one-open (Filled n) of = tt
@@ -78,7 +78,7 @@ all-over (step ∷ rest) c of does =
     )
 
 one-ready : (call : SessionCall) (s : SessionView) → IsOfRun call → ReadyIf call s
-one-ready (Typed used) s of = tt
+one-ready (InputRead used) s of = tt
 one-ready InputEnded s of = tt
 one-ready (Received used) s of = tt
 one-ready (Filled n) s of = tt

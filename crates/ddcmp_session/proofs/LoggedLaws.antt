@@ -2,13 +2,13 @@
 use Rattle.std.proofs.Common.{◌≡◌, refl, sym, subst, ℕ, ◌+◌, ◌*◌, Bool, true, false, []}
 use Rattle.ddcmp_station.specs.Linking.{LinkView}
 use Rattle.ddcmp_station.specs.CountersText.{counters_line}
-use Rattle.ddcmp_session.specs.declared.errors.TheConstants.{LAST_ROOM}
+use Rattle.ddcmp_streams.specs.declared.errors.TheConstants.{LAST_ROOM}
 use Rattle.ddcmp_session.specs.declared.text.TheConstants.{END_ROOM}
 use Rattle.ddcmp_session.specs.EndText.{end_line}
-use Rattle.ddcmp_session.specs.Errors.{ErrorsView, HasLine, HasObject}
-use Rattle.ddcmp_session.specs.Errors.{report_members, report_text}
+use Rattle.ddcmp_streams.specs.Errors.{ErrorsView, HasLine, HasObject}
+use Rattle.ddcmp_session.specs.Reports.{report_members, report_text}
 use Rattle.ddcmp_session.specs.Logged.{LoggedSession, HasReport, HasEnd}
-use Rattle.ddcmp_session.proofs.ErrorsLaws.{if-room, if-none}
+use Rattle.ddcmp_streams.proofs.ErrorsLaws.{if-room, if-none}
 
 -- a report was written as an object, or as a line
 pub reported-object : (b : Bool) (lost : ℕ) (d : LinkView) (old new : ErrorsView) → b ≡ true

@@ -8,7 +8,7 @@ use Rattle.ddcmp_session.specs.declared.link.LinkFault.TheVariants.{the_data as 
 use Rattle.ddcmp_session.specs.declared.link.LinkOutcome.{LinkOutcome}
 use Rattle.ddcmp_session.specs.declared.link.LinkOutcome.TheVariants.{Delivered, SomeRefused}
 use Rattle.ddcmp_io.specs.declared.line_kind.LineKind.{LineKind}
-use Rattle.ddcmp_session.specs.declared.options.Options.{Options}
+use Rattle.ddcmp_streams.specs.declared.options.Options.{Options}
 use Rattle.ddcmp_session.specs.Session.{SessionView, session_made}
 use Rattle.ddcmp_session.specs.Devices.{BuffersView, Traffic, nothing_read}
 use Rattle.ddcmp_session.specs.Finishing.{RunsToEnd}
@@ -20,7 +20,8 @@ pub runs-new : {well : Bool} {options : Options} {kind : LineKind} {held new_hel
     → held ≡ nothing_read → s ≡ session_made options kind s.link.station.line
     → StandsFor s.link.station.line [] → RunsToEnd well held s before new_held last after
     → RunsNew well options kind before last after
-runs-new {well} {options} {kind} {held} {new_held} {s} {last} {before} {after} none made clear ends =
+runs-new {well} {options} {kind} {held} {new_held} {s} {last} {before} {after} none made clear
+    ends =
     record {
       line = s.link.station.line;
       clear = clear;

@@ -43,24 +43,24 @@ none a b c d e f g all =
 
 -- From a session that was filled: its input was passed on, then its line was read, then what came
 -- was passed on, and then what waits was written.
-pub comes-to-rest : (filled passed fed last : SessionView) (typed came : BuffersView)
+pub comes-to-rest : (filled passed fed last : SessionView) (input_read came : BuffersView)
     → IsFilled filled → passed ≡ filled
-    → (typed.input ≡ []) ⊎ (wants_input passed ≡ false)
-    → (typed.is_over ≡ false) ⊎ (wants_input passed ≡ false)
-    → fed ≡ record passed { output = fed.output } → came ≡ typed
+    → (input_read.input ≡ []) ⊎ (wants_input passed ≡ false)
+    → (input_read.is_over ≡ false) ⊎ (wants_input passed ≡ false)
+    → fed ≡ record passed { output = fed.output } → came ≡ input_read
     → (came.received ≡ []) ⊎ (wants_line fed ≡ false)
     → HoldsMail fed → last ≡ fed → IsIdle came last
-comes-to-rest filled passed fed last typed came is-filled same input told stays held line mail
+comes-to-rest filled passed fed last input_read came is-filled same input told stays held line mail
     rest =
     let to = rest ∙ stays in record {
       filled =
           subst IsFilled (sym to) (subst IsFilled (sym same) is-filled);
-      typed =
+      input_read =
           subst (λ (b : BuffersView). (b.input ≡ []) ⊎ (wants_input last ≡ false)) (sym held)
-          (subst (λ s. (typed.input ≡ []) ⊎ (wants_input s ≡ false)) (sym to) input);
+          (subst (λ s. (input_read.input ≡ []) ⊎ (wants_input s ≡ false)) (sym to) input);
       told =
           subst (λ (b : BuffersView). (b.is_over ≡ false) ⊎ (wants_input last ≡ false)) (sym held)
-          (subst (λ s. (typed.is_over ≡ false) ⊎ (wants_input s ≡ false)) (sym to) told);
+          (subst (λ s. (input_read.is_over ≡ false) ⊎ (wants_input s ≡ false)) (sym to) told);
       fed = subst (λ s. (came.received ≡ []) ⊎ (wants_line s ≡ false)) (sym rest) line;
       delivered = subst HoldsMail (sym rest) mail;
     }

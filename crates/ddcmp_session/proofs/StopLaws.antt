@@ -11,7 +11,7 @@ use Rattle.ddcmp_session.specs.declared.buffers.lines.Stop.TheVariants.{NotOpene
 use Rattle.ddcmp_session.specs.declared.devices.Fault.{Fault}
 use Rattle.ddcmp_session.specs.declared.devices.Fault.TheVariants.{Input}
 use Rattle.ddcmp_session.specs.declared.devices.Fault.TheVariants as fault
-use Rattle.ddcmp_session.specs.declared.session.End.TheVariants as end_of
+use Rattle.ddcmp_session.specs.declared.session.EndReason.TheVariants as end_of
 use Rattle.ddcmp_session.specs.Devices.{Becomes, BuffersView, HasReported, KeepsFaults, Traffic}
 use Rattle.ddcmp_session.specs.Devices.{after_fault, after_read, after_wait}
 use Rattle.ddcmp_session.specs.Lines.{GoesOver, MayEndWell, ReportsOver}

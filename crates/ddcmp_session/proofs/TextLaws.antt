@@ -4,8 +4,8 @@ use Rattle.std.proofs.Common.{append-nil, append_assoc, ◌+◌, ◌-◌, ◌*�
 use Rattle.std.proofs.Common.{length, arith, codes, length-append}
 use Rattle.hex.specs.Hex.{encode_lower, lower_digits}
 use Rattle.hex.proofs.HexLemmas.{length-encode_with}
-use Rattle.ddcmp_session.specs.declared.messages.Form.{Form}
-use Rattle.ddcmp_session.specs.declared.messages.Form.TheVariants.{Digits, Binary}
+use Rattle.ddcmp_streams.specs.declared.messages.MessageForm.{MessageForm}
+use Rattle.ddcmp_streams.specs.declared.messages.MessageForm.TheVariants.{Digits, Binary}
 use Rattle.ddcmp_io.specs.Queue.{QueueView, after_pushed}
 use Rattle.ddcmp_session.specs.Text.{Puts, Wrote, mail_text}
 use Rattle.ddcmp_session.specs.declared.text.TheConstants.{LINE_ROOM}
@@ -66,7 +66,7 @@ pub hex-short : (bytes : List ℕ) → length (encode_lower bytes) ≡ 2 * lengt
 hex-short bytes = length-encode_with lower_digits bytes
 
 -- a message in digits, or in binary
-pub mail-short : (form : Form) (message : List ℕ)
+pub mail-short : (form : MessageForm) (message : List ℕ)
     → length (mail_text form message) ≤ 2 * length message + LINE_ROOM
 mail-short Digits message =
     omega (

@@ -8,19 +8,19 @@ use Rattle.ddcmp_frame.specs.Reader.{ReaderView}
 use Rattle.ddcmp_proto.specs.Bytes.{notices_of_piece, after_piece}
 use Rattle.ddcmp_station.specs.Linking.{after_frames, after_sent, after_taking}
 use Rattle.ddcmp_station.specs.Linking.{with_state}
-use Rattle.ddcmp_session.specs.declared.messages.Form.{Form}
-use Rattle.ddcmp_session.specs.declared.messages.Form.TheVariants.{Digits, Binary}
-use Rattle.ddcmp_session.specs.declared.messages.Messages.{Messages}
-use Rattle.ddcmp_session.specs.Messages.{entries_of_input}
+use Rattle.ddcmp_streams.specs.declared.messages.MessageForm.{MessageForm}
+use Rattle.ddcmp_streams.specs.declared.messages.MessageForm.TheVariants.{Digits, Binary}
+use Rattle.ddcmp_streams.specs.declared.messages.Messages.{Messages}
+use Rattle.ddcmp_streams.specs.Messages.{entries_of_input}
 use Rattle.ddcmp_io.specs.Queue.{after_taken}
 use Rattle.ddcmp_session.specs.Session.{SessionView, session_made, form_of, takes_end, wants_input}
 use Rattle.ddcmp_session.specs.Session.{wants_line}
-use Rattle.ddcmp_session.specs.Session.{after_typed, after_input_end, lost_by_end, IsFilled}
+use Rattle.ddcmp_session.specs.Session.{after_input_read, after_input_end, lost_by_end, IsFilled}
 use Rattle.ddcmp_session.specs.Course.{lost_more}
 use Rattle.ddcmp_session.specs.Session.{after_connected, after_timeout, course_received}
 use Rattle.ddcmp_session.specs.Session.{lost_among, lost_at_end}
 use Rattle.ddcmp_io.specs.declared.line_kind.LineKind.{LineKind}
-use Rattle.ddcmp_session.specs.declared.options.Options.{Options}
+use Rattle.ddcmp_streams.specs.declared.options.Options.{Options}
 use Rattle.ddcmp_session.specs.Text.{Wrote, mail_text, notices_text, reported_lost}
 use Rattle.ddcmp_session.specs.Timing.{PassesTime}
 
@@ -30,7 +30,7 @@ use Rattle.ddcmp_session.specs.Timing.{PassesTime}
 -- `TimePassed` is any call made while there is no line. Of the other calls `write_end` appends the
 -- last lines of a run to an output of lines; they change nothing else of a session's state.
 pub data SessionCall : Type 0 where
-  Typed : (used : List ℕ) → SessionCall
+  InputRead : (used : List ℕ) → SessionCall
   InputEnded : SessionCall
   Connected : SessionCall
   LineEnded : (is_reported : Bool) → SessionCall
@@ -50,8 +50,8 @@ abbrev pub CompletesLast : List ℕ → Messages → Type 0
 CompletesLast used m = (front : List ℕ) (byte : ℕ) → used ≡ front ++ byte ∷ []
     → entries_of_input front m ≡ []
 
-pub record HasTyped (used : List ℕ) (old new : SessionView) : Type 0 where
-  pub state : new ≡ after_typed used old
+pub record HasReadInput (used : List ℕ) (old new : SessionView) : Type 0 where
+  pub state : new ≡ after_input_read used old
   pub wanted : wants_input old ≡ false → used ≡ []
   pub part : CompletesLast used old.messages
 
@@ -115,7 +115,7 @@ pub record HasClosed (left : List ℕ) (is_at_end is_reported : Bool) (old new :
 
 -- `connected` clears the line; here it must be clear already.
 abbrev pub SessionDoes : SessionCall → List ℕ → SessionView → SessionView → Type 0
-SessionDoes (Typed used) text old new = HasTyped used old new
+SessionDoes (InputRead used) text old new = HasReadInput used old new
 SessionDoes InputEnded text old new = new ≡ after_input_end old
 SessionDoes Connected text old new =
     (new ≡ after_connected new.link.station.line old)
@@ -181,12 +181,12 @@ gone_in (LineTook n) s = take n s.link.outbox.waiting
 gone_in _ s = []
 
 -- the end of an input of lines ends its last line
-abbrev pub end_in : Form → List ℕ
+abbrev pub end_in : MessageForm → List ℕ
 end_in Digits = 10 ∷ []
 end_in Binary = []
 
 abbrev pub input_in : SessionCall → SessionView → List ℕ
-input_in (Typed used) s = used
+input_in (InputRead used) s = used
 input_in InputEnded s = if takes_end s then end_in (form_of s.messages) else []
 input_in _ s = []
 

@@ -193,7 +193,7 @@ HoldsMail s =
 -- received from the line wait for room, and so do received messages.
 pub record IsIdle (held : BuffersView) (s : SessionView) : Type 0 where
   pub filled : IsFilled s
-  pub typed : (held.input ≡ []) ⊎ (wants_input s ≡ false)
+  pub input_read : (held.input ≡ []) ⊎ (wants_input s ≡ false)
   pub told : (held.is_over ≡ false) ⊎ (wants_input s ≡ false)
   pub fed : (held.received ≡ []) ⊎ (wants_line s ≡ false)
   pub delivered : HoldsMail s

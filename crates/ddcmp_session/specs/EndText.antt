@@ -1,9 +1,7 @@
 -- The last lines of a session's run.
-use Rattle.std.specs.Prelude.{Bool, if◌then◌else◌, List, [], ◌++◌, ℕ, codes, decimal, Some}
+use Rattle.std.specs.Prelude.{Bool, if◌then◌else◌, List, [], ◌++◌, ℕ, codes, decimal}
 use Rattle.ddcmp_io.specs.Causes.{down_text}
 use Rattle.ddcmp_io.specs.declared.transfer.Down.{Down}
-use Rattle.ddcmp_io.specs.Queue.{QueueView}
-use Rattle.ddcmp_io.specs.Written.{Output}
 use Rattle.ddcmp_station.specs.Linking.{LinkView}
 use Rattle.ddcmp_station.specs.declared.counts.Layout.{Layout}
 use Rattle.ddcmp_station.specs.declared.counts.Layout.TheVariants.{Text}
@@ -27,13 +25,6 @@ end_line d =
 abbrev pub end_text : Bool → LinkView → List ℕ
 end_text counted d =
     if counted then counters_line [] d.station.core.counters ++ end_line d else end_line d
-
--- a queue as an output for text, by way of a page
-abbrev pub paged : QueueView → List ℕ → Output
-paged q page = record { broken = q.is_cut; sink = Some q.waiting; waiting = page }
-
-abbrev pub queued : QueueView → Output
-queued q = paged q []
 
 -- a line is down, and why
 abbrev pub line_down_text : Down → List ℕ

@@ -4,12 +4,13 @@ use Rattle.std.specs.Prelude.{Option, None, Some}
 use Rattle.ddcmp_io.specs.Written.{HandsOver}
 use Rattle.ddcmp_window.specs.Store.{first_message}
 use Rattle.ddcmp_session.specs.declared.devices.Fault.{Fault}
-use Rattle.ddcmp_session.specs.declared.messages.Form.TheVariants.{Digits, Binary}
+use Rattle.ddcmp_streams.specs.declared.messages.MessageForm.TheVariants.{Digits, Binary}
 use Rattle.ddcmp_session.specs.Session.{SessionView, form_of, room_for_mail}
 use Rattle.ddcmp_session.specs.Calls.{SessionCall, Delivered, OutputTook, SessionDoes}
 use Rattle.ddcmp_session.specs.Calls.{SessionStep, written_in}
 use Rattle.ddcmp_session.specs.Devices.{BuffersView, Traffic}
-use Rattle.ddcmp_session.specs.EndText.{end_text, queued}
+use Rattle.ddcmp_session.specs.EndText.{end_text}
+use Rattle.ddcmp_streams.specs.Queued.{queued}
 use Rattle.ddcmp_session.specs.Lines.{Ends}
 
 -- ---- received messages are delivered, and output is written

@@ -1,5 +1,4 @@
 pub mod EndText
-pub mod Errors
 pub mod Calls
 pub mod Connections
 pub mod Course
@@ -8,12 +7,11 @@ pub mod Filling
 pub mod Finishing
 pub mod Lines
 pub mod Logged
-pub mod Messages
 pub mod NewRun
 pub mod Reported
+pub mod Reports
 pub mod Session
 pub mod Stopping
 pub mod Text
 pub mod Timing
-pub mod Trace
 pub use Rattle.ddcmp_io.specs.Queue

@@ -8,22 +8,22 @@ use Rattle.ddcmp_station.specs.CountersText.{counters_line}
 use Rattle.ddcmp_station.specs.Linking.{LinkView, after_wake, total_plus}
 use Rattle.ddcmp_station.specs.StationText.{notice_line}
 use Rattle.ddcmp_io.specs.declared.transfer.Down.{Down}
-use Rattle.ddcmp_session.specs.declared.errors.TheConstants.{LAST_ROOM, SHORT_LINE}
-use Rattle.ddcmp_session.specs.declared.messages.Form.{Form}
-use Rattle.ddcmp_session.specs.declared.messages.Form.TheVariants as form
-use Rattle.ddcmp_session.specs.declared.messages.Messages.{Messages}
+use Rattle.ddcmp_streams.specs.declared.errors.TheConstants.{LAST_ROOM, SHORT_LINE}
+use Rattle.ddcmp_streams.specs.declared.messages.MessageForm.{MessageForm}
+use Rattle.ddcmp_streams.specs.declared.messages.MessageForm.TheVariants as form
+use Rattle.ddcmp_streams.specs.declared.messages.Messages.{Messages}
 use Rattle.ddcmp_session.specs.declared.text.TheConstants.{END_ROOM}
 use Rattle.ddcmp_session.specs.Course.{after_moment, after_pause, reports_at}
 use Rattle.ddcmp_session.specs.EndText.{end_line, line_down_text}
-use Rattle.ddcmp_session.specs.Errors.{ErrorsView, HasLine, HasObject, given_up_text}
-use Rattle.ddcmp_session.specs.Errors.{report_members, report_text}
-use Rattle.ddcmp_session.specs.Messages.{after_last, entry_of_last, is_message_unfinished}
-use Rattle.ddcmp_session.specs.Messages.{is_question}
+use Rattle.ddcmp_streams.specs.Errors.{ErrorsView, HasLine, HasObject}
+use Rattle.ddcmp_session.specs.Reports.{given_up_text, report_members, report_text}
+use Rattle.ddcmp_streams.specs.Messages.{after_last, entry_of_last, is_message_unfinished}
+use Rattle.ddcmp_streams.specs.Messages.{is_question}
 use Rattle.ddcmp_session.specs.Session.{SessionView, after_tried, expires, is_delivered}
-use Rattle.ddcmp_session.specs.Session.{report_ms}
+use Rattle.ddcmp_streams.specs.Options.{report_ms}
 use Rattle.ddcmp_session.specs.Text.{dropped_by, lost_line}
 use Rattle.ddcmp_session.specs.Timing.{is_given_up, stays}
-use Rattle.ddcmp_session.specs.Trace.{TraceView, HasLines, timer_lines}
+use Rattle.ddcmp_streams.specs.Trace.{TraceView, HasLines, timer_lines}
 
 -- The queued lines, the trace of the line if there is one, and how many messages of the input were
 -- read.
@@ -81,19 +81,19 @@ HasReport true lost d old new =
 
 -- how many accepted messages were dropped, if any, with messages in binary; otherwise this goes to
 -- standard output
-abbrev pub HasLost : Form → ℕ → ErrorsView → ErrorsView → Type 0
+abbrev pub HasLost : MessageForm → ℕ → ErrorsView → ErrorsView → Type 0
 HasLost form.Digits count old new = new ≡ old
 HasLost form.Binary count old new =
     MatchBool (count == 0) (new ≡ old) (HasLine SHORT_LINE (lost_line count) old new)
 
 -- a notice, and how many messages it drops
-abbrev pub HasNotice : Form → Notice → ErrorsView → ErrorsView → Type 0
+abbrev pub HasNotice : MessageForm → Notice → ErrorsView → ErrorsView → Type 0
 HasNotice form.Digits notice old new = new ≡ old
 HasNotice form.Binary notice old new =
     (mid : ErrorsView) × HasLine SHORT_LINE (notice_line [] notice) old mid
     × HasLost form.Binary (dropped_by notice) mid new
 
-abbrev pub HasNotices : Form → List Notice → ErrorsView → ErrorsView → Type 0
+abbrev pub HasNotices : MessageForm → List Notice → ErrorsView → ErrorsView → Type 0
 HasNotices by [] old new = new ≡ old
 HasNotices by (notice ∷ later) old new =
     (mid : ErrorsView) × HasNotice by notice old mid × HasNotices by later mid new

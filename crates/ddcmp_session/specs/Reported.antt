@@ -6,20 +6,20 @@ use Rattle.ddcmp_input.specs.declared.entry.Entry.{Entry}
 use Rattle.ddcmp_input.specs.declared.entry.Entry.TheVariants.{Message, NotHexadecimal}
 use Rattle.ddcmp_input.specs.declared.entry.Entry.TheVariants.{TooLong, Empty}
 use Rattle.ddcmp_station.specs.Linking.{total_plus}
-use Rattle.ddcmp_session.specs.declared.errors.TheConstants.{SHORT_LINE}
-use Rattle.ddcmp_session.specs.declared.messages.Messages.{Messages}
-use Rattle.ddcmp_session.specs.declared.messages.Messages.TheVariants.{Digits, Binary}
-use Rattle.ddcmp_session.specs.declared.options.Options.{Options}
+use Rattle.ddcmp_streams.specs.declared.errors.TheConstants.{SHORT_LINE}
+use Rattle.ddcmp_streams.specs.declared.messages.Messages.{Messages}
+use Rattle.ddcmp_streams.specs.declared.messages.Messages.TheVariants.{Digits, Binary}
+use Rattle.ddcmp_streams.specs.declared.options.Options.{Options}
 use Rattle.ddcmp_session.specs.declared.session.TheConstants.{ERRORS_ROOM}
 use Rattle.ddcmp_session.specs.declared.text.TheConstants.{LINE_ROOM}
-use Rattle.ddcmp_session.specs.Errors.{ErrorsView, HasLine, no_lines, refused_text}
+use Rattle.ddcmp_streams.specs.Errors.{ErrorsView, HasLine, no_lines, refused_text}
 use Rattle.ddcmp_session.specs.Logged.{LogView, LoggedSession, HasLost, HasReport, read_after}
 use Rattle.ddcmp_session.specs.Logged.{read_at_end, read_unfinished}
-use Rattle.ddcmp_session.specs.Messages.{after_input, after_last, entries_of_input}
-use Rattle.ddcmp_session.specs.Messages.{entry_of_last}
-use Rattle.ddcmp_session.specs.Messages.{is_message_unfinished, is_question}
+use Rattle.ddcmp_streams.specs.Messages.{after_input, after_last, entries_of_input}
+use Rattle.ddcmp_streams.specs.Messages.{entry_of_last}
+use Rattle.ddcmp_streams.specs.Messages.{is_message_unfinished, is_question}
 use Rattle.ddcmp_session.specs.Session.{form_of, lost_by_end}
-use Rattle.ddcmp_session.specs.Trace.{TraceView, IsNew}
+use Rattle.ddcmp_streams.specs.Trace.{TraceView, IsNew}
 
 -- ---- a new session
 
@@ -47,10 +47,6 @@ TracesIfAsked o None = o.trace ≡ false
 TracesIfAsked o (Some t) = (o.trace ≡ true) × IsNewTrace o t
 
 -- ---- a part of the input that is no message
-
-abbrev pub line_number : Messages → Option ℕ
-line_number (Digits v) = Some v.number
-line_number (Binary v) = None
 
 -- the name and the number of such a part, after `read` messages were read
 abbrev pub part_name : Messages → List ℕ
@@ -110,8 +106,8 @@ abbrev pub with_input : List ℕ → LoggedSession → LoggedSession
 with_input bytes s = with_messages (after_input bytes s.state.messages) s
 
 -- bytes of the input, up to the first that completes something
-abbrev pub ReportsTyped : List ℕ → LoggedSession → ErrorsView → Type 0
-ReportsTyped bytes s new =
+abbrev pub ReportsInput : List ℕ → LoggedSession → ErrorsView → Type 0
+ReportsInput bytes s new =
     ReportsEach (entries_of_input bytes s.state.messages) (with_input bytes s) new
 
 -- what the last line is, and then a message in binary whose end is missing

@@ -16,21 +16,22 @@ use Rattle.ddcmp_station.specs.Linking.{anew_for_maintenance, after_offered_main
 use Rattle.ddcmp_station.specs.Linking.{totals_after_feed}
 use Rattle.ddcmp_station.specs.declared.link.Totals.{Totals}
 use Rattle.ddcmp_session.specs.declared.course.Course.{Course}
-use Rattle.ddcmp_session.specs.declared.messages.Form.{Form}
-use Rattle.ddcmp_session.specs.declared.messages.Form.TheVariants as form
-use Rattle.ddcmp_session.specs.declared.messages.Messages.{Messages}
-use Rattle.ddcmp_session.specs.declared.messages.Messages.TheVariants.{Digits, Binary}
+use Rattle.ddcmp_streams.specs.declared.messages.MessageForm.{MessageForm}
+use Rattle.ddcmp_streams.specs.declared.messages.MessageForm.TheVariants as form
+use Rattle.ddcmp_streams.specs.declared.messages.Messages.{Messages}
+use Rattle.ddcmp_streams.specs.declared.messages.Messages.TheVariants.{Digits, Binary}
 use Rattle.ddcmp_io.specs.LineKinds.{is_connection}
 use Rattle.ddcmp_io.specs.declared.line_kind.LineKind.{LineKind}
-use Rattle.ddcmp_session.specs.declared.options.Options.{Options}
+use Rattle.ddcmp_streams.specs.declared.options.Options.{Options}
+use Rattle.ddcmp_streams.specs.Options.{report_ms}
 use Rattle.ddcmp_session.specs.declared.text.TheConstants.{LINE_ROOM, LOST_ROOM}
 use Rattle.ddcmp_session.specs.Course.{course_begun, after_connecting, after_moment, after_pause}
 use Rattle.ddcmp_session.specs.Course.{after_entering, lost_more}
 use Rattle.ddcmp_session.specs.Course.{try_counted, after_looked, after_notices}
-use Rattle.ddcmp_session.specs.Messages.{messages_begun, message_in, after_input}
-use Rattle.ddcmp_session.specs.Messages.{entries_of_input, after_last, entry_of_last}
-use Rattle.ddcmp_session.specs.Messages.{is_message_unfinished, is_question, count_of}
-use Rattle.ddcmp_session.specs.Messages.{has_last_line, messages_among}
+use Rattle.ddcmp_streams.specs.Messages.{messages_begun, message_in, after_input}
+use Rattle.ddcmp_streams.specs.Messages.{entries_of_input, after_last, entry_of_last}
+use Rattle.ddcmp_streams.specs.Messages.{is_message_unfinished, is_question, count_of}
+use Rattle.ddcmp_streams.specs.Messages.{has_last_line, messages_among}
 use Rattle.ddcmp_session.specs.declared.session.TheConstants.{OUTPUT_ROOM}
 use Rattle.ddcmp_io.specs.Queue.{QueueView, no_bytes}
 
@@ -48,13 +49,9 @@ pub record SessionView : Type 0 where
   pub was_refused : Bool
   pub output : QueueView
 
-abbrev pub form_of : Messages → Form
+abbrev pub form_of : Messages → MessageForm
 form_of (Digits v) = form.Digits
 form_of (Binary v) = form.Binary
-
--- the milliseconds between two reports of the counters
-abbrev pub report_ms : Options → ℕ
-report_ms o = 1000 * o.report
 
 -- a new session, whose line has received no bytes
 abbrev pub session_made : Options → LineKind → ReaderView → SessionView
@@ -125,8 +122,8 @@ after_entries [] s = s
 after_entries (entry ∷ rest) s = after_entry entry s
 
 -- bytes of the input, up to the first that completes something
-abbrev pub after_typed : List ℕ → SessionView → SessionView
-after_typed bytes s = after_entries (entries_of_input bytes s.messages)
+abbrev pub after_input_read : List ℕ → SessionView → SessionView
+after_input_read bytes s = after_entries (entries_of_input bytes s.messages)
     (record s { messages = after_input bytes s.messages })
 
 -- the end of the input: that of a last line, or within a message in binary, which is refused

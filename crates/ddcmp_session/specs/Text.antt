@@ -6,12 +6,12 @@ use Rattle.ddcmp_core.specs.declared.notice.Notice.{Notice}
 use Rattle.ddcmp_core.specs.declared.notice.Notice.TheVariants as notice
 use Rattle.ddcmp_input.specs.InBinary.{behind_length}
 use Rattle.ddcmp_station.specs.StationText.{notice_line}
-use Rattle.ddcmp_session.specs.declared.messages.Form.{Form}
-use Rattle.ddcmp_session.specs.declared.messages.Form.TheVariants.{Digits, Binary}
+use Rattle.ddcmp_streams.specs.declared.messages.MessageForm.{MessageForm}
+use Rattle.ddcmp_streams.specs.declared.messages.MessageForm.TheVariants.{Digits, Binary}
 use Rattle.ddcmp_io.specs.Queue.{QueueView, after_pushed}
 
 -- a received message
-abbrev pub mail_text : Form → List ℕ → List ℕ
+abbrev pub mail_text : MessageForm → List ℕ → List ℕ
 mail_text Digits message = codes "mail " ++ encode_lower message ++ codes "\n"
 mail_text Binary message = behind_length message
 
@@ -19,7 +19,7 @@ mail_text Binary message = behind_length message
 abbrev pub lost_line : ℕ → List ℕ
 lost_line count = codes "lost " ++ decimal count ++ codes "\n"
 
-abbrev pub lost_text : Form → ℕ → List ℕ
+abbrev pub lost_text : MessageForm → ℕ → List ℕ
 lost_text Digits count = if count == 0 then [] else lost_line count
 lost_text Binary count = []
 
@@ -28,16 +28,16 @@ dropped_by (notice.Restarted count) = count
 dropped_by _ = 0
 
 -- a notice; with messages in binary it doesn't go to standard output
-abbrev pub notice_text : Form → Notice → List ℕ
+abbrev pub notice_text : MessageForm → Notice → List ℕ
 notice_text Digits n = notice_line [] n ++ lost_text Digits (dropped_by n)
 notice_text Binary n = []
 
-unfoldable pub notices_text : Form → List Notice → List ℕ
+unfoldable pub notices_text : MessageForm → List Notice → List ℕ
 notices_text form [] = []
 notices_text form (n ∷ rest) = notice_text form n ++ notices_text form rest
 
 -- the report of a loss, if there was room
-abbrev pub reported_lost : Bool → Form → ℕ → List ℕ
+abbrev pub reported_lost : Bool → MessageForm → ℕ → List ℕ
 reported_lost has_room form count = if has_room then lost_text form count else []
 
 -- A text is appended if there is room for it.

@@ -7,9 +7,9 @@ use Rattle.ddcmp_station.specs.Driving.{later}
 use Rattle.ddcmp_station.specs.Linking.{wakes_at as timer_at}
 use Rattle.ddcmp_io.specs.declared.line_kind.LineKind.{LineKind}
 use Rattle.ddcmp_io.specs.declared.line_kind.LineKind.TheVariants.{Listen}
-use Rattle.ddcmp_session.specs.declared.session.End.{End}
-use Rattle.ddcmp_session.specs.declared.session.End.TheVariants.{Done, Time, Restarted}
-use Rattle.ddcmp_session.specs.declared.session.End.TheVariants.{GivenUp}
+use Rattle.ddcmp_session.specs.declared.session.EndReason.{EndReason}
+use Rattle.ddcmp_session.specs.declared.session.EndReason.TheVariants.{Done, Time, Restarted}
+use Rattle.ddcmp_session.specs.declared.session.EndReason.TheVariants.{GivenUp}
 use Rattle.ddcmp_session.specs.Course.{after_opening_failed, never}
 use Rattle.ddcmp_session.specs.Session.{SessionView, after_time, is_delivered}
 
@@ -57,7 +57,7 @@ abbrev pub run_ends_at : SessionView → ℕ
 run_ends_at s = 1000 * s.options.seconds
 
 -- why the line is to be left
-abbrev pub end : SessionView → Option End
+abbrev pub end : SessionView → Option EndReason
 end s =
     if nat_le (run_ends_at s) s.course.moment then Some Time
     else if s.has_line && s.course.peer_restarted then Some Restarted

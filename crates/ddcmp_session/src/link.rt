@@ -10,9 +10,10 @@ ghost use Rattle.ddcmp_session.specs.declared.link.LinkOutcome.{LinkOutcome as L
 
 use crate::buffers::{Buffers, Stop};
 use crate::devices::{Devices, Fault};
-use crate::options::{LineKind, Options};
 use crate::session::Session;
+use ddcmp_io::LineKind;
 use ddcmp_station::ConfigRefusal;
+use ddcmp_streams::Options;
 use std::alloc::Global;
 
 /// How a link ended that wasn't stopped.

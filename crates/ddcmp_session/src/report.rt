@@ -1,12 +1,13 @@
 //! Reports of the counters of a link, while it runs.
 ghost use Rattle.std.specs.Prelude.{◌+◌, ◌*◌};
-ghost use Rattle.ddcmp_session.specs.Errors.{HasLine, HasObject, report_members, report_text};
-ghost use Rattle.ddcmp_session.specs.declared.errors.TheConstants.{LAST_ROOM};
+ghost use Rattle.ddcmp_streams.specs.Errors.{HasLine, HasObject};
+ghost use Rattle.ddcmp_session.specs.Reports.{report_members, report_text};
+ghost use Rattle.ddcmp_streams.specs.declared.errors.TheConstants.{LAST_ROOM};
 ghost use Rattle.ddcmp_session.specs.declared.text.TheConstants.{END_ROOM};
 
-use crate::errors::{Errors, LAST_ROOM};
 use crate::text;
 use ddcmp_station::Link;
+use ddcmp_streams::errors::{Errors, LAST_ROOM};
 
 /// Writes a report for standard error as a line of text.
 pub(crate) fn write_line(errors: &mut Errors, link: &Link, lost: u64)

@@ -9,13 +9,10 @@ mod output;
 mod timing;
 
 use crate::course::Course;
-use crate::errors::Errors;
-use crate::messages::Messages;
-use crate::options::{LineKind, Options};
 use crate::text;
-use crate::trace::Trace;
-use ddcmp_io::ByteQueue;
+use ddcmp_io::{ByteQueue, LineKind};
 use ddcmp_station::{ConfigRefusal, Link};
+use ddcmp_streams::{Errors, Messages, Options, Trace};
 use std::alloc::Global;
 use std::marker::Model;
 
@@ -27,7 +24,7 @@ const ERRORS_ROOM: usize = 65536;
 
 /// The reason for which a session leaves its line.
 #[derive(Clone, Copy, Debug, PartialEq, Eq)]
-pub enum End {
+pub enum EndReason {
     /// All of the input was delivered, or lost with a line that has ended.
     Done,
     /// The time limit of the run was reached.
@@ -42,14 +39,14 @@ pub enum End {
 /// outputs. It makes all decisions, and has no device and no clock: pass it the received bytes and
 /// the current time in milliseconds since it was made, and write what it returns.
 ///
-/// Once a line is open call `connected`. Then, in any order: `typed` with bytes of the input while
-/// `wants_input`, and `input_ended` at its end if `takes_end`; `received` with bytes of the line
-/// while `wants_line`; `fill`, then write what `to_line` returns and call `line_took`; the same
-/// with `to_output` and `to_errors`; `deliver` after each of these, until it returns false. Call
-/// `handle_timeout` before and after each wait, and wait until `wakes_at` at most. If `end` returns
-/// a reason, or the line ends, call `line_ended`, which reports what is lost; without that call the
-/// loss is only counted, once the session starts on another line. `close` and `finish` end the run.
-/// No call after `new` allocates.
+/// Once a line is open call `connected`. Then, in any order: `input_read` with bytes of the input
+/// while `wants_input`, and `input_ended` at its end if `takes_end`; `received` with bytes of the
+/// line while `wants_line`; `fill`, then write what `to_line` returns and call `line_took`; the
+/// same with `to_output` and `to_errors`; `deliver` after each of these, until it returns false.
+/// Call `handle_timeout` before and after each wait, and wait until `wakes_at` at most. If `end`
+/// returns a reason, or the line ends, call `line_ended`, which reports what is lost; without that
+/// call the loss is only counted, once the session starts on another line. `close` and `finish` end
+/// the run. No call after `new` allocates.
 pub struct Session {
     options: Options,
     kind: LineKind,

@@ -2,19 +2,20 @@
 ghost use Rattle.std.specs.Prelude.{◌≡◌, ◌+◌, ◌*◌, ◌<◌, ◌≤◌, [], ◌++◌, length};
 ghost use Rattle.hex.specs.Hex.{encode_lower};
 ghost use Rattle.ddcmp_io.specs.Written.{HandsOver};
-ghost use Rattle.ddcmp_session.specs.EndText.{totals_text, end_line, end_text, queued, paged};
-ghost use Rattle.ddcmp_session.specs.Errors.{report_members, report_text};
+ghost use Rattle.ddcmp_session.specs.EndText.{totals_text, end_line, end_text};
+ghost use Rattle.ddcmp_streams.specs.Queued.{queued, paged};
+ghost use Rattle.ddcmp_session.specs.Reports.{report_members, report_text};
 ghost use Rattle.ddcmp_session.specs.Text.{Puts, mail_text, lost_line};
 ghost use Rattle.ddcmp_station.specs.CountersText.{counters_line};
 ghost use Rattle.ddcmp_station.specs.StationText.{notice_line, number_text};
 
-use crate::messages::Form;
 use ddcmp_io::text::put_digits;
 use ddcmp_io::{ByteQueue, Page};
 use ddcmp_station::{
     Layout, Link, Notice, notice_name, notice_number, state_name, write_counter, write_counters,
     write_counts, write_notice,
 };
+use ddcmp_streams::MessageForm;
 use itoa::Buffer;
 
 /// The longest line of a notice, in bytes.
@@ -73,18 +74,18 @@ fn put_hex(out: &mut ByteQueue, bytes: &[u8])
 }
 
 /// Writes a received message: a line of its digits, or its bytes after its length.
-pub(crate) fn write_mail(out: &mut ByteQueue, form: Form, message: &[u8])
+pub(crate) fn write_mail(out: &mut ByteQueue, form: MessageForm, message: &[u8])
     requires { length message.now < 65536 }
     ensures puts { Puts (mail_text form message.now) out.old out.new }
     ensures short { length (mail_text form message.now) ≤ 2 * length message.now + LINE_ROOM }
 {
     match form {
-        Form::Digits => {
+        MessageForm::Digits => {
             put(out, b"mail ");
             put_hex(out, message);
             put(out, b"\n");
         }
-        Form::Binary => {
+        MessageForm::Binary => {
             let length = u16::try_from(message.len()).unwrap_or(u16::MAX);
             put(out, &length.to_be_bytes());
             put(out, message);

@@ -10,7 +10,7 @@ use Rattle.ddcmp_window.specs.Store.{with_front}
 use Rattle.ddcmp_core.specs.Table.{Frame, Data, Acked, Naked, Rep, Strt, Stack, Maint}
 use Rattle.ddcmp_core.specs.Frames.{header_of, message_of}
 use Rattle.ddcmp_proto.specs.Bytes.{frame_on_line}
-use Rattle.ddcmp_station.specs.Linking.{bytes_of}
+use Rattle.ddcmp_station.specs.Driving.{frame_bytes}
 
 -- after the first bytes others are put
 pub put_behind : (e k : ℕ) (xs fs rest : List ℕ) → e ≤ length xs → k ≡ length fs
@@ -44,7 +44,7 @@ some_bytes syn f =
     (arith, length-append (replicate syn SYN) (wire (header_of f) (message_of f)), wire_some f)
 
 pub less_room : (syn : ℕ) (f : Option Frame) (room : ℕ) → is_some f ≡ true → 0 < room
-    → room - length (bytes_of syn f) < room
+    → room - length (frame_bytes syn f) < room
 less_room syn None room e r = cc
 less_room syn (Some f) room e r = omega (arith, some_bytes syn f, r)
 
@@ -52,7 +52,7 @@ less_room syn (Some f) room e r = omega (arith, some_bytes syn f, r)
 pub framed : (syn : ℕ) (f : Option Frame) (s e k : ℕ) (xs old : List ℕ) → s ≤ e → e ≤ length xs
     → Some k ≡ option_map length (option_map (frame_on_line syn) f)
     → drop s (take (e + k) (take e xs ++ with_front (option_map (frame_on_line syn) f) old))
-    ≡ drop s (take e xs) ++ bytes_of syn f
+    ≡ drop s (take e xs) ++ frame_bytes syn f
 framed syn None s e k xs old le within is = cc
 framed syn (Some f) s e k xs old le within is =
     let fs = frame_on_line syn f in
@@ -60,6 +60,6 @@ framed syn (Some f) s e k xs old le within is =
     put_left s e k xs fs (drop (length fs) old) le within counted
 
 pub framed_length : (syn : ℕ) (f : Option Frame) (k : ℕ)
-    → Some k ≡ option_map length (option_map (frame_on_line syn) f) → length (bytes_of syn f) ≡ k
+    → Some k ≡ option_map length (option_map (frame_on_line syn) f) → length (frame_bytes syn f) ≡ k
 framed_length syn None k is = cc
 framed_length syn (Some f) k is = cc

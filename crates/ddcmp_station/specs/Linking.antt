@@ -19,12 +19,12 @@ use Rattle.ddcmp_core.specs.Table.{after_enter_maintenance, send_maintenance_ref
 use Rattle.ddcmp_core.specs.Table.{may_send_maintenance}
 use Rattle.ddcmp_core.specs.Core.{CoreView}
 use Rattle.ddcmp_core.specs.Frames.{header_of}
-use Rattle.ddcmp_proto.specs.Bytes.{after_poll, frame_on_line}
+use Rattle.ddcmp_proto.specs.Bytes.{after_poll}
 use Rattle.ddcmp_proto.specs.Config.{core_made}
 use Rattle.ddcmp_proto.specs.declared.config.Config.{Config}
 use Rattle.ddcmp_proto.specs.Station.{StationView}
 use Rattle.ddcmp_station.specs.Driving.{deadline_at, core_at_deadline, core_after_take_arm}
-use Rattle.ddcmp_station.specs.Driving.{core_after_halt}
+use Rattle.ddcmp_station.specs.Driving.{core_after_halt, frame_bytes}
 use Rattle.ddcmp_station.specs.declared.link.Totals.{Totals}
 use Rattle.ddcmp_station.specs.declared.outbox.TheConstants.{ROOM}
 
@@ -204,13 +204,9 @@ polls d = fits d && not (holds_back d)
 abbrev pub puts_frame : LinkView → Bool
 puts_frame d = polls d && is_some (frame_of_link d)
 
-abbrev pub bytes_of : ℕ → Option Frame → List ℕ
-bytes_of syn None = []
-bytes_of syn (Some f) = frame_on_line syn f
-
 abbrev pub after_polled : LinkView → LinkView
 after_polled d = record (with_core (after_poll d.station.core) d) {
-  outbox = after_put (bytes_of d.station.syn (frame_of_link d)) d.outbox;
+  outbox = after_put (frame_bytes d.station.syn (frame_of_link d)) d.outbox;
 }
 
 abbrev pub after_frame : LinkView → LinkView

@@ -12,6 +12,7 @@ pub struct Elapsed<'a, C> {
 }
 
 impl<'a, C: time::Clock> Elapsed<'a, C> {
+    /// Begins to measure.
     pub fn new(clock: &'a C) -> Self {
         Elapsed {
             clock,

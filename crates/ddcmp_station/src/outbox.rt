@@ -1,7 +1,8 @@
 //! The bytes pending for the line.
 ghost use Rattle.std.specs.Prelude.{◌≡◌, ◌+◌, ◌≤◌, ◌++◌, IfOk, IfSome, drop, take, length, is_some};
 ghost use Rattle.std.specs.Prelude.{option_map, vec_len};
-ghost use Rattle.ddcmp_station.specs.Linking.{no_bytes, after_taken, after_put, bytes_of};
+ghost use Rattle.ddcmp_station.specs.Linking.{no_bytes, after_taken, after_put};
+ghost use Rattle.ddcmp_station.specs.Driving.{frame_bytes};
 ghost use Rattle.ddcmp_core.specs.Table.{next, next_frame};
 ghost use Rattle.ddcmp_proto.specs.Bytes.{after_poll, frame_on_line};
 ghost use Rattle.ddcmp_window.specs.Store.{with_front};
@@ -63,7 +64,7 @@ impl Outbox {
         requires { station.old.syn + station.old.core.limits.longest + 10 ≤ self.old.room }
         ensures station { station.new ≡ record station.old { core = after_poll station.old.core } }
         ensures bytes { self.new ≡ after_put
-            (bytes_of station.old.syn (next_frame (next station.old.core.station))) self.old }
+            (frame_bytes station.old.syn (next_frame (next station.old.core.station))) self.old }
         ensures answer { result ≡ is_some (next_frame (next station.old.core.station)) }
     {
         match poll_after(station, &mut self.bytes, self.end) {

@@ -1,7 +1,7 @@
 -- A direction that has just begun.
 use Rattle.std.proofs.Common.{◌≡◌, ◌∙◌, ap, sym, subst, ℕ, [], Bool, true, false}
 use Rattle.ddcmp_tap.specs.Passing.{DirectionView, Passes}
-use Rattle.ddcmp_tap.specs.declared.notation.Notation.{Notation}
+use Rattle.ddcmp_tap.specs.declared.notation.LogNotation.{LogNotation}
 use Rattle.ddcmp_tap.specs.declared.side.Side.{Side}
 use Rattle.ddcmp_tap.specs.Pumping.{Begins, Ends, FlowView, IsOf}
 
@@ -15,7 +15,7 @@ fresh flow c e = record {
 }
 
 pub begun
-    : (side : Side) (notation : Notation) (max : ℕ) (flow : FlowView) (made : DirectionView)
+    : (side : Side) (notation : LogNotation) (max : ℕ) (flow : FlowView) (made : DirectionView)
     → flow.direction ≡ made → flow.closed ≡ false → Passes made [] [] []
     → IsOf side notation max made → made.ended ≡ false → Begins side notation max flow
 begun side notation max flow made is closed passes of ended = record {

@@ -1,13 +1,13 @@
 -- What a tap says below a head.
-use Rattle.std.proofs.Common.{◌≡◌, ◌≢◌, ℕ, List, [], ◌++◌, refl, Bool, true, false, Option, Some, None}
-use Rattle.std.proofs.Common.{Result, Ok, Err, is_err, is_some, inl, inr, ◌⊎◌, subst, sym}
+use Rattle.std.proofs.Common.{◌≡◌, ◌≢◌, ℕ, List, [], ◌++◌, refl, Bool, true, false, Option, Some}
+use Rattle.std.proofs.Common.{None, Result, Ok, Err, is_err, is_some, inl, inr, ◌⊎◌, subst, sym}
 use Rattle.std.specs.Io.KnownBytes.{Appends}
 use Rattle.std.proofs.KnownBytes.{Appends-nil, Appends-trans, Keeps-refl}
 use Rattle.std.proofs.lemmas.List.Elements.{All-nil}
 use Rattle.ddcmp_io.specs.declared.device.WriteFailed.{WriteFailed}
 use Rattle.ddcmp_io.specs.Written.{Known, Writes}
 use Rattle.ddcmp_io.proofs.WrittenLaws.{part-append}
-use Rattle.ddcmp_tap.specs.declared.notation.Notation.{Notation}
+use Rattle.ddcmp_tap.specs.declared.notation.LogNotation.{LogNotation}
 use Rattle.ddcmp_tap.specs.declared.tap_fault.CarrierFault.{CarrierFault}
 use Rattle.ddcmp_tap.specs.declared.tap_fault.TapFault.{TapFault}
 use Rattle.ddcmp_tap.specs.declared.tap_fault.TapFault.TheVariants.{Carrier, Read, Write, Report}
@@ -26,7 +26,7 @@ asked false = refl
 
 -- nothing was said of either side
 unsaid
-    : (head : List ℕ) (notation : Notation) (timed : Bool) (max : ℕ) (old new : Known)
+    : (head : List ℕ) (notation : LogNotation) (timed : Bool) (max : ℕ) (old new : Known)
     (fault : TapFault)
     → WritesText old new (Err fault) (head ++ tap_text notation max (moment timed) [])
     → Says head notation timed max old new (Err fault)
@@ -38,21 +38,19 @@ unsaid head notation timed max old new fault wrote =
       wrote = wrote;
     }
 
-pub no-memory : (head : List ℕ) (notation : Notation) (timed : Bool) (max : ℕ) (old : Known)
+pub no-memory : (head : List ℕ) (notation : LogNotation) (timed : Bool) (max : ℕ) (old : Known)
     → Says head notation timed max old old (Err Memory)
 no-memory head notation timed max old =
     unsaid head notation timed max old old Memory (0, Appends-nil old)
 
-pub no-carrier
-    : (head : List ℕ) (notation : Notation) (timed : Bool) (max : ℕ) (old : Known) (why : CarrierFault)
-    → Says head notation timed max old old (Err (Carrier why))
+pub no-carrier : (head : List ℕ) (notation : LogNotation) (timed : Bool) (max : ℕ) (old : Known)
+    (why : CarrierFault) → Says head notation timed max old old (Err (Carrier why))
 no-carrier head notation timed max old why =
     unsaid head notation timed max old old (Carrier why) (Keeps-refl old)
 
 -- nothing has begun, for one reason or the other
-pub not-begun
-    : (head : List ℕ) (notation : Notation) (timed : Bool) (max : ℕ) (old : Known) (fault : TapFault)
-    → (fault ≡ Memory) ⊎ ((why : CarrierFault) × (fault ≡ Carrier why))
+pub not-begun : (head : List ℕ) (notation : LogNotation) (timed : Bool) (max : ℕ) (old : Known)
+    (fault : TapFault) → (fault ≡ Memory) ⊎ ((why : CarrierFault) × (fault ≡ Carrier why))
     → Says head notation timed max old old (Err fault)
 not-begun head notation timed max old fault (inl e) =
     subst (λ f. Says head notation timed max old old (Err f)) (sym e)
@@ -63,7 +61,7 @@ not-begun head notation timed max old fault (inr (why, e)) =
 
 -- the head wasn't written whole
 pub no-head
-    : (head : List ℕ) (notation : Notation) (timed : Bool) (max : ℕ) (old new : Known)
+    : (head : List ℕ) (notation : LogNotation) (timed : Bool) (max : ℕ) (old new : Known)
     (result : Result (Unit {0}) WriteFailed) → is_err result ≡ true → Writes old new result head
     → Says head notation timed max old new (Err Report)
 no-head head notation timed max old new (Ok u) e w = cc
@@ -84,7 +82,7 @@ behind old mid new head text (Err Memory) met a w = part-behind old mid new head
 
 -- the head was written, and below it what was said
 pub said-below
-    : (head : List ℕ) (notation : Notation) (timed : Bool) (max : ℕ) (old mid new : Known)
+    : (head : List ℕ) (notation : LogNotation) (timed : Bool) (max : ℕ) (old mid new : Known)
     (wrote : Result (Unit {0}) WriteFailed) (result : Result (Unit {0}) TapFault)
     → ((why : CarrierFault) → result ≢ Err (Carrier why)) → is_err wrote ≡ false
     → Writes old mid wrote head

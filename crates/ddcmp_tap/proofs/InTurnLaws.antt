@@ -6,7 +6,7 @@ use Rattle.std.specs.Io.KnownBytes.{Appends}
 use Rattle.std.proofs.KnownBytes.{Appends-kept, Appends-nil, Appends-trans}
 use Rattle.std.proofs.lemmas.List.Elements.{All-cons, All-nil}
 use Rattle.ddcmp_io.specs.Written.{Known}
-use Rattle.ddcmp_tap.specs.declared.notation.Notation.{Notation}
+use Rattle.ddcmp_tap.specs.declared.notation.LogNotation.{LogNotation}
 use Rattle.ddcmp_tap.specs.declared.tap_fault.CarrierFault.{CarrierFault}
 use Rattle.ddcmp_tap.specs.declared.tap_fault.TapFault.{TapFault}
 use Rattle.ddcmp_tap.specs.declared.tap_fault.TapFault.TheVariants.{Carrier, Read, Write, Report}
@@ -20,12 +20,12 @@ abbrev pub IsStamped : Bool → Carried → Type 0
 IsStamped timed c = AreStamped timed c.pieces × (is_some c.stamp ≡ timed)
 
 -- all that was written so far is whole logs
-pub record Whole (notation : Notation) (timed : Bool) (max : ℕ) (old new : Known) : Type 0 where
+pub record Whole (notation : LogNotation) (timed : Bool) (max : ℕ) (old new : Known) : Type 0 where
   pub carried : List Carried
   pub stamped : All (IsStamped timed) carried
   pub wrote : Appends old new (carried_text notation max carried)
 
-pub begins : (notation : Notation) (timed : Bool) (max : ℕ) (old : Known)
+pub begins : (notation : LogNotation) (timed : Bool) (max : ℕ) (old : Known)
     → Whole notation timed max old old
 unfolding carried_text
 begins notation timed max old = record {
@@ -35,7 +35,7 @@ begins notation timed max old = record {
 }
 
 -- one log more
-one_more : (notation : Notation) (timed : Bool) (max : ℕ) (old mid new : Known) (c : Carried)
+one_more : (notation : LogNotation) (timed : Bool) (max : ℕ) (old mid new : Known) (c : Carried)
     → Whole notation timed max old mid → IsStamped timed c
     → Appends mid new (head_of notation ++ tap_text notation max c.stamp c.pieces)
     → Whole notation timed max old new
@@ -48,7 +48,7 @@ one_more notation timed max old mid new c w s a = record {
 }
 
 -- of one that another caller follows all was written, or nothing
-pub goes_on : (notation : Notation) (timed : Bool) (max : ℕ) (old mid new : Known)
+pub goes_on : (notation : LogNotation) (timed : Bool) (max : ℕ) (old mid new : Known)
     (result : Result (Unit {0}) TapFault) → PassesOver result → Whole notation timed max old mid
     → Says (head_of notation) notation timed max mid new result → Whole notation timed max old new
 goes_on notation timed max old mid new (Ok u) p w s =
@@ -69,7 +69,8 @@ goes_on notation timed max old mid new (Err Report) p w s = absurd p
 goes_on notation timed max old mid new (Err Memory) p w s = absurd p
 
 -- the last
-pub ends : (notation : Notation) (timed : Bool) (max : ℕ) (old mid new : Known) (fault : TapFault)
+pub ends : (notation : LogNotation) (timed : Bool) (max : ℕ) (old mid new : Known)
+    (fault : TapFault)
     → Whole notation timed max old mid
     → Says (head_of notation) notation timed max mid new (Err fault)
     → SaysInTurn notation timed max old new fault
@@ -82,8 +83,9 @@ ends notation timed max old mid new fault w s = record {
 }
 
 -- no connection could be made
-pub carrier_fault : (notation : Notation) (timed : Bool) (max : ℕ) (old mid : Known) (why : CarrierFault)
-    → Whole notation timed max old mid → SaysInTurn notation timed max old mid (Carrier why)
+pub carrier_fault : (notation : LogNotation) (timed : Bool) (max : ℕ) (old mid : Known)
+    (why : CarrierFault) → Whole notation timed max old mid
+    → SaysInTurn notation timed max old mid (Carrier why)
 carrier_fault notation timed max old mid why w =
     ends notation timed max old mid mid (Carrier why) w
     (no-carrier (head_of notation) notation timed max mid why)

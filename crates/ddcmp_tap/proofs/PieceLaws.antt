@@ -9,7 +9,7 @@ use Rattle.std.proofs.lemmas.List.{append-nil, take-append-drop}
 use Rattle.std.proofs.lemmas.List.Elements.{All-cons, All-nil}
 use Rattle.ddcmp_io.specs.Written.{AppendsPart, Known}
 use Rattle.ddcmp_frame.specs.Reading.{items}
-use Rattle.ddcmp_tap.specs.declared.notation.Notation.{Notation}
+use Rattle.ddcmp_tap.specs.declared.notation.LogNotation.{LogNotation}
 use Rattle.ddcmp_tap.specs.declared.side.Side.{Side}
 use Rattle.ddcmp_tap.specs.declared.side.Side.TheVariants.{Caller, Called}
 use Rattle.ddcmp_tap.specs.Passing.{DirectionView, HasTold, Passes, Tells}
@@ -25,7 +25,7 @@ use Rattle.ddcmp_tap.specs.Pumping.{items_added, pieces_text, said}
 
 -- the text of the items that bytes add
 pub text-told
-    : (notation : Notation) (side : Side) (max : ℕ) (stamp : Option ℕ) (told more text : List ℕ)
+    : (notation : LogNotation) (side : Side) (max : ℕ) (stamp : Option ℕ) (told more text : List ℕ)
     → Tells notation side max stamp told more [] text
     → text ≡ tapped_lines notation stamp side (items_added max told more)
 text-told notation side max stamp told more text t =
@@ -109,7 +109,7 @@ piece_of side stamp flow =
     record { side = side; stamp = stamp; bytes = flow.direction.queue.unlogged }
 
 lines-as
-    : (side : Side) (notation : Notation) (max : ℕ) (stamp : Option ℕ) (d : DirectionView)
+    : (side : Side) (notation : LogNotation) (max : ℕ) (stamp : Option ℕ) (d : DirectionView)
     (told more : List ℕ)
     → IsOf side notation max d
     → tapped_lines d.notation stamp d.side (items_added d.frames.max told more)
@@ -119,7 +119,7 @@ lines-as side notation max stamp d told more is =
     ∙ ap (λ x. tapped_lines notation stamp x (items_added d.frames.max told more)) is.0
     ∙ ap (λ x. tapped_lines notation stamp side (items_added x told more)) is.2
 
-pub is-still : (side : Side) (notation : Notation) (max : ℕ) (a b : DirectionView) → IsSame a b
+pub is-still : (side : Side) (notation : LogNotation) (max : ℕ) (a b : DirectionView) → IsSame a b
     → IsOf side notation max a → IsOf side notation max b
 is-still side notation max a b s i = (s.0 ∙ i.0, s.1 ∙ i.1, s.2 ∙ i.2)
 
@@ -142,7 +142,7 @@ said-caller : (stamp : Option ℕ) (more : List ℕ) (pieces : List Piece)
 unfolding said
 said-caller stamp more pieces = append-nil (said Caller pieces)
 
-text-more : (notation : Notation) (max : ℕ) (p : Piece) (pieces : List Piece)
+text-more : (notation : LogNotation) (max : ℕ) (p : Piece) (pieces : List Piece)
     → pieces_text notation max pieces
     ++ tapped_lines notation p.stamp p.side (items_added max (said p.side pieces) p.bytes)
     ≡ pieces_text notation max (p ∷ pieces)
@@ -153,7 +153,7 @@ pub said-none : (side : Side) → said side [] ≡ []
 unfolding said
 said-none side = refl
 
-pub text-none : (notation : Notation) (max : ℕ) → pieces_text notation max [] ≡ []
+pub text-none : (notation : LogNotation) (max : ℕ) → pieces_text notation max [] ≡ []
 unfolding pieces_text
 text-none notation max = refl
 
@@ -189,8 +189,8 @@ not-report fault (inr (inl e)) (inr o) = let bad : Read ≡ Memory = sym e ∙ o
 not-report fault (inr (inr e)) (inl o) = let bad : Write ≡ Report = sym e ∙ o in cc
 not-report fault (inr (inr e)) (inr o) = let bad : Write ≡ Memory = sym e ∙ o in cc
 
-written : (old new : Known) (text : List ℕ) (result : Result (Unit {0}) TapFault) → HasReported result
-    → Appends old new text → WritesText old new result text
+written : (old new : Known) (text : List ℕ) (result : Result (Unit {0}) TapFault)
+    → HasReported result → Appends old new text → WritesText old new result text
 written old new text (Ok u) h a = a
 written old new text (Err Read) h a = a
 written old new text (Err Write) h a = a
@@ -199,7 +199,7 @@ written old new text (Err Report) h a = absurd h
 written old new text (Err Memory) h a = absurd h
 
 pub last-as
-    : (side : Side) (notation : Notation) (max : ℕ) (stamp : Option ℕ) (d : DirectionView)
+    : (side : Side) (notation : LogNotation) (max : ℕ) (stamp : Option ℕ) (d : DirectionView)
     (told : List ℕ)
     → IsOf side notation max d
     → tapped_last d.notation stamp d.side d.frames.max told
@@ -211,7 +211,7 @@ last-as side notation max stamp d told is =
 
 -- where nothing has come yet, a tap runs
 pub begins-runs
-    : (notation : Notation) (timed : Bool) (max : ℕ) (up down : FlowView) (start : Known)
+    : (notation : LogNotation) (timed : Bool) (max : ℕ) (up down : FlowView) (start : Known)
     → Begins Caller notation max up → Begins Called notation max down
     → Runs notation timed max up up down down start start
 begins-runs notation timed max up down start u d = record {
@@ -242,7 +242,7 @@ begins-runs notation timed max up down start u d = record {
       });
 }
 
-module _ (notation : Notation) (timed : Bool) (max : ℕ) (stamp : Option ℕ)
+module _ (notation : LogNotation) (timed : Bool) (max : ℕ) (stamp : Option ℕ)
     (stamped : is_some stamp ≡ timed) (up0 down0 : FlowView) (start : Known) where
   -- the one direction was reported, and the other not yet
   pub record Half (up down : FlowView) (now : Known) : Type 0 where

@@ -1,7 +1,7 @@
 -- What follows from whether the last lines of a tap are to come.
 use Rattle.std.proofs.Common.{ℕ, Bool, Result, Ok, Err, inl, inr, refl}
 use Rattle.ddcmp_io.specs.Written.{Known}
-use Rattle.ddcmp_tap.specs.declared.notation.Notation.{Notation}
+use Rattle.ddcmp_tap.specs.declared.notation.LogNotation.{LogNotation}
 use Rattle.ddcmp_tap.specs.declared.tap_fault.TapFault.{TapFault}
 use Rattle.ddcmp_tap.specs.declared.tap_fault.TapFault.TheVariants.{Carrier, Read, Write, Report}
 use Rattle.ddcmp_tap.specs.declared.tap_fault.TapFault.TheVariants.{Memory}
@@ -10,7 +10,7 @@ use Rattle.ddcmp_tap.proofs.PieceLaws.{moment, moment-timed, pumps-stopped}
 
 -- a tap whose last lines are to come runs
 pub runs-said
-    : (notation : Notation) (timed : Bool) (max : ℕ) (up0 up down0 down : FlowView)
+    : (notation : LogNotation) (timed : Bool) (max : ℕ) (up0 up down0 down : FlowView)
     (old new : Known) (ended : Result (Unit {0}) TapFault) → HasReported ended
     → Stops notation timed max up0 up down0 down old new ended
     → Runs notation timed max up0 up down0 down old new
@@ -23,7 +23,7 @@ runs-said notation timed max up0 up down0 down old new (Err Memory) h s = absurd
 
 -- a tap that has no last lines was stopped
 pub pumps-unsaid
-    : (notation : Notation) (timed : Bool) (max : ℕ) (up0 up down0 down : FlowView)
+    : (notation : LogNotation) (timed : Bool) (max : ℕ) (up0 up down0 down : FlowView)
     (old new : Known) (ended : Result (Unit {0}) TapFault) → (HasReported ended → ⊥)
     → Stops notation timed max up0 up down0 down old new ended
     → Pumps notation timed max up0 up down0 down old new ended

@@ -7,7 +7,7 @@ use Rattle.std.proofs.lemmas.Grind.{flat_map-append}
 use Rattle.ddcmp_frame.specs.declared.item.Item.{Item}
 use Rattle.ddcmp_frame.specs.Reader.{ReaderView, StandsFor}
 use Rattle.ddcmp_frame.specs.Reading.{ReadItem, items}
-use Rattle.ddcmp_tap.specs.declared.notation.Notation.{Notation}
+use Rattle.ddcmp_tap.specs.declared.notation.LogNotation.{LogNotation}
 use Rattle.ddcmp_tap.specs.declared.side.Side.{Side}
 use Rattle.ddcmp_tap.specs.Tapped.{tapped_line, tapped_lines}
 use Rattle.ddcmp_tap.specs.Passing.{HasTold, Tells}
@@ -26,7 +26,7 @@ counts frames new count after told more given h s m e n = record {
       ∙ ap length (sym e) ∙ ap (λ k. length (items k (told ++ more))) (sym m);
 }
 
-module _ (notation : Notation) (side : Side) (max : ℕ) (stamp : Option ℕ) where
+module _ (notation : LogNotation) (side : Side) (max : ℕ) (stamp : Option ℕ) where
   pub tells-nothing : (told was : List ℕ) → Tells notation side max stamp told [] was was
   unfolding tapped_lines
   tells-nothing told was = record {
@@ -72,7 +72,7 @@ module _ (notation : Notation) (side : Side) (max : ℕ) (stamp : Option ℕ) wh
   }
 
 -- the same of a direction whose names are others
-pub tells-of : (n m : Notation) (s t : Side) (a b : ℕ) (stamp : Option ℕ)
+pub tells-of : (n m : LogNotation) (s t : Side) (a b : ℕ) (stamp : Option ℕ)
     (told more was text : List ℕ) → n ≡ m → s ≡ t → a ≡ b
     → Tells n s a stamp told more was text → Tells m t b stamp told more was text
 tells-of n m s t a b stamp told more was text en es ea h =

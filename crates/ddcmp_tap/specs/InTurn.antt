@@ -3,7 +3,7 @@ use Rattle.std.specs.Prelude.{◌≡◌, ◌≢◌, ⊤, ℕ, Bool, List, [], �
 use Rattle.std.specs.Prelude.{Result, Ok, Err}
 use Rattle.std.specs.Io.KnownBytes.{Appends}
 use Rattle.ddcmp_io.specs.Written.{Known}
-use Rattle.ddcmp_tap.specs.declared.notation.Notation.{Notation}
+use Rattle.ddcmp_tap.specs.declared.notation.LogNotation.{LogNotation}
 use Rattle.ddcmp_tap.specs.declared.tap_fault.Stage.TheVariants.{Connect}
 use Rattle.ddcmp_tap.specs.declared.tap_fault.TapFault.{TapFault}
 use Rattle.ddcmp_tap.specs.declared.tap_fault.TapFault.TheVariants.{Carrier, Read, Write, Report}
@@ -17,7 +17,7 @@ pub record Carried : Type 0 where
 
 -- the logs of connections in order, each with its heading and its last lines; the list has the last
 -- connection first
-unfoldable pub carried_text : Notation → ℕ → List Carried → List ℕ
+unfoldable pub carried_text : LogNotation → ℕ → List Carried → List ℕ
 carried_text notation max [] = []
 carried_text notation max (c ∷ before) =
     carried_text notation max before
@@ -25,7 +25,7 @@ carried_text notation max (c ∷ before) =
 
 -- What a tap wrote for several callers in turn, until a fault: the whole log of each connection,
 -- and then what it wrote for the last one.
-pub record SaysInTurn (notation : Notation) (timed : Bool) (max : ℕ) (old new : Known)
+pub record SaysInTurn (notation : LogNotation) (timed : Bool) (max : ℕ) (old new : Known)
     (fault : TapFault) : Type 0 where
   pub carried : List Carried
   pub stamped : All (λ (c : Carried). AreStamped timed c.pieces × (is_some c.stamp ≡ timed)) carried

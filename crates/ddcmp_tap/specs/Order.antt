@@ -13,32 +13,32 @@ use Rattle.ddcmp_frame.specs.declared.item.Item.TheVariants as item
 use Rattle.ddcmp_tap.specs.declared.order.SideSummary.{SideSummary}
 use Rattle.ddcmp_tap.specs.declared.order.Order.{Order}
 use Rattle.ddcmp_tap.specs.declared.order.ItemSummary.{ItemSummary}
-use Rattle.ddcmp_tap.specs.declared.order.ItemSummary.TheVariants.{Bad, Maint, Data, Ack, Nak, Rep, Strt}
-use Rattle.ddcmp_tap.specs.declared.order.ItemSummary.TheVariants.{Stack}
+use Rattle.ddcmp_tap.specs.declared.order.ItemSummary.TheVariants.{Bad, Maint, Data, Ack, Nak, Rep}
+use Rattle.ddcmp_tap.specs.declared.order.ItemSummary.TheVariants.{Strt, Stack}
 use Rattle.ddcmp_tap.specs.declared.side.Side.{Side}
 use Rattle.ddcmp_tap.specs.declared.side.Side.TheVariants.{Caller, Called}
 
 -- ---- what the order needs to know about an item
 
 -- a NAK of reason 3 is the reply to a REP
-abbrev pub control_word : ControlType → ShortFields → ItemSummary
-control_word control.Ack h = Ack h.resp
-control_word control.Nak h = Nak h.resp (h.sub == 3)
-control_word control.Rep h = Rep
-control_word control.Strt h = Strt
-control_word control.Stack h = Stack
+abbrev pub control_summary : ControlType → ShortFields → ItemSummary
+control_summary control.Ack h = Ack h.resp
+control_summary control.Nak h = Nak h.resp (h.sub == 3)
+control_summary control.Rep h = Rep
+control_summary control.Strt h = Strt
+control_summary control.Stack h = Stack
 
-abbrev pub header_word : Header → ItemSummary
-header_word (header.Data h) = Data h.resp h.num
-header_word (header.Maint h) = Maint
-header_word (header.Control h) = control_word h.kind h
+abbrev pub header_summary : Header → ItemSummary
+header_summary (header.Data h) = Data h.resp h.num
+header_summary (header.Maint h) = Maint
+header_summary (header.Control h) = control_summary h.kind h
 
-abbrev pub word_of : Item → ItemSummary
-word_of (item.Good offset h) = header_word h
-word_of (item.HeaderCheck offset) = Bad
-word_of (item.DataCheck offset h) = Bad
-word_of (item.TooLong offset h) = Bad
-word_of (item.Format offset fault) = Bad
+abbrev pub summary_of : Item → ItemSummary
+summary_of (item.Good offset h) = header_summary h
+summary_of (item.HeaderCheck offset) = Bad
+summary_of (item.DataCheck offset h) = Bad
+summary_of (item.TooLong offset h) = Bad
+summary_of (item.Format offset fault) = Bad
 
 -- ---- what an item waits for
 
@@ -156,17 +156,17 @@ after_other own other Strt = other
 after_other own other Stack = record other { starts = false }
 
 abbrev pub after_drawn : Order → Side → ItemSummary → Order
-after_drawn o Caller word =
+after_drawn o Caller summary =
     record {
       turn = Called;
-      caller = after_own o.caller o.called word;
-      called = after_other o.caller o.called word;
+      caller = after_own o.caller o.called summary;
+      called = after_other o.caller o.called summary;
     }
-after_drawn o Called word =
+after_drawn o Called summary =
     record {
       turn = Caller;
-      caller = after_other o.called o.caller word;
-      called = after_own o.called o.caller word;
+      caller = after_other o.called o.caller summary;
+      called = after_own o.called o.caller summary;
     }
 
 -- nothing was drawn, and the caller's turn is first

@@ -2,7 +2,7 @@
 use Rattle.std.specs.Prelude.{◌≡◌, ℕ, ◌+◌, ◌-◌, ◌^◌, Bool, List, ◌++◌, length, min, Option}
 use Rattle.ddcmp_frame.specs.Reader.{ReaderView, StandsFor}
 use Rattle.ddcmp_frame.specs.Reading.{ReadItem, items}
-use Rattle.ddcmp_tap.specs.declared.notation.Notation.{Notation}
+use Rattle.ddcmp_tap.specs.declared.notation.LogNotation.{LogNotation}
 use Rattle.ddcmp_tap.specs.Tapped.{tapped_lines}
 use Rattle.ddcmp_tap.specs.declared.side.Side.{Side}
 
@@ -16,7 +16,7 @@ pub record QueueView : Type 0 where
 -- has ended; the reader of the explained bytes and the number of their items; the last text.
 pub record DirectionView : Type 0 where
   pub side : Side
-  pub notation : Notation
+  pub notation : LogNotation
   pub queue : QueueView
   pub ended : Bool
   pub frames : ReaderView
@@ -43,7 +43,7 @@ pub record Passes (d : DirectionView) (came handed told : List ℕ) : Type 0 whe
   pub has_told : HasTold d.frames d.items told
 
 -- The lines of the items that `more` adds to `told` were appended to a text.
-pub record Tells (notation : Notation) (side : Side) (max : ℕ) (stamp : Option ℕ)
+pub record Tells (notation : LogNotation) (side : Side) (max : ℕ) (stamp : Option ℕ)
     (told more was text : List ℕ) : Type 0 where
   pub given : List ReadItem
   pub adds : items max (told ++ more) ≡ items max told ++ given

@@ -4,8 +4,8 @@ use Rattle.std.specs.Prelude.{is_some, length, codes, ⊤, Option, Result, Ok, E
 use Rattle.std.specs.Io.KnownBytes.{Appends, Consumes, IsAtEnd, Keeps}
 use Rattle.ddcmp_io.specs.Written.{AppendsPart, Known}
 use Rattle.ddcmp_frame.specs.Reading.{ReadItem, items}
-use Rattle.ddcmp_tap.specs.declared.notation.Notation.{Notation}
-use Rattle.ddcmp_tap.specs.declared.notation.Notation.TheVariants.{Plain, Json, Ladder}
+use Rattle.ddcmp_tap.specs.declared.notation.LogNotation.{LogNotation}
+use Rattle.ddcmp_tap.specs.declared.notation.LogNotation.TheVariants.{Plain, Json, Ladder}
 use Rattle.ddcmp_tap.specs.Passing.{DirectionView, Passes}
 use Rattle.ddcmp_tap.specs.Tapped.{tapped_last, tapped_lines}
 use Rattle.ddcmp_tap.specs.declared.side.Side.{Side}
@@ -38,14 +38,14 @@ abbrev pub items_added : ℕ → List ℕ → List ℕ → List ReadItem
 items_added max told more = drop (length (items max told)) (items max (told ++ more))
 
 -- the lines of pieces: for each, those of the items that it adds to its side
-unfoldable pub pieces_text : Notation → ℕ → List Piece → List ℕ
+unfoldable pub pieces_text : LogNotation → ℕ → List Piece → List ℕ
 pieces_text notation max [] = []
 pieces_text notation max (p ∷ before) =
     pieces_text notation max before
     ++ tapped_lines notation p.stamp p.side (items_added max (said p.side before) p.bytes)
 
 -- all that a tap writes: those lines, and a last line for each side
-abbrev pub tap_text : Notation → ℕ → Option ℕ → List Piece → List ℕ
+abbrev pub tap_text : LogNotation → ℕ → Option ℕ → List Piece → List ℕ
 tap_text notation max stamp pieces =
     pieces_text notation max pieces
     ++ (tapped_last notation stamp Caller max (said Caller pieces)
@@ -81,7 +81,7 @@ WritesText old new (Err Report) text = AppendsPart old new text
 WritesText old new (Err Memory) text = AppendsPart old new text
 
 -- the heading of a ladder: which side is which
-abbrev pub head_of : Notation → List ℕ
+abbrev pub head_of : LogNotation → List ℕ
 head_of Plain = []
 head_of Json = []
 head_of Ladder =
@@ -89,7 +89,7 @@ head_of Ladder =
     "> who connected to the tap                         whom the tap connected to <\n"
 
 -- A tap wrote a heading and its log, for some pieces of what both sides sent.
-pub record Says (head : List ℕ) (notation : Notation) (timed : Bool) (max : ℕ) (old new : Known)
+pub record Says (head : List ℕ) (notation : LogNotation) (timed : Bool) (max : ℕ) (old new : Known)
     (result : Result (Unit {0}) TapFault) : Type 0 where
   pub pieces : List Piece
   pub stamp : Option ℕ
@@ -159,19 +159,19 @@ pub record HasMoved (start now : FlowView) : Type 0 where
   pub in_order : came ≡ handed ++ waiting
 
 -- The direction is from this side, with this notation and largest frame.
-abbrev pub IsOf : Side → Notation → ℕ → DirectionView → Type 0
+abbrev pub IsOf : Side → LogNotation → ℕ → DirectionView → Type 0
 IsOf side notation max d =
     (d.side ≡ side) × (d.notation ≡ notation) × (d.frames.max ≡ max)
 
 -- A direction at its start: nothing was received.
-pub record Begins (side : Side) (notation : Notation) (max : ℕ) (flow : FlowView) : Type 0 where
+pub record Begins (side : Side) (notation : LogNotation) (max : ℕ) (flow : FlowView) : Type 0 where
   pub passes : Passes flow.direction [] [] []
   pub is_of : IsOf side notation max flow.direction
   pub not_closed : flow.closed ≡ false
   pub not_ended : flow.direction.ended ≡ false
 
 -- A running tap: all that was received is in the log.
-pub record Runs (notation : Notation) (timed : Bool) (max : ℕ) (up0 up down0 down : FlowView)
+pub record Runs (notation : LogNotation) (timed : Bool) (max : ℕ) (up0 up down0 down : FlowView)
     (old new : Known) : Type 0 where
   pub pieces : List Piece
   pub stamped : AreStamped timed pieces
@@ -186,7 +186,7 @@ abbrev pub Both : {F : Type 0} → (F → Type 0) → F → F → Type 0
 Both Holds up down = Holds up × Holds down
 
 -- A tap whose log failed: not all that was received is in the log.
-pub record Stopped (notation : Notation) (timed : Bool) (max : ℕ) (up0 up down0 down : FlowView)
+pub record Stopped (notation : LogNotation) (timed : Bool) (max : ℕ) (up0 up down0 down : FlowView)
     (old new : Known) : Type 0 where
   pub pieces : List Piece
   pub stamped : AreStamped timed pieces
@@ -195,7 +195,8 @@ pub record Stopped (notation : Notation) (timed : Bool) (max : ℕ) (up0 up down
   pub falling : HasMoved down0 down
 
 -- a tap after a turn
-abbrev pub Turns : Notation → Bool → ℕ → FlowView → FlowView → FlowView → FlowView → Known → Known
+abbrev pub Turns : LogNotation → Bool → ℕ → FlowView → FlowView → FlowView → FlowView → Known
+    → Known
     → Result Bool TapFault → Type 0
 Turns notation timed max up0 up down0 down old new (Ok moved) =
     Runs notation timed max up0 up down0 down old new
@@ -210,7 +211,8 @@ Turns notation timed max up0 up down0 down old new (Err Memory) =
     Stopped notation timed max up0 up down0 down old new
 
 -- a tap that has ended
-abbrev pub Stops : Notation → Bool → ℕ → FlowView → FlowView → FlowView → FlowView → Known → Known
+abbrev pub Stops : LogNotation → Bool → ℕ → FlowView → FlowView → FlowView → FlowView → Known
+    → Known
     → Result (Unit {0}) TapFault → Type 0
 Stops notation timed max up0 up down0 down old new (Ok u) =
     Runs notation timed max up0 up down0 down old new
@@ -226,7 +228,7 @@ Stops notation timed max up0 up down0 down old new (Err Memory) =
 
 -- The result of a tap: its log, and what was forwarded each way. If it is Ok, all that was received
 -- was forwarded, and both ends.
-pub record Pumps (notation : Notation) (timed : Bool) (max : ℕ) (up0 up down0 down : FlowView)
+pub record Pumps (notation : LogNotation) (timed : Bool) (max : ℕ) (up0 up down0 down : FlowView)
     (old new : Known) (result : Result (Unit {0}) TapFault) : Type 0 where
   pub says : Says [] notation timed max old new result
   pub rising : HasMoved up0 up

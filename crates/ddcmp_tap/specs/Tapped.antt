@@ -3,12 +3,12 @@
 use Rattle.std.specs.Prelude.{ℕ, List, ◌++◌, codes, decimal, drop, Option, Some, None}
 use Rattle.std.specs.List.{flat_map}
 use Rattle.ddcmp_frame.specs.Reading.{ReadItem}
-use Rattle.ddcmp_explain.specs.declared.notation.Notation.{Notation as Wording}
+use Rattle.ddcmp_explain.specs.declared.notation.Notation.{Notation}
 use Rattle.ddcmp_explain.specs.declared.notation.Notation.TheVariants as wording
 use Rattle.ddcmp_explain.specs.Output.{line_in, last_line}
 use Rattle.ddcmp_tap.specs.Ladder.{rung_of}
-use Rattle.ddcmp_tap.specs.declared.notation.Notation.{Notation}
-use Rattle.ddcmp_tap.specs.declared.notation.Notation.TheVariants.{Plain, Json, Ladder}
+use Rattle.ddcmp_tap.specs.declared.notation.LogNotation.{LogNotation}
+use Rattle.ddcmp_tap.specs.declared.notation.LogNotation.TheVariants.{Plain, Json, Ladder}
 use Rattle.ddcmp_tap.specs.declared.side.Side.{Side}
 use Rattle.ddcmp_tap.specs.declared.side.Side.TheVariants.{Caller, Called}
 
@@ -27,28 +27,28 @@ json_front (Some ms) side =
     codes "{\"from\":\"" ++ mark_of side ++ codes "\",\"ms\":" ++ decimal ms
 
 -- a line with its prefix; in JSON the prefix is the first members of the object
-abbrev pub fronted : Notation → Option ℕ → Side → List ℕ → List ℕ
+abbrev pub fronted : LogNotation → Option ℕ → Side → List ℕ → List ℕ
 fronted Plain stamp side line = plain_front stamp side ++ line
 fronted Json stamp side line = json_front stamp side ++ (codes "," ++ drop 1 line)
 fronted Ladder stamp side line = plain_front stamp side ++ line
 
 -- the notation that `explain` uses; a ladder has its last lines in plain text
-abbrev pub wording_of : Notation → Wording
+abbrev pub wording_of : LogNotation → Notation
 wording_of Plain = wording.Plain
 wording_of Json = wording.Json
 wording_of Ladder = wording.Plain
 
 -- the line of an item with its data; in a ladder its arrow
-abbrev pub tapped_line : Notation → Option ℕ → Side → ReadItem → List ℕ
+abbrev pub tapped_line : LogNotation → Option ℕ → Side → ReadItem → List ℕ
 tapped_line Plain stamp side given = fronted Plain stamp side (line_in wording.Plain given)
 tapped_line Json stamp side given = fronted Json stamp side (line_in wording.Json given)
 tapped_line Ladder stamp side given = rung_of stamp side given.0
 
 -- the lines of items that were logged at the same time
-unfoldable pub tapped_lines : Notation → Option ℕ → Side → List ReadItem → List ℕ
+unfoldable pub tapped_lines : LogNotation → Option ℕ → Side → List ReadItem → List ℕ
 tapped_lines notation stamp side given = flat_map (tapped_line notation stamp side) given
 
 -- the last line of a direction
-abbrev pub tapped_last : Notation → Option ℕ → Side → ℕ → List ℕ → List ℕ
+abbrev pub tapped_last : LogNotation → Option ℕ → Side → ℕ → List ℕ → List ℕ
 tapped_last notation stamp side max bytes =
     fronted notation stamp side (last_line (wording_of notation) max bytes)

@@ -154,7 +154,7 @@ impl<R: Source + Drop> Capture<R> {
     }
 
     /// Returns what the order needs to know about the next item, if there is one.
-    fn word(&self) -> Option<ItemSummary> {
+    fn summary(&self) -> Option<ItemSummary> {
         match &self.next {
             Some(item) => Some(ItemSummary::of(item)),
             None => None,
@@ -245,14 +245,14 @@ fn draw_items<R: Source + Drop, W: Sink>(
     for _item in 0..u64::MAX {
         caller.fill(&mut piece);
         called.fill(&mut piece);
-        let (up, down) = (caller.word(), called.word());
+        let (up, down) = (caller.summary(), called.summary());
         let Some(side) = order.next(up, down) else {
             return;
         };
         if writer.failed() {
             return;
         }
-        let word = match side {
+        let summary = match side {
             Side::Caller => {
                 caller.draw(page, writer);
                 up
@@ -262,8 +262,8 @@ fn draw_items<R: Source + Drop, W: Sink>(
                 down
             }
         };
-        if let Some(word) = word {
-            order.draw(side, word);
+        if let Some(summary) = summary {
+            order.draw(side, summary);
         }
     }
 }

@@ -9,7 +9,7 @@ ghost use Rattle.ddcmp_tap.specs.InTurn.{Lasts, PassesOver, SaysInTurn};
 
 use crate::direction::{Direction, ROOM};
 use crate::flow::Flow;
-use crate::notation::Notation;
+use crate::notation::LogNotation;
 use crate::proxy::pump;
 use crate::side::Side;
 use crate::socket_options::keep_alive;
@@ -29,15 +29,15 @@ const LADDER_HEAD: &[u8] =
     b"> who connected to the tap                         whom the tap connected to <\n";
 
 /// Writes the heading of the log.
-fn write_head<W: Sink>(writer: &mut W, notation: Notation) -> Result<(), WriteFailed>
+fn write_head<W: Sink>(writer: &mut W, notation: LogNotation) -> Result<(), WriteFailed>
     requires whole { W.broken writer.old ≡ false }
     ensures written { Writes (W.contents writer.old) (W.contents writer.new) result
         (head_of notation) }
     ensures broken { W.broken writer.new ≡ is_err result }
 {
     match notation {
-        Notation::Plain | Notation::Json => Ok(()),
-        Notation::Ladder => write_all(writer, LADDER_HEAD),
+        LogNotation::Plain | LogNotation::Json => Ok(()),
+        LogNotation::Ladder => write_all(writer, LADDER_HEAD),
     }
 }
 
@@ -136,7 +136,7 @@ pub fn tap<S: Net<Stream = net::TcpStream> + Eprint + time::Clock, W: Sink>(
     alloc: Global,
     listen: &str,
     connect: &str,
-    notation: Notation,
+    notation: LogNotation,
     timed: bool,
     max: u16,
     writer: &mut W,
@@ -162,7 +162,7 @@ fn carry<S: Net<Stream = net::TcpStream> + Eprint + time::Clock, W: Sink>(
     alloc: Global,
     caller: Caller,
     connect: &str,
-    notation: Notation,
+    notation: LogNotation,
     timed: bool,
     max: u16,
     writer: &mut W,
@@ -236,7 +236,7 @@ pub fn tap_again<S: Net<Stream = net::TcpStream> + Eprint + time::Clock, W: Sink
     alloc: Global,
     listen: &str,
     connect: &str,
-    notation: Notation,
+    notation: LogNotation,
     timed: bool,
     max: u16,
     writer: &mut W,
@@ -284,7 +284,7 @@ fn between<C: time::Clock, W: Sink>(
     caller: &Socket,
     called: &Socket,
     sockets: &mut Sockets,
-    notation: Notation,
+    notation: LogNotation,
     timed: bool,
     max: u16,
     writer: &mut W,

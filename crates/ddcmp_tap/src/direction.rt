@@ -7,7 +7,7 @@ ghost use Rattle.ddcmp_tap.specs.Tapped.{tapped_last};
 
 use crate::item_log::ItemLog;
 use crate::no_memory::NoMemory;
-use crate::notation::Notation;
+use crate::notation::LogNotation;
 use crate::side::Side;
 use ddcmp_frame::Reader;
 use ddcmp_io::{ByteQueue, MemorySink};
@@ -70,7 +70,7 @@ impl Direction {
     pub fn new(
         alloc: Global,
         side: Side,
-        notation: Notation,
+        notation: LogNotation,
         max: u16,
     ) -> Result<Direction, NoMemory>
         requires low { 0 < max }

@@ -32,6 +32,7 @@ impl<R: Drop, O: Drop> Drop for Flow<R, O> {
 }
 
 impl<R: Source, O: Outlet> Flow<R, O> {
+    /// Makes a flow from this reader to this outlet.
     pub fn new(direction: Direction, reader: R, outlet: O) -> Self
         ensures direction { result.direction ≡ direction }
         ensures reader { result.reader ≡ reader }

@@ -8,7 +8,7 @@ ghost use Rattle.ddcmp_tap.specs.Tapped.{fronted, tapped_last, tapped_line, word
 
 use crate::front::{write_json_front, write_plain_front};
 use crate::no_memory::NoMemory;
-use crate::notation::Notation;
+use crate::notation::LogNotation;
 use crate::rung::write_rung;
 use crate::side::Side;
 use ddcmp_explain::{self as explain, write_item, write_last};
@@ -19,7 +19,7 @@ use ddcmp_io::{MemorySink, Page};
 #[derive(Drop)]
 pub(crate) struct ItemLog {
     pub(crate) side: Side,
-    pub(crate) notation: Notation,
+    pub(crate) notation: LogNotation,
     pub(crate) frames: Reader,
     pub(crate) items: u64,
     ghost counted: { items ≤ frames.offset },
@@ -41,7 +41,7 @@ fn put_page(page: &mut Page, text: &mut MemorySink) -> Result<(), NoMemory>
 fn put_item(
     page: &mut Page,
     text: &mut MemorySink,
-    notation: Notation,
+    notation: LogNotation,
     stamp: Option<u64>,
     side: Side,
     item: &Item,
@@ -55,12 +55,12 @@ fn put_item(
         ≡ text.old.bytes.items ++ tapped_line notation stamp side (item.now, «data».now) }
 {
     match notation {
-        Notation::Plain => {
+        LogNotation::Plain => {
             write_plain_front(page, text, stamp, side);
             write_item(page, text, explain::Notation::Plain, item, data);
             put_page(page, text)
         }
-        Notation::Json => {
+        LogNotation::Json => {
             write_json_front(page, text, stamp, side);
             put_page(page, text)?;
             let brace = text.bytes.as_slice().len();
@@ -69,7 +69,7 @@ fn put_item(
             text.bytes.as_mut_slice()[brace] = b',';
             Ok(())
         }
-        Notation::Ladder => {
+        LogNotation::Ladder => {
             write_rung(page, text, stamp, side, item);
             put_page(page, text)
         }
@@ -80,7 +80,7 @@ fn put_item(
 fn put_last(
     page: &mut Page,
     text: &mut MemorySink,
-    notation: Notation,
+    notation: LogNotation,
     stamp: Option<u64>,
     side: Side,
     items: u64,
@@ -96,7 +96,7 @@ fn put_last(
         (totals_in (wording_of notation) items bytes left_open) }
 {
     match notation {
-        Notation::Plain | Notation::Ladder => {
+        LogNotation::Plain | LogNotation::Ladder => {
             write_plain_front(page, text, stamp, side);
             write_last(
                 page,
@@ -108,7 +108,7 @@ fn put_last(
             );
             put_page(page, text)
         }
-        Notation::Json => {
+        LogNotation::Json => {
             write_json_front(page, text, stamp, side);
             put_page(page, text)?;
             let brace = text.bytes.as_slice().len();

@@ -26,7 +26,7 @@ pub use connections::{tap, tap_again};
 pub use direction::{Direction, ROOM};
 pub use flow::Flow;
 pub use no_memory::NoMemory;
-pub use notation::Notation;
+pub use notation::LogNotation;
 pub use order::{ItemSummary, Order, SideSummary};
 pub use outlet::Outlet;
 pub use proxy::{Readiness, pump};

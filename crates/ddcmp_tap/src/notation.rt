@@ -2,7 +2,7 @@
 
 /// The notation of a tap's log.
 #[derive(Clone, Copy, Debug)]
-pub enum Notation {
+pub enum LogNotation {
     /// Plain text for people, as `explain` writes it.
     Plain,
     /// A JSON object a line, for programs.

@@ -3,11 +3,11 @@ ghost use Rattle.std.specs.Prelude.{◌≡◌, false, true};
 ghost use Rattle.ddcmp_num.specs.Sequence.{distance as distance_of};
 ghost use Rattle.ddcmp_tap.specs.Order.{acknowledged as acknowledged_by, after_data};
 ghost use Rattle.ddcmp_tap.specs.Order.{after_drawn, after_other as after_of_other};
-ghost use Rattle.ddcmp_tap.specs.Order.{after_own as after_of_own, control_word, goes_first};
-ghost use Rattle.ddcmp_tap.specs.Order.{header_word, is_ahead as is_ahead_of, is_early};
+ghost use Rattle.ddcmp_tap.specs.Order.{after_own as after_of_own, control_summary, goes_first};
+ghost use Rattle.ddcmp_tap.specs.Order.{header_summary, is_ahead as is_ahead_of, is_early};
 ghost use Rattle.ddcmp_tap.specs.Order.{is_for as is_for_data, is_new as is_new_data, is_unasked};
 ghost use Rattle.ddcmp_tap.specs.Order.{higher, is_after, is_undrawn, must_wait, next_of_both};
-ghost use Rattle.ddcmp_tap.specs.Order.{next_side, nothing_drawn, raised, word_of};
+ghost use Rattle.ddcmp_tap.specs.Order.{next_side, nothing_drawn, raised, summary_of};
 ghost use Rattle.ddcmp_tap.specs.Order.{refers as refers_to_other, waits as waits_for_other};
 
 use crate::side::Side;
@@ -34,7 +34,7 @@ pub enum ItemSummary {
 impl ItemSummary {
     /// Returns what the order needs to know about an item.
     pub fn of(item: &Item) -> ItemSummary
-        ensures { result ≡ word_of item.now }
+        ensures { result ≡ summary_of item.now }
     {
         match item {
             Item::Good(_, header) => of_header(header),
@@ -78,7 +78,7 @@ impl ItemSummary {
 }
 
 fn of_header(header: &Header) -> ItemSummary
-    ensures { result ≡ header_word header.now }
+    ensures { result ≡ header_summary header.now }
 {
     match header {
         Header::Data(h) => ItemSummary::Data(h.resp, h.num),
@@ -88,7 +88,7 @@ fn of_header(header: &Header) -> ItemSummary
 }
 
 fn of_control(h: &Short) -> ItemSummary
-    ensures { result ≡ control_word h.now.kind h.now }
+    ensures { result ≡ control_summary h.now.kind h.now }
 {
     match h.kind {
         ControlType::Ack => ItemSummary::Ack(h.resp),
@@ -146,10 +146,10 @@ impl SideSummary {
 
     /// Returns whether an item acknowledges data that weren't drawn at all.
     #[tactic(auto, unfolding(crate::specs::Order::must_wait))]
-    fn must_wait(&self, other: &SideSummary, word: ItemSummary) -> bool
-        ensures { result ≡ must_wait self.now other.now word }
+    fn must_wait(&self, other: &SideSummary, summary: ItemSummary) -> bool
+        ensures { result ≡ must_wait self.now other.now summary }
     {
-        match word {
+        match summary {
             ItemSummary::Data(resp, _) | ItemSummary::Ack(resp) | ItemSummary::Nak(resp, _) => {
                 self.is_undrawn(other, resp)
             }
@@ -188,10 +188,10 @@ impl SideSummary {
 
     /// Returns whether an item waits for one of the other side that it probably replies to.
     #[tactic(auto, unfolding(crate::specs::Order::waits))]
-    fn waits(&self, other: &SideSummary, word: ItemSummary) -> bool
-        ensures { result ≡ waits_for_other self.now other.now word }
+    fn waits(&self, other: &SideSummary, summary: ItemSummary) -> bool
+        ensures { result ≡ waits_for_other self.now other.now summary }
     {
-        match word {
+        match summary {
             ItemSummary::Bad | ItemSummary::Maint | ItemSummary::Strt => false,
             ItemSummary::Data(resp, _) => self.starts || self.is_ahead(other, resp),
             ItemSummary::Ack(resp) => {
@@ -259,10 +259,10 @@ impl SideSummary {
 
     /// Updates the summary for an item of this side.
     #[tactic(auto, unfolding(crate::specs::Order::after_own))]
-    fn take_own(&mut self, other: &SideSummary, word: ItemSummary)
-        ensures { self.new ≡ after_of_own self.old other.now word }
+    fn take_own(&mut self, other: &SideSummary, summary: ItemSummary)
+        ensures { self.new ≡ after_of_own self.old other.now summary }
     {
-        match word {
+        match summary {
             ItemSummary::Bad => self.repeats = true,
             ItemSummary::Maint => {}
             ItemSummary::Data(resp, num) => {
@@ -313,10 +313,10 @@ impl SideSummary {
 
     /// Updates the summary for an item of the other side, whose summary was `own`.
     #[tactic(auto, unfolding(crate::specs::Order::after_other))]
-    fn take_other(&mut self, own: &SideSummary, word: ItemSummary)
-        ensures { self.new ≡ after_of_other own.now self.old word }
+    fn take_other(&mut self, own: &SideSummary, summary: ItemSummary)
+        ensures { self.new ≡ after_of_other own.now self.old summary }
     {
-        match word {
+        match summary {
             ItemSummary::Bad | ItemSummary::Maint | ItemSummary::Strt => {}
             ItemSummary::Data(resp, _) => {
                 let top = own.raised(self, resp);
@@ -408,18 +408,18 @@ impl Order {
     }
 
     /// Updates the order for an item of a side.
-    pub fn draw(&mut self, side: Side, word: ItemSummary)
-        ensures { self.new ≡ after_drawn self.old side word }
+    pub fn draw(&mut self, side: Side, summary: ItemSummary)
+        ensures { self.new ≡ after_drawn self.old side summary }
     {
         let (caller, called) = (self.caller, self.called);
         match side {
             Side::Caller => {
-                self.caller.take_own(&called, word);
-                self.called.take_other(&caller, word);
+                self.caller.take_own(&called, summary);
+                self.called.take_other(&caller, summary);
             }
             Side::Called => {
-                self.called.take_own(&caller, word);
-                self.caller.take_other(&called, word);
+                self.called.take_own(&caller, summary);
+                self.caller.take_other(&called, summary);
             }
         }
         self.turn = side.other();

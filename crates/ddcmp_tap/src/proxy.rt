@@ -3,7 +3,7 @@
 ghost use Rattle.std.specs.Prelude.{◌≡◌, ◌≢◌, ◌<◌, ◌↔◌, Bool, Err, IsOk, IsTrue, Ok, ℕ};
 ghost use Rattle.std.specs.Prelude.{false, is_some, length, true};
 ghost use Rattle.ddcmp_io.specs.Written.{Known};
-ghost use Rattle.ddcmp_tap.specs.declared.notation.Notation.{Notation};
+ghost use Rattle.ddcmp_tap.specs.declared.notation.LogNotation.{LogNotation};
 ghost use Rattle.ddcmp_tap.specs.Pumping.{Begins, Both, Ends, HasReported, FlowView, IsOfSide};
 ghost use Rattle.ddcmp_tap.specs.Pumping.{Moves};
 ghost use Rattle.ddcmp_tap.specs.Pumping.{Pumps, Runs, Stops, Turns, flow_of};
@@ -66,7 +66,7 @@ fn turn<R: Source, O: Outlet, W: Sink>(
     requires buffer { 0 < length buffer.old }
     requires ends { Both (λ it. Ends (flow_of R.left O.contents O.closed it)) up.old down.old }
     requires whole { W.broken writer.old ≡ false }
-    ensures runs { (notation : Notation) (timed : Bool) (max : ℕ)
+    ensures runs { (notation : LogNotation) (timed : Bool) (max : ℕ)
         (up0 down0 : FlowView) (start : Known)
         → is_some stamp ≡ timed
         → Runs notation timed max up0 (flow_of R.left O.contents O.closed up.old) down0
@@ -104,7 +104,7 @@ fn until_over<R: Source, O: Outlet, K: Readiness, C: Clock, W: Sink>(
     requires buffer { 0 < length buffer.old }
     requires ends { Both (λ it. Ends (flow_of R.left O.contents O.closed it)) up.old down.old }
     requires whole { W.broken writer.old ≡ false }
-    ensures runs { (notation : Notation) (max : ℕ) (up0 down0 : FlowView) (start : Known)
+    ensures runs { (notation : LogNotation) (max : ℕ) (up0 down0 : FlowView) (start : Known)
         → Runs notation timed max up0 (flow_of R.left O.contents O.closed up.old) down0
         (flow_of R.left O.contents O.closed down.old) start (W.contents writer.old)
         → Stops notation timed max up0 (flow_of R.left O.contents O.closed up.new) down0
@@ -155,7 +155,7 @@ fn conclude<R: Source, O: Outlet, C: Clock, W: Sink>(
     requires said { HasReported ended }
     requires done { ended ≡ Ok tt
         → (O.closed up.old.outlet ≡ true) × (O.closed down.old.outlet ≡ true) }
-    ensures pumps { (notation : Notation) (max : ℕ) (up0 down0 : FlowView) (start : Known)
+    ensures pumps { (notation : LogNotation) (max : ℕ) (up0 down0 : FlowView) (start : Known)
         → Runs notation timed max up0 (flow_of R.left O.contents O.closed up.old) down0
         (flow_of R.left O.contents O.closed down.old) start (W.contents writer.old)
         → Pumps notation timed max up0 (flow_of R.left O.contents O.closed up.new) down0
@@ -189,7 +189,7 @@ pub fn pump<R: Source, O: Outlet, K: Readiness, C: Clock, W: Sink>(
     requires buffer { 0 < length buffer.old }
     requires ends { Both (λ it. Ends (flow_of R.left O.contents O.closed it)) up.old down.old }
     requires whole { W.broken writer.old ≡ false }
-    ensures pumps { (notation : Notation) (max : ℕ)
+    ensures pumps { (notation : LogNotation) (max : ℕ)
         → Begins CallerSide notation max (flow_of R.left O.contents O.closed up.old)
         → Begins CalledSide notation max (flow_of R.left O.contents O.closed down.old)
         → Pumps notation timed max

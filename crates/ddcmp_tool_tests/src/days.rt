@@ -1,6 +1,6 @@
 //! Sessions over many days, by a clock of the test's own, beyond the overflow of 32 bits of
 //! milliseconds: each wakes for its timers, its reports and its end, and never in between.
-use ddcmp_session::{End, Form, LineKind, Options, Session};
+use ddcmp_session::{EndReason, LineKind, MessageForm, Options, Session};
 use ddcmp_station::Config;
 use std::process::Abort;
 
@@ -36,7 +36,7 @@ fn options(timer_ms: u32, seconds: u32, report: u32) -> Options {
         linger_ms: 500,
         seconds,
         report,
-        form: Form::Digits,
+        form: MessageForm::Digits,
         maintenance: false,
         stay: false,
         again: true,
@@ -102,7 +102,7 @@ fn sleeps(rt: &(impl Abort + AllocGlobal), options: Options) -> (u64, u64, u64) 
         now = session.wakes_at();
         wakes = wakes.saturating_add(1);
     }
-    assert!(rt; session.end() == Some(End::Time));
+    assert!(rt; session.end() == Some(EndReason::Time));
     (wakes, reports, now)
 }
 
@@ -252,7 +252,7 @@ fn sixty_days_of_little_traffic(rt: HostRuntime) {
         two.wake(now);
         two.report_if(rt, is_due(now, DAY_MS));
         if now == next {
-            assert!(rt; two.a.typed(b"6162\n") == 5);
+            assert!(rt; two.a.input_read(b"6162\n") == 5);
             next = next.saturating_add(every_ms);
             sent = sent.saturating_add(1);
             two.wake(now);
@@ -274,7 +274,7 @@ fn loses_one(rt: &impl Abort, two: &mut Two) {
     let before = WRAP_MS - 1000;
     assert!(rt; before < two.wakes_at());
     two.wake(before);
-    assert!(rt; two.a.typed(b"63\n") == 3);
+    assert!(rt; two.a.input_read(b"63\n") == 3);
     two.a.fill();
     let n = two.a.to_line().len();
     assert!(rt; n > 0);
@@ -286,17 +286,17 @@ fn loses_one(rt: &impl Abort, two: &mut Two) {
 
 /// Ends both inputs after a last message.
 fn ends(rt: &impl Abort, two: &mut Two, now: u64) {
-    assert!(rt; two.a.typed(b"64\n") == 3);
+    assert!(rt; two.a.input_read(b"64\n") == 3);
     two.wake(now);
     two.a.input_ended();
     two.b.input_ended();
     two.wake(now);
-    assert!(rt; two.a.end() == Some(End::Done));
+    assert!(rt; two.a.end() == Some(EndReason::Done));
     assert!(rt; (two.b.end(), two.b.wakes_at()) == (None, now.saturating_add(500)));
     two.b.handle_timeout(now.saturating_add(499));
     assert!(rt; two.b.end().is_none());
     two.b.handle_timeout(now.saturating_add(500));
-    assert!(rt; two.b.end() == Some(End::Done));
+    assert!(rt; two.b.end() == Some(EndReason::Done));
 }
 
 /// A message that the peer refuses is retransmitted once in each period of the reply timer.
@@ -307,7 +307,7 @@ fn sixty_days_of_refusals(rt: HostRuntime) {
     let mut short = long;
     short.config.max = 1;
     let mut two = Two::new(rt, long, short);
-    assert!(rt; two.a.typed(b"6162\n") == 5);
+    assert!(rt; two.a.input_read(b"6162\n") == 5);
     let (mut wakes, mut now) = (0u64, 0u64);
     for _wake in 0..1_000_000u32 {
         two.wake(now);
@@ -320,5 +320,5 @@ fn sixty_days_of_refusals(rt: HostRuntime) {
         wakes = wakes.saturating_add(1);
     }
     assert!(rt; (wakes, now, two.mails) == (86_400, SIXTY_MS, 0));
-    assert!(rt; (two.a.end(), two.b.end()) == (Some(End::Time), Some(End::Time)));
+    assert!(rt; (two.a.end(), two.b.end()) == (Some(EndReason::Time), Some(EndReason::Time)));
 }

@@ -1,5 +1,5 @@
 // What a direction of a tap forwards and logs, compared with lines written by hand.
-use ddcmp_tap::{Direction, Notation, ROOM, Side};
+use ddcmp_tap::{Direction, LogNotation, ROOM, Side};
 use std::process::Abort;
 
 /// A start byte alone, a DATA frame with `abc`, and an ACK.
@@ -13,7 +13,7 @@ const SAID: &[u8] = b"> 0 header check
 
 const LAST: &[u8] = b"> items=3 bytes=22 open=0\n";
 
-fn direction(rt: &(impl Abort + AllocGlobal), side: Side, notation: Notation) -> Direction {
+fn direction(rt: &(impl Abort + AllocGlobal), side: Side, notation: LogNotation) -> Direction {
     match Direction::new(rt.alloc(), side, notation, 16383) {
         Ok(made) => made,
         Err(_refused) => panic!(rt; "no memory"),
@@ -42,7 +42,7 @@ fn said(
     rt: &(impl Abort + AllocGlobal),
     cut: usize,
     side: Side,
-    notation: Notation,
+    notation: LogNotation,
     stamp: Option<u64>,
 ) -> Vec<u8> {
     assert!(rt; cut <= BYTES.len());
@@ -67,7 +67,7 @@ fn is_within(rt: &impl Abort, text: Vec<u8>, front: &[u8], end: &[u8]) {
 #[test]
 fn lines_at_every_cut(rt: HostRuntime) {
     for cut in 0..BYTES.len() {
-        let text = said(&rt, cut, Side::Caller, Notation::Plain, None);
+        let text = said(&rt, cut, Side::Caller, LogNotation::Plain, None);
         assert!(&rt; text.len() == SAID.len() + LAST.len());
         is_within(&rt, text, SAID, LAST);
     }
@@ -77,19 +77,19 @@ fn lines_at_every_cut(rt: HostRuntime) {
 fn what_stands_in_front(rt: HostRuntime) {
     is_within(
         &rt,
-        said(&rt, 3, Side::Called, Notation::Plain, Some(1207)),
+        said(&rt, 3, Side::Called, LogNotation::Plain, Some(1207)),
         b"1207 < 0 header check\n1207 < 1 DATA count=3 ",
         b"\n1207 < items=3 bytes=22 open=0\n",
     );
     is_within(
         &rt,
-        said(&rt, 3, Side::Called, Notation::Json, None),
+        said(&rt, 3, Side::Called, LogNotation::Json, None),
         b"{\"from\":\"<\",\"offset\":0,\"item\":\"header check\"}\n{\"from\":\"<\",\"offset\":1,",
         b",\"addr\":1}\n{\"from\":\"<\",\"items\":3,\"bytes\":22,\"open\":0}\n",
     );
     is_within(
         &rt,
-        said(&rt, 3, Side::Caller, Notation::Json, Some(0)),
+        said(&rt, 3, Side::Caller, LogNotation::Json, Some(0)),
         b"{\"from\":\">\",\"ms\":0,\"offset\":0,\"item\":\"header check\"}\n",
         b"\n{\"from\":\">\",\"ms\":0,\"items\":3,\"bytes\":22,\"open\":0}\n",
     );
@@ -110,8 +110,8 @@ const DOWN: &[u8] =
 
 #[test]
 fn ladders_of_both_sides(rt: HostRuntime) {
-    let up = said(&rt, 9, Side::Caller, Notation::Ladder, None);
-    let down = said(&rt, 14, Side::Called, Notation::Ladder, Some(7));
+    let up = said(&rt, 9, Side::Caller, LogNotation::Ladder, None);
+    let down = said(&rt, 14, Side::Called, LogNotation::Ladder, Some(7));
     assert!(&rt; up.as_slice() == UP);
     assert!(&rt; down.as_slice() == DOWN);
 }
@@ -130,7 +130,7 @@ fn forwards(rt: &impl Abort, made: &mut Direction, n: usize) {
 
 #[test]
 fn room_until_all_is_written(rt: HostRuntime) {
-    let mut made = direction(&rt, Side::Caller, Notation::Plain);
+    let mut made = direction(&rt, Side::Caller, LogNotation::Plain);
     comes(&rt, &mut made, &[0; ROOM], None);
     holds(&rt, &made, 0, ROOM);
     forwards(&rt, &mut made, ROOM - 1);
@@ -147,7 +147,7 @@ fn room_until_all_is_written(rt: HostRuntime) {
 fn directions_of_every_maximum(rt: HostRuntime) {
     for max in 1..=16383u16 {
         assert!(&rt; 0 < max && max <= 16383);
-        let made = Direction::new(rt.alloc(), Side::Called, Notation::Plain, max);
+        let made = Direction::new(rt.alloc(), Side::Called, LogNotation::Plain, max);
         assert!(&rt; made.is_ok());
     }
 }

@@ -4,7 +4,8 @@ ghost use Rattle.std.specs.Prelude.{◌≤◌, length};
 use crate::sessions::{append, messages, options, session};
 use ddcmp_io::Got;
 use ddcmp_session::{
-    Buffers, Devices, Down, End, LineKind, Options, Session, Stop, Transfer, Wanted, drain_output,
+    Buffers, Devices, Down, EndReason, LineKind, Options, Session, Stop, Transfer, Wanted,
+    drain_output,
 };
 use std::process::Abort;
 use test_kit::Draws;
@@ -108,7 +109,7 @@ impl Desk {
         if self.peer_input.rest().is_empty() {
             self.peer.input_ended();
         } else {
-            let used = self.peer.typed(self.peer_input.rest());
+            let used = self.peer.input_read(self.peer_input.rest());
             self.peer_input.at = self.peer_input.at.saturating_add(used);
         }
         let used = self.peer.received(self.to_line.rest());
@@ -230,7 +231,7 @@ fn exchanges(rt: &(impl Abort + AllocGlobal), seed: u64) {
         panic!(rt; "no memory");
     };
     assert!(rt; buffers.begin_line(&mut own));
-    assert!(rt; buffers.run(&mut own, &mut desk) == Ok(End::Done));
+    assert!(rt; buffers.run(&mut own, &mut desk) == Ok(EndReason::Done));
     assert!(rt; drain_output(&mut own, &mut desk) == Ok(()));
     assert!(rt; desk.peer_output.bytes.as_slice() == expected.0.as_slice());
     assert!(rt; desk.output.bytes.as_slice() == expected.1.as_slice());

@@ -1,6 +1,6 @@
 //! The reports of a session, by a clock of the test's own: when they are written, the time of day,
 //! and reports on lines.
-use ddcmp_session::{Down, Form, LineKind, Options, Session};
+use ddcmp_session::{Down, LineKind, MessageForm, Options, Session};
 use ddcmp_station::Config;
 use std::fmt::InlineText;
 use std::process::Abort;
@@ -23,7 +23,7 @@ fn options(stay: bool) -> Options {
         linger_ms: 500,
         seconds: 100,
         report: 1,
-        form: Form::Digits,
+        form: MessageForm::Digits,
         maintenance: false,
         stay,
         again: true,
@@ -134,8 +134,8 @@ fn forms(rt: HostRuntime) {
         };
         let mut session = session_with(&rt, options);
         run(&rt, &mut session);
-        assert!(&rt; session.typed(b"61\n6262\n") == 3);
-        assert!(&rt; session.typed(b"6262\n") == 5);
+        assert!(&rt; session.input_read(b"61\n6262\n") == 3);
+        assert!(&rt; session.input_read(b"6262\n") == 5);
         session.fill();
         session.pass_time(1250);
         assert!(&rt; session.to_errors() == report.as_bytes());
@@ -146,7 +146,7 @@ fn forms(rt: HostRuntime) {
 fn lost_messages(rt: HostRuntime) {
     for is_closed in [false, true] {
         let mut session = running(&rt, false);
-        assert!(&rt; session.typed(b"61\n") == 3);
+        assert!(&rt; session.input_read(b"61\n") == 3);
         let lost = if is_closed {
             session.close(b"62\n?\n63\n", true);
             " sent=1 acknowledged=0 handed=0 lost=3 counters "

@@ -1,5 +1,5 @@
 //! Two sessions without I/O over lines that lose, damage and cut, by a clock of the test's own.
-use ddcmp_session::{End, Form, LineKind, Options, Session};
+use ddcmp_session::{EndReason, LineKind, MessageForm, Options, Session};
 use ddcmp_station::Config;
 use std::process::Abort;
 use test_kit::Draws;
@@ -20,7 +20,7 @@ pub(crate) fn options(linger_ms: u32, seconds: u32) -> Options {
         linger_ms,
         seconds,
         report: 0,
-        form: Form::Binary,
+        form: MessageForm::Binary,
         maintenance: false,
         stay: false,
         again: false,
@@ -48,7 +48,7 @@ struct Side {
     at: usize,
     output: Vec<u8>,
     line: Vec<u8>,
-    end: Option<End>,
+    end: Option<EndReason>,
 }
 
 pub(crate) fn append(rt: &impl Abort, to: &mut Vec<u8>, bytes: &[u8]) {
@@ -88,7 +88,7 @@ impl Side {
             return;
         }
         let piece = &rest[..rest.len().min(draws.below(4000))];
-        self.at = self.at.saturating_add(self.session.typed(piece));
+        self.at = self.at.saturating_add(self.session.input_read(piece));
     }
 
     /// Passes received bytes to the session, in a chunk of random size.
@@ -164,7 +164,7 @@ fn exchanges(rt: &(impl Abort + AllocGlobal), seed: u64) {
         }
         now = now.saturating_add(100);
     }
-    assert!(rt; (a.end, b.end) == (Some(End::Done), Some(End::Done)));
+    assert!(rt; (a.end, b.end) == (Some(EndReason::Done), Some(EndReason::Done)));
     assert!(rt; a.output.as_slice() == b.input.as_slice());
     assert!(rt; b.output.as_slice() == a.input.as_slice());
     assert!(rt; (a.session.lost(), b.session.lost()) == (0, 0));
@@ -200,7 +200,7 @@ fn a_line_that_has_not_ended_is_counted(rt: HostRuntime) {
     let mut a = session(&rt, options(0, 86_400));
     let mut b = session(&rt, options(0, 86_400));
     start(&mut a, &mut b);
-    assert!(rt; a.typed(&[0, 1, 7]) == 3);
+    assert!(rt; a.input_read(&[0, 1, 7]) == 3);
     assert!(rt; a.connected());
     assert!(rt; a.lost() == 1);
     let _has_room = a.line_ended();
@@ -213,9 +213,9 @@ fn a_refused_start_counts_later(rt: HostRuntime) {
     let mut a = session(&rt, options(0, 86_400));
     let mut b = session(&rt, options(0, 86_400));
     start(&mut a, &mut b);
-    assert!(rt; b.typed(&[0, 1, 9]) == 3);
+    assert!(rt; b.input_read(&[0, 1, 9]) == 3);
     carries(&mut b, &mut a);
-    assert!(rt; a.typed(&[0, 1, 7]) == 3);
+    assert!(rt; a.input_read(&[0, 1, 7]) == 3);
     assert!(rt; !a.connected());
     assert!(rt; a.lost() == 0);
     assert!(rt; a.deliver());

@@ -4,7 +4,7 @@ ghost use Rattle.ddcmp_io.specs.Queue.{after_pushed};
 
 use crate::sessions::{append, options, session};
 use ddcmp_io::{ByteQueue, Got};
-use ddcmp_session::{Buffers, Devices, End, Session, Transfer, Wanted};
+use ddcmp_session::{Buffers, Devices, EndReason, Session, Transfer, Wanted};
 use std::process::Abort;
 
 /// The bytes that a device returns, and all that was moved so far. No device ever fails.
@@ -144,7 +144,7 @@ fn devices_tell_what_moved(rt: HostRuntime) {
         panic!(rt; "no memory");
     };
     assert!(rt; buffers.begin_line(&mut own));
-    assert!(rt; buffers.run(&mut own, &mut told) == Ok(End::Time));
+    assert!(rt; buffers.run(&mut own, &mut told) == Ok(EndReason::Time));
     assert!(rt; told.read.waiting() == b"\0\x03abc".as_slice());
     assert!(rt; told.is_over);
     assert!(rt; told.came.waiting() == CAME);

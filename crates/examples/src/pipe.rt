@@ -1,6 +1,6 @@
 //! Two links as pipes, over a line that loses, damages and cuts what it carries: what each writes
 //! is what the other read. The program carries the bytes, and says what time it is.
-use ddcmp_session::{End, Form, LineKind, Options, Session};
+use ddcmp_session::{EndReason, LineKind, MessageForm, Options, Session};
 use ddcmp_station::Config;
 use std::alloc::Global;
 use std::io;
@@ -15,7 +15,7 @@ const OPTIONS: Options = Options {
     linger_ms: 60_000,
     seconds: 3600,
     report: 0,
-    form: Form::Binary,
+    form: MessageForm::Binary,
     maintenance: false,
     stay: false,
     again: false,
@@ -96,7 +96,7 @@ impl Pipe {
         if rest.is_empty() {
             self.session.input_ended();
         } else {
-            self.at = self.at.saturating_add(self.session.typed(rest));
+            self.at = self.at.saturating_add(self.session.input_read(rest));
         }
     }
 
@@ -136,7 +136,7 @@ impl Pipe {
     }
 
     fn has_delivered(&self) -> bool {
-        self.session.end() == Some(End::Done)
+        self.session.end() == Some(EndReason::Done)
     }
 
     fn report(&self, rt: &impl Print, name: &str, peer: &Pipe) -> io::Result<()> {

@@ -1,7 +1,7 @@
 //! Command lines. The head of an example has the arguments, and its lines are what the program
 //! reads when it is run with them; what it writes and how it ends is printed. Arguments after `? `
 //! are only parsed.
-use ddcmp_cli::{NoCommand, read_words};
+use ddcmp_cli::{NoCommand, parse_args};
 use ddcmp_frame::{FromRead, ToWrite};
 use std::io::{self, Write};
 
@@ -20,7 +20,7 @@ fn words_of<'a>(rt: &HostRuntime, line: &'a str) -> io::Result<Vec<&'a str>> {
 /// Prints what arguments ask for.
 fn tell(rt: &HostRuntime, line: &str) -> io::Result<()> {
     let words = words_of(rt, line)?;
-    match read_words(rt.alloc(), words.as_slice()) {
+    match parse_args(rt.alloc(), words.as_slice()) {
         Ok(command) => println!(rt; "{command:?}"),
         Err(NoCommand::Help(_)) => println!(rt; "help"),
         Err(NoCommand::Version(_)) => println!(rt; "version"),

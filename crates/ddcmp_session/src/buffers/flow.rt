@@ -8,7 +8,7 @@ ghost use Rattle.ddcmp_session.specs.declared.devices.Fault.{Fault as FaultValue
 
 use crate::buffers::Buffers;
 use crate::devices::{Devices, Fault, Transfer, Wanted};
-use crate::session::{End, Session};
+use crate::session::{EndReason, Session};
 use ddcmp_io::Got;
 
 /// How many parts of the input are passed to the session before the line is served. The queue for
@@ -146,7 +146,7 @@ impl Buffers {
             → Reports self.old session.old.state (D.traffic devices.old)
             (D.traffic devices.new) fault }
         ensures idle { result ≡ Ok false → (session.new ≡ session.old) × (self.new ≡ self.old) }
-        ensures typed { result ≡ Ok false
+        ensures input_read { result ≡ Ok false
             → (self.new.input ≡ []) ⊎ (wants_input session.new.state ≡ false) }
         ensures told { result ≡ Ok false
             → (self.new.is_over ≡ false) ⊎ (wants_input session.new.state ≡ false) }
@@ -182,7 +182,7 @@ impl Buffers {
             if self.input.is_empty() || !session.wants_input() {
                 break;
             }
-            let used = session.typed(self.input.rest());
+            let used = session.input_read(self.input.rest());
             self.input.used(used);
             moved = true;
         }
@@ -312,7 +312,7 @@ impl Buffers {
         let mut moved = false;
         for _notice in 0..u64::MAX {
             moved |= deliver_all(session);
-            if session.end() == Some(End::Restarted) {
+            if session.end() == Some(EndReason::Restarted) {
                 return true;
             }
             if self.received.is_empty() || !session.wants_line() {

@@ -10,7 +10,7 @@ use crate::buffers::Buffers;
 use crate::buffers::flow::write_errors;
 use crate::buffers::runner::leave_line;
 use crate::devices::{Devices, Fault, Wanted};
-use crate::session::{End, Session};
+use crate::session::{EndReason, Session};
 
 /// The reason why a run ended before all was delivered.
 #[derive(Clone, Copy, PartialEq, Eq)]
@@ -82,7 +82,7 @@ impl Buffers {
             → result ≡ Err (Stop.Device fault) → ReportsOver self.old session.old.state
             (D.traffic devices.old) (D.traffic devices.new) fault }
         ensures well { result ≡ Ok tt → MayEndWell session.new.state }
-        ensures ended { result ≡ Ok tt → end session.new.state ≡ Some End.Done }
+        ensures ended { result ≡ Ok tt → end session.new.state ≡ Some EndReason.Done }
         ensures left { result ≡ Err Stop.Left → IsLeft self.old session.old.state
             (D.traffic devices.old) session.new.state (D.traffic devices.new) }
         ensures shut { IfNotOpened result (session.new.state.options.again ≡ false) }
@@ -119,7 +119,7 @@ impl Buffers {
             → result ≡ Err (Stop.Device fault) → ReportsOver self.old session.old.state
             (D.traffic devices.old) (D.traffic devices.new) fault }
         ensures well { result ≡ Ok true → MayEndWell session.new.state }
-        ensures ended { result ≡ Ok true → end session.new.state ≡ Some End.Done }
+        ensures ended { result ≡ Ok true → end session.new.state ≡ Some EndReason.Done }
         ensures gone { result ≡ Ok false → LeavesLine self.old session.old.state
             (D.traffic devices.old) session.new.state (D.traffic devices.new) }
         ensures left { result ≡ Err Stop.Left → HasNotStarted session.new.state }
@@ -134,9 +134,9 @@ impl Buffers {
             Err(stop) => return Err(stop),
         }
         match self.run(session, devices) {
-            Ok(End::Done) => Ok(true),
-            Ok(End::Restarted | End::GivenUp) => Ok(false),
-            Ok(End::Time) => Err(Stop::Device(Fault::Time)),
+            Ok(EndReason::Done) => Ok(true),
+            Ok(EndReason::Restarted | EndReason::GivenUp) => Ok(false),
+            Ok(EndReason::Time) => Err(Stop::Device(Fault::Time)),
             Err(Fault::Line(why)) => {
                 session.report_down(why);
                 Ok(false)
@@ -158,7 +158,7 @@ impl Buffers {
         ensures reports { (fault : FaultValue) → fault ≢ Fault.Time
             → result ≡ Err (Stop.Device fault) → ReportsOver self.old session.old.state
             (D.traffic devices.old) (D.traffic devices.new) fault }
-        ensures ended { result ≡ Ok false → end session.new.state ≡ Some End.Done }
+        ensures ended { result ≡ Ok false → end session.new.state ≡ Some EndReason.Done }
         ensures left { result ≡ Err Stop.Left → HasNotStarted session.new.state }
         ensures shut { IfNotOpened result (session.new.state.options.again ≡ false) }
         ensures time { result ≡ Err (Stop.Device Fault.Time) → IsTimeOver session.new.state }
@@ -173,8 +173,8 @@ impl Buffers {
             let now = devices.now();
             session.pass_time(now);
             match session.end() {
-                Some(End::Time) => return Err(Stop::Device(Fault::Time)),
-                Some(End::Done) => return Ok(false),
+                Some(EndReason::Time) => return Err(Stop::Device(Fault::Time)),
+                Some(EndReason::Done) => return Ok(false),
                 _ => {}
             }
             match self.try_line(session, devices, now) {
@@ -391,7 +391,7 @@ fn leave<D: Devices>(session: &mut Session, devices: &mut D) -> Result<(), Fault
         → result ≡ Err fault → ReportsOver held session.old.state (D.traffic devices.old)
         (D.traffic devices.new) fault }
     ensures time { result ≡ Err Fault.Time
-        → (end session.new.state ≡ Some End.Time) ⊎ (session.new.state.output.waiting ≢ []) }
+        → (end session.new.state ≡ Some EndReason.Time) ⊎ (session.new.state.output.waiting ≢ []) }
 {
     match leave_line(session, devices) {
         Ok(()) => {}
@@ -412,7 +412,7 @@ fn note_time(session: &mut Session, fault: Fault)
     ensures over { (held : BuffersView) (known : Option Traffic)
         → StaysOver held session.old.state known held session.new.state known }
     ensures time { fault ≡ Fault.Time
-        → (end session.new.state ≡ Some End.Time) ⊎ (session.new.state.output.waiting ≢ []) }
+        → (end session.new.state ≡ Some EndReason.Time) ⊎ (session.new.state.output.waiting ≢ []) }
 {
     if fault == Fault::Time && session.to_output().is_empty() {
         pass_run(session);
@@ -423,7 +423,7 @@ fn note_time(session: &mut Session, fault: Fault)
 fn pass_run(session: &mut Session)
     ensures over { (held : BuffersView) (known : Option Traffic)
         → StaysOver held session.old.state known held session.new.state known }
-    ensures time { end session.new.state ≡ Some End.Time }
+    ensures time { end session.new.state ≡ Some EndReason.Time }
 {
     let now = session.run_ends_at();
     session.pass_time(now);

@@ -11,7 +11,7 @@ ghost use Rattle.ddcmp_session.specs.declared.devices.Fault.{Fault as FaultValue
 use crate::buffers::Buffers;
 use crate::buffers::flow::{deliver_all, write_errors, write_output};
 use crate::devices::{Devices, Fault, Wanted};
-use crate::session::{End, Session};
+use crate::session::{EndReason, Session};
 
 /// After how many passes the devices are polled although something moved, so that none starves
 /// another.
@@ -25,10 +25,14 @@ impl Buffers {
     ghost use Rattle.ddcmp_session.specs.Timing.{end};
     ghost use Rattle.ddcmp_session.specs.Devices.{Becomes, GoesOn, Reports, Rests, after_wait};
     ghost use Rattle.ddcmp_session.specs.declared.devices.Fault.{Fault as FaultValue};
-    ghost use Rattle.ddcmp_session.specs.declared.session.End.{End as EndValue};
+    ghost use Rattle.ddcmp_session.specs.declared.session.EndReason.{EndReason as EndValue};
 
     /// Runs a session over its line, until the session leaves the line or a device ends or fails.
-    pub fn run<D: Devices>(&mut self, session: &mut Session, devices: &mut D) -> Result<End, Fault>
+    pub fn run<D: Devices>(
+        &mut self,
+        session: &mut Session,
+        devices: &mut D,
+    ) -> Result<EndReason, Fault>
         ensures on { GoesOn self.old session.old.state (D.traffic devices.old)
             self.new session.new.state (D.traffic devices.new) }
         ensures reports { (fault : FaultValue) → result ≡ Err fault
@@ -58,7 +62,7 @@ impl Buffers {
         // This many passes take longer than any run.
         let now = session.run_ends_at();
         session.handle_timeout(now);
-        Ok(End::Time)
+        Ok(EndReason::Time)
     }
 
     /// Waits for a device or a moment if nothing moved; otherwise, if `asks`, polls the devices

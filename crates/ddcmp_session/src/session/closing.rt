@@ -1,7 +1,7 @@
 //! The end of a session's run.
-use crate::messages::Form;
 use crate::session::Session;
 use crate::text;
+use ddcmp_streams::MessageForm;
 
 impl Session {
     ghost use Rattle.std.specs.Prelude.{◌≡◌, true, false, []};
@@ -13,11 +13,12 @@ impl Session {
     ghost use Rattle.ddcmp_session.specs.Session.{form_of, lost_among, lost_at_end, lost_by_end};
     ghost use Rattle.ddcmp_session.specs.Session.{reports_loss};
     ghost use Rattle.ddcmp_session.specs.declared.text.TheConstants.{END_ROOM};
-    ghost use Rattle.ddcmp_session.specs.EndText.{end_line, end_text, queued};
-    ghost use Rattle.ddcmp_session.specs.Errors.{HasLine};
+    ghost use Rattle.ddcmp_session.specs.EndText.{end_line, end_text};
+    ghost use Rattle.ddcmp_streams.specs.Queued.{queued};
+    ghost use Rattle.ddcmp_streams.specs.Errors.{HasLine};
     ghost use Rattle.ddcmp_session.specs.Logged.{HasEnd, Traces};
     ghost use Rattle.ddcmp_session.specs.Reported.{ClosesLog};
-    ghost use Rattle.ddcmp_session.specs.Trace.{LogsEnd};
+    ghost use Rattle.ddcmp_streams.specs.Trace.{LogsEnd};
     ghost use Rattle.ddcmp_session.specs.Text.{Wrote, reported_lost};
 
     /// Ends the run and halts the station. The messages left in the input, and those that were sent
@@ -67,22 +68,22 @@ impl Session {
     pub fn write_end(&mut self)
         ensures stays { self.new.state
             ≡ record self.old.state { output = self.new.state.output } }
-        ensures lines { form_of self.old.state.messages ≡ Form.Digits
+        ensures lines { form_of self.old.state.messages ≡ MessageForm.Digits
             → HandsOver (queued self.old.state.output) (queued self.new.state.output)
             (end_text self.old.state.options.counters self.old.state.link) }
-        ensures binary { form_of self.old.state.messages ≡ Form.Binary
+        ensures binary { form_of self.old.state.messages ≡ MessageForm.Binary
             → self.new.state ≡ self.old.state }
-        ensures digits { form_of self.old.state.messages ≡ Form.Digits
+        ensures digits { form_of self.old.state.messages ≡ MessageForm.Digits
             → self.new.log ≡ self.old.log }
-        ensures errors { form_of self.old.state.messages ≡ Form.Binary
+        ensures errors { form_of self.old.state.messages ≡ MessageForm.Binary
             → HasEnd self.old.state.options.counters self.old.state.link
             self.old.log.errors self.new.log.errors }
         ensures log { self.new.log ≡ record self.old.log { errors = self.new.log.errors } }
     {
         let counters = self.options.counters;
         match self.options.form {
-            Form::Digits => text::write_end(&mut self.output, &self.link, counters),
-            Form::Binary => self.report_end(counters),
+            MessageForm::Digits => text::write_end(&mut self.output, &self.link, counters),
+            MessageForm::Binary => self.report_end(counters),
         }
     }
 

@@ -26,14 +26,14 @@ impl Session {
     ghost use Rattle.ddcmp_session.specs.Course.{lost_more};
     ghost use Rattle.ddcmp_session.specs.Logged.{read_after, read_at_end, read_unfinished};
     ghost use Rattle.ddcmp_station.specs.Linking.{total_plus};
-    ghost use Rattle.ddcmp_session.specs.Messages.{after_input, entries_of_input};
-    ghost use Rattle.ddcmp_session.specs.Messages.{count_of};
+    ghost use Rattle.ddcmp_streams.specs.Messages.{after_input, entries_of_input};
+    ghost use Rattle.ddcmp_streams.specs.Messages.{count_of};
     ghost use Rattle.ddcmp_session.specs.Reported.{CutsEach, DropsBytes, DropsEach, DropsInput};
     ghost use Rattle.ddcmp_session.specs.Reported.{DropsLast, HasRefused, RefusesUnfinished};
-    ghost use Rattle.ddcmp_session.specs.Reported.{ReportsEach, ReportsLast, ReportsTyped};
+    ghost use Rattle.ddcmp_session.specs.Reported.{ReportsEach, ReportsInput, ReportsLast};
     ghost use Rattle.ddcmp_session.specs.Reported.{dropping, read_at_last, refused_after};
     ghost use Rattle.ddcmp_session.specs.Reported.{refused_at_last, refused_cut};
-    ghost use Rattle.ddcmp_session.specs.Session.{wants_input, after_typed, after_input_end};
+    ghost use Rattle.ddcmp_session.specs.Session.{wants_input, after_input_read, after_input_end};
     ghost use Rattle.ddcmp_session.specs.Session.{after_entries, after_entry, after_unfinished};
     ghost use Rattle.ddcmp_session.specs.Session.{form_of, takes_end, takes_in};
     ghost use Rattle.ddcmp_session.specs.Session.{lost_among, lost_at_end, lost_with_last};
@@ -72,9 +72,9 @@ impl Session {
     /// Handles bytes of the input, up to the end of the first message, which it sends, or of the
     /// first part that is no message, which it reports. Returns how many were used; 0 while
     /// `wants_input` is false.
-    pub fn typed(&mut self, bytes: &[u8]) -> usize
+    pub fn input_read(&mut self, bytes: &[u8]) -> usize
         ensures used { result ≤ length bytes.now }
-        ensures state { self.new.state ≡ after_typed (take result bytes.now) self.old.state }
+        ensures state { self.new.state ≡ after_input_read (take result bytes.now) self.old.state }
         // All bytes, or those up to the first that completes something.
         ensures whole { wants_input self.old.state ≡ true
             → entries_of_input (take result bytes.now) self.old.state.messages ≡ []
@@ -86,7 +86,7 @@ impl Session {
             ≤ 1 }
         ensures none { wants_input self.old.state ≡ false
             → (result ≡ 0) × (self.new ≡ self.old) }
-        ensures errors { ReportsTyped (take result bytes.now) self.old self.new.log.errors }
+        ensures errors { ReportsInput (take result bytes.now) self.old self.new.log.errors }
         ensures read { self.new.log.read
             ≡ read_after (entries_of_input (take result bytes.now) self.old.state.messages)
             (after_input (take result bytes.now) self.old.state.messages) self.old.log.read }

@@ -1,14 +1,13 @@
 //! The line of a session: bytes that are received, and frames that are sent.
 ghost use Rattle.std.specs.Prelude.{[]};
-ghost use Rattle.ddcmp_session.specs.Errors.{HasLine};
+ghost use Rattle.ddcmp_streams.specs.Errors.{HasLine};
 ghost use Rattle.ddcmp_station.specs.StationText.{notice_line};
 
-use crate::errors::{Errors, SHORT_LINE};
-use crate::messages::Form;
 use crate::session::Session;
 use crate::text;
-use crate::trace::Way;
 use ddcmp_station::Notice;
+use ddcmp_streams::errors::{Errors, SHORT_LINE};
+use ddcmp_streams::{MessageForm, Way};
 
 /// Reports a notice on standard error.
 fn put_notice(errors: &mut Errors, notice: Notice)
@@ -31,9 +30,9 @@ impl Session {
     ghost use Rattle.ddcmp_session.specs.Filling.{after_filling, most_datagrams};
     ghost use Rattle.ddcmp_session.specs.Session.{form_of, has_gone, lost_by_end};
     ghost use Rattle.ddcmp_session.specs.Session.{reports_loss, wants_line};
-    ghost use Rattle.ddcmp_session.specs.Errors.{ErrorsView};
+    ghost use Rattle.ddcmp_streams.specs.Errors.{ErrorsView};
     ghost use Rattle.ddcmp_session.specs.Logged.{HasLost, HasNotice, HasNotices, Traces};
-    ghost use Rattle.ddcmp_session.specs.Trace.{BeginsAnew, Logs};
+    ghost use Rattle.ddcmp_streams.specs.Trace.{BeginsAnew, Logs};
     ghost use Rattle.ddcmp_session.specs.Course.{after_notice, lost_more};
     ghost use Rattle.ddcmp_session.specs.Session.{IsFilled, after_connected, course_received};
     ghost use Rattle.ddcmp_session.specs.Session.{is_paused, totals_received};
@@ -229,8 +228,8 @@ impl Session {
         ensures log { self.new.log ≡ record self.old.log { errors = self.new.log.errors } }
     {
         match self.options.form {
-            Form::Digits => text::write_notice_line(&mut self.output, notice),
-            Form::Binary => put_notice(&mut self.errors, notice),
+            MessageForm::Digits => text::write_notice_line(&mut self.output, notice),
+            MessageForm::Binary => put_notice(&mut self.errors, notice),
         }
         match notice {
             Notice::Restarted(lost) => {

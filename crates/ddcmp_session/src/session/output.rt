@@ -1,9 +1,8 @@
 //! The two outputs of a session.
 use crate::devices::Down;
-use crate::errors::EVENT_ROOM;
-use crate::messages::Form;
 use crate::session::Session;
 use crate::{report, text};
+use ddcmp_streams::{EVENT_ROOM, MessageForm};
 use itoa::Buffer;
 use std::fmt::InlineText;
 
@@ -16,11 +15,11 @@ impl Session {
     ghost use Rattle.ddcmp_io.specs.Queue.{after_pushed, after_taken};
     ghost use Rattle.ddcmp_session.specs.Course.{lost_more};
     ghost use Rattle.ddcmp_session.specs.EndText.{pause_text, unread_text};
-    ghost use Rattle.ddcmp_session.specs.Errors.{HasEvent, HasLine, Took};
+    ghost use Rattle.ddcmp_streams.specs.Errors.{HasEvent, HasLine, Took};
     ghost use Rattle.ddcmp_session.specs.Finishing.{HasRoomIfEmpty};
     ghost use Rattle.ddcmp_session.specs.Logged.{HasLost, HasReport, ReportsDown};
     ghost use Rattle.ddcmp_session.specs.Session.{form_of, reports_loss, room_for_mail};
-    ghost use Rattle.ddcmp_session.specs.declared.errors.TheConstants.{SHORT_LINE};
+    ghost use Rattle.ddcmp_streams.specs.declared.errors.TheConstants.{SHORT_LINE};
     ghost use Rattle.ddcmp_session.specs.Text.{Wrote, mail_text, reported_lost};
 
     /// Writes the first received message, if there is one and the output has room for it; returns
@@ -163,7 +162,7 @@ impl Session {
               (reported_lost result (form_of self.old.state.messages) lost) self.old.state.output;
         } }
         ensures when { result ≡ reports_loss self.old.state }
-        ensures digits { form_of self.old.state.messages ≡ Form.Digits
+        ensures digits { form_of self.old.state.messages ≡ MessageForm.Digits
             → self.new.log ≡ self.old.log }
         ensures errors { HasLost (form_of self.old.state.messages) lost
             self.old.log.errors self.new.log.errors }
@@ -175,9 +174,9 @@ impl Session {
             return has_room;
         }
         match self.options.form {
-            Form::Digits if has_room => text::write_lost(&mut self.output, lost),
-            Form::Digits => {}
-            Form::Binary => {
+            MessageForm::Digits if has_room => text::write_lost(&mut self.output, lost),
+            MessageForm::Digits => {}
+            MessageForm::Binary => {
                 let mut digits = Buffer::new();
                 let text = digits.format(lost).as_bytes();
                 self.errors.write_line(b"lost ", text, b"\n");

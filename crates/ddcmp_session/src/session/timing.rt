@@ -1,12 +1,12 @@
 //! The timers of a session.
 ghost use Rattle.std.specs.Prelude.{◌≡◌, ◌++◌, codes};
-ghost use Rattle.ddcmp_session.specs.Errors.{given_up_text};
+ghost use Rattle.ddcmp_session.specs.Reports.{given_up_text};
 ghost use Rattle.ddcmp_session.specs.Timing.{most_tries};
 
-use crate::options::LineKind;
-use crate::session::{End, Session};
+use crate::session::{EndReason, Session};
 use ddcmp_explain::reason_name;
 use ddcmp_frame::Nak;
+use ddcmp_io::LineKind;
 use ddcmp_station::State;
 
 impl Session {
@@ -146,21 +146,21 @@ impl Session {
     }
 
     /// Returns why the line is to be left, if it is.
-    pub fn end(&self) -> Option<End>
+    pub fn end(&self) -> Option<EndReason>
         ensures { result ≡ end self.now.state }
     {
         let now = self.course.moment;
         if self.run_ends_at() <= now {
-            return Some(End::Time);
+            return Some(EndReason::Time);
         }
         if self.has_line && self.course.peer_restarted {
-            return Some(End::Restarted);
+            return Some(EndReason::Restarted);
         }
         if self.has_line && self.is_given_up() {
-            return Some(End::GivenUp);
+            return Some(EndReason::GivenUp);
         }
         if self.is_done() && self.lingers_until() <= now {
-            return Some(End::Done);
+            return Some(EndReason::Done);
         }
         None
     }

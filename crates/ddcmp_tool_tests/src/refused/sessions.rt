@@ -1,9 +1,9 @@
 //! A session allocates all its memory when it is made: that fails, or the session does everything.
-use ddcmp_session::{End, Form, LineKind, Options, Session};
+use ddcmp_session::{EndReason, LineKind, MessageForm, Options, Session};
 use ddcmp_station::{Config, ConfigRefusal};
 use std::process::Abort;
 
-fn options(form: Form) -> Options {
+fn options(form: MessageForm) -> Options {
     Options {
         config: Config {
             window: 7,
@@ -29,7 +29,7 @@ fn options(form: Form) -> Options {
 }
 
 /// Returns a session, or none if an allocation failed.
-fn session(rt: &(impl Abort + AllocGlobal), form: Form, kind: LineKind) -> Option<Session> {
+fn session(rt: &(impl Abort + AllocGlobal), form: MessageForm, kind: LineKind) -> Option<Session> {
     match Session::new(rt.alloc(), options(form), kind) {
         Ok(mut session) => {
             session.began_at(0);
@@ -67,10 +67,10 @@ fn settles(a: &mut Session, b: &mut Session) {
 }
 
 /// Returns the text of the longest message in this form.
-fn longest(rt: &(impl Abort + AllocGlobal), form: Form) -> Option<Vec<u8>> {
+fn longest(rt: &(impl Abort + AllocGlobal), form: MessageForm) -> Option<Vec<u8>> {
     let (front, byte, count, back): (&[u8], &[u8], u32, &[u8]) = match form {
-        Form::Digits => (b"", b"61", 16_383, b"\n"),
-        Form::Binary => (b"\x3f\xff", b"a", 16_383, b""),
+        MessageForm::Digits => (b"", b"61", 16_383, b"\n"),
+        MessageForm::Binary => (b"\x3f\xff", b"a", 16_383, b""),
     };
     let mut text = Vec::with_capacity(rt.alloc(), 40_000).ok()?;
     text.extend_from_slice(front).ok()?;
@@ -83,7 +83,7 @@ fn longest(rt: &(impl Abort + AllocGlobal), form: Form) -> Option<Vec<u8>> {
 
 /// Runs two ends over one line after another, with a longest message on each; returns whether an
 /// allocation failed before.
-fn is_refused(rt: &(impl Abort + AllocGlobal), form: Form, kind: LineKind) -> bool {
+fn is_refused(rt: &(impl Abort + AllocGlobal), form: MessageForm, kind: LineKind) -> bool {
     let Some(text) = longest(rt, form) else {
         return true;
     };
@@ -99,7 +99,7 @@ fn is_refused(rt: &(impl Abort + AllocGlobal), form: Form, kind: LineKind) -> bo
         a.handle_timeout(now);
         b.handle_timeout(now);
         settles(&mut a, &mut b);
-        assert!(rt; a.typed(text.as_slice()) == text.len());
+        assert!(rt; a.input_read(text.as_slice()) == text.len());
         settles(&mut a, &mut b);
         is_written(rt, &mut b, text.as_slice());
         a.line_ended();
@@ -122,7 +122,7 @@ fn ends(rt: &impl Abort, a: &mut Session, b: &mut Session) {
     settles(a, b);
     a.input_ended();
     a.handle_timeout(5000);
-    assert!(rt; a.end() == Some(End::Done));
+    assert!(rt; a.end() == Some(EndReason::Done));
     a.close(b"", true);
     a.finish();
     a.write_end();
@@ -131,12 +131,12 @@ fn ends(rt: &impl Abort, a: &mut Session, b: &mut Session) {
 
 /// Returns whether an allocation fails in two ends of a connection with messages in digits.
 fn is_refused_digits(rt: &(impl Abort + AllocGlobal)) -> bool {
-    is_refused(rt, Form::Digits, LineKind::Connect)
+    is_refused(rt, MessageForm::Digits, LineKind::Connect)
 }
 
 /// Returns whether an allocation fails in two ends of a line of datagrams, with binary messages.
 fn is_refused_binary(rt: &(impl Abort + AllocGlobal)) -> bool {
-    is_refused(rt, Form::Binary, LineKind::Datagrams)
+    is_refused(rt, MessageForm::Binary, LineKind::Datagrams)
 }
 
 #[test]

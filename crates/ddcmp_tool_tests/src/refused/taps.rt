@@ -4,7 +4,7 @@ ghost use Rattle.std.specs.Prelude.{◌≡◌, false};
 
 use ddcmp_io::failing::{BoundedSink, Pieces};
 use ddcmp_station::Clock;
-use ddcmp_tap::{Direction, Flow, Notation, Outlet, Readiness, Side, TapFault, pump};
+use ddcmp_tap::{Direction, Flow, LogNotation, Outlet, Readiness, Side, TapFault, pump};
 use std::cell::Cell;
 use std::process::Abort;
 
@@ -76,7 +76,7 @@ impl Clock for Beginning {
 /// Returns how a tap in memory ends that writes to this log.
 fn tapped(
     rt: &impl AllocGlobal,
-    notation: Notation,
+    notation: LogNotation,
     ways: &[Cell<&'static [u8]>; 2],
     log: &mut BoundedSink<8192>,
 ) -> Result<(), TapFault>
@@ -100,7 +100,7 @@ fn tapped(
 }
 
 /// Returns whether an allocation fails in a tap that logs like this.
-fn is_refused(rt: &(impl Abort + AllocGlobal), notation: Notation) -> bool {
+fn is_refused(rt: &(impl Abort + AllocGlobal), notation: LogNotation) -> bool {
     let ways = [Cell::new(BYTES), Cell::new(BYTES)];
     let mut log = BoundedSink::new();
     let ended = tapped(rt, notation, &ways, &mut log);
@@ -115,22 +115,22 @@ fn is_refused(rt: &(impl Abort + AllocGlobal), notation: Notation) -> bool {
 
 #[test]
 fn refused_memory_ends_a_tap(rt: HostRuntime) {
-    let _either = is_refused(&rt, Notation::Plain);
+    let _either = is_refused(&rt, LogNotation::Plain);
 }
 
 #[test]
 fn refused_memory_ends_a_tap_with_json(rt: HostRuntime) {
-    let _either = is_refused(&rt, Notation::Json);
+    let _either = is_refused(&rt, LogNotation::Json);
 }
 
 #[test]
 fn refused_memory_ends_a_tap_with_a_ladder(rt: HostRuntime) {
-    let _either = is_refused(&rt, Notation::Ladder);
+    let _either = is_refused(&rt, LogNotation::Ladder);
 }
 
 #[test]
 fn ample_memory_taps(rt: HostRuntime) {
-    assert!(&rt; !is_refused(&rt, Notation::Plain));
-    assert!(&rt; !is_refused(&rt, Notation::Json));
-    assert!(&rt; !is_refused(&rt, Notation::Ladder));
+    assert!(&rt; !is_refused(&rt, LogNotation::Plain));
+    assert!(&rt; !is_refused(&rt, LogNotation::Json));
+    assert!(&rt; !is_refused(&rt, LogNotation::Ladder));
 }

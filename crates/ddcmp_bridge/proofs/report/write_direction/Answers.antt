@@ -3,7 +3,8 @@ use Rattle.ddcmp_bridge.proofs.report.write_direction.Goals as goal
 
 pub returns : goal.returns
 returns g c =
-    sends-then (sends-then (sends-then (sends-then (sends-then (sends-then (sends-then (sends-then (sends-then (sends-then (sends-then c.write.ensures.sends
+    sends-then (sends-then (sends-then (sends-then (sends-then (sends-then (sends-then
+    (sends-then (sends-then (sends-then (sends-then c.write.ensures.sends
     c.write-2.ensures.sends)
     c.write_number.ensures)
     c.write-3.ensures.sends)

@@ -1,5 +1,5 @@
 use Rattle.std.proofs.Common.{◌∙◌, ap, refl, rules, sym}
-use Rattle.ddcmp_words.specs.Words.{name_of}
+use Rattle.ddcmp_args.specs.Args.{name_of}
 use Rattle.ddcmp_cli.specs.Endings.{file_named}
 use Rattle.ddcmp_cli.proofs.CommandLaws.{differ, is_bridge, is_link, is_station, is_tap}
 use Rattle.ddcmp_cli.proofs.CommandLaws.{unbroken}

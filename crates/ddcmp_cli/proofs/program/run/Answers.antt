@@ -1,8 +1,8 @@
 use Rattle.std.proofs.Common.{◌∙◌, ap, codes, inl, inr, refl, Err, List, Ok, Some, map, ℕ}
 use Rattle.std.proofs.KnownBytes.{Keeps-refl}
-use Rattle.ddcmp_words.specs.declared.no_command.NoCommand.TheVariants.{Memory}
+use Rattle.ddcmp_args.specs.declared.no_command.NoCommand.TheVariants.{Memory}
 use borrow.Author.Rules.{rules}
-use Rattle.ddcmp_words.specs.Words.{IsAsked, IsName}
+use Rattle.ddcmp_args.specs.Args.{IsAsked, IsName}
 use Rattle.ddcmp_cli.proofs.CommandLaws.{bridged, linked, not_declined, performed, stationed}
 use Rattle.ddcmp_cli.proofs.CommandLaws.{reads_a_file, reads_no_file, tapped}
 use Rattle.ddcmp_cli.proofs.program.run.Goals as goal
@@ -10,7 +10,7 @@ use Rattle.ddcmp_cli.proofs.program.run.Goals as goal
 pub returns-in-Ok : goal.returns-in-Ok
 returns-in-Ok g c = record {
   explains = λ input e asked.
-      performed _ _ (g.S.Lines.lines c.args.system.now) _ c.in-Ok.command _ _ asked
+      performed _ _ (g.S.LineSystem.lines c.args.system.now) _ c.in-Ok.command _ _ asked
       c.in-Ok.ensures.reads.1 c.in-Ok.ensures.reads.2 (c.perform.ensures.performs input e);
   ends = (Ok c.in-Ok.command, c.in-Ok.ensures.reads, c.perform.ensures.performs);
   refused = λ out. absurd (out.some c.in-Ok.ensures.reads.0);
@@ -34,7 +34,7 @@ returns-in-Ok g c = record {
   taps = λ asked. tapped _ _ c.in-Ok.command _ _ _ _ _ asked c.in-Ok.ensures.reads.1
       c.in-Ok.ensures.reads.2 c.perform.ensures.taps;
   links = λ asked.
-      linked (g.S.Lines.lines c.args.system.now) _ c.in-Ok.command _ asked
+      linked (g.S.LineSystem.lines c.args.system.now) _ c.in-Ok.command _ asked
       c.in-Ok.ensures.reads.1 c.in-Ok.ensures.reads.2 c.perform.ensures.links;
   bridges = λ asked. bridged _ _ c.in-Ok.command asked c.in-Ok.ensures.reads.1
       c.perform.ensures.bridges;

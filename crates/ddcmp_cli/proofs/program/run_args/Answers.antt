@@ -1,6 +1,6 @@
 use Rattle.std.proofs.Common.{◌≡◌, ◌∙◌, ap, subst, List, ℕ, map, string_bytes, Err, inl, refl}
 use Rattle.std.proofs.KnownBytes.{Keeps-refl}
-use Rattle.ddcmp_words.specs.declared.no_command.NoCommand.TheVariants.{Memory}
+use Rattle.ddcmp_args.specs.declared.no_command.NoCommand.TheVariants.{Memory}
 use Rattle.ddcmp_io.specs.Change.{source_change, sink_change}
 use Rattle.ddcmp_cli.specs.Endings.{RunsAs}
 use borrow.Author.Rules.{rules}
@@ -10,7 +10,7 @@ pub returns-clause-runs : goal.returns-clause-runs
 returns-clause-runs g c = rw (c.in-Ok.is)
     (subst
     (λ (ws : List (List ℕ)). RunsAs (g.S.Inputs.held c.args.system.now)
-    (g.S.Connections.peers c.args.system.now) (g.S.Lines.lines c.args.system.now) ws
+    (g.S.Connections.peers c.args.system.now) (g.S.LineSystem.lines c.args.system.now) ws
     (source_change (g.R.Source.left c.args.reader.now) (g.R.Source.left c.run.new.reader)
     (g.R.Source.state c.run.new.reader))
     (sink_change (g.W.Sink.contents c.args.writer.now) (g.W.Sink.contents c.run.new.writer)

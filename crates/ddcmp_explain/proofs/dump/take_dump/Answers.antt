@@ -1,5 +1,5 @@
-use Rattle.std.proofs.Common.{◌++◌, [], inl, Err, ap, refl, sym, subst, take, arith, ◌∙◌, length-append}
-use Rattle.std.proofs.Common.{length-drop, length-take-le}
+use Rattle.std.proofs.Common.{◌++◌, [], inl, Err, ap, refl, sym, subst, take, arith, ◌∙◌}
+use Rattle.std.proofs.Common.{length-append, length-drop, length-take-le}
 use Rattle.std.proofs.lemmas.Bool.{false_from_ne_true}
 use Rattle.std.proofs.lemmas.Result.{err_from_is_err_and}
 use Rattle.std.proofs.KnownBytes.{Consumes-trans}
@@ -71,7 +71,9 @@ loop-explainer-preserved g c =
 pub returns-in_err-take_piece-in-Bytes-clause-tells
     : goal.returns-in_err-take_piece-in-Bytes-clause-tells
 returns-in_err-take_piece-in-Bytes-clause-tells g c = λ max before begun opened.
-    let told = err_from_is_err_and c.from_residual-in_err-take_piece-in-Bytes.result c.from_residual-in_err-take_piece-in-Bytes.ensures.1 in
+    let told =
+    err_from_is_err_and c.from_residual-in_err-take_piece-in-Bytes.result
+    c.from_residual-in_err-take_piece-in-Bytes.ensures.1 in
     let s = c.loop-explainer.invariant.so_far max before begun opened in
     let piece = take c.in-Bytes.n c.read_within.new.buf in
     let long = length-take-le c.in-Bytes.n c.read_within.new.buf c.in-Bytes.ensures.bytes.0 in
@@ -84,8 +86,8 @@ returns-in_err-take_piece-in-Bytes-clause-tells g c = λ max before begun opened
       length-append s.seen piece
           ∙ omega (arith, s.long, c.in_err-take_piece-in-Bytes.ensures.seen, long),
       Consumes-trans _ _ left s.seen piece s.consumed c.in-Bytes.ensures.bytes.1,
-      dump-more c.args.dump.now c.loop-explainer.dump c.take_piece-in-Bytes.new.dump s.seen piece s.dump
-          c.in_err-take_piece-in-Bytes.ensures.dump,
+      dump-more c.args.dump.now c.loop-explainer.dump c.take_piece-in-Bytes.new.dump s.seen piece
+          s.dump c.in_err-take_piece-in-Bytes.ensures.dump,
       subst (λ t. Tells c.args.explainer.now.decoder.form c.args.explainer.now.lines.style max t
           left old new (Err fault))
           (shown-after c.args.dump.now c.loop-explainer.dump s.seen piece s.dump)

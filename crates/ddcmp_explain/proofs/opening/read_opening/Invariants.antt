@@ -8,7 +8,8 @@ invariant-loop-count g l = record {
   fine : g.R.Source.state l.reader ≡ Fine;
   room : length l.first ≡ 64;
   within : l.count ≤ 64;
-  consumed : Consumes (g.R.Source.left l.fn.reader) (g.R.Source.left l.reader) (take l.count l.first);
+  consumed : Consumes (g.R.Source.left l.fn.reader) (g.R.Source.left l.reader)
+      (take l.count l.first);
 }
 
 abbrev pub decreases-loop-count : goal.decreases-loop-count

@@ -107,7 +107,12 @@ returns-clause-streams c = λ line other_line. (
                           syn = refl;
                           link = refl;
                           wanted = unless refl;
-                          wrote = record { waiting = refl; room = omega arith; size = refl; is_cut = refl };
+                          wrote = record {
+                            waiting = refl;
+                            room = omega arith;
+                            size = refl;
+                            is_cut = refl;
+                          };
                           course = refl;
                           stays = refl;
                         },
@@ -124,7 +129,12 @@ returns-clause-streams c = λ line other_line. (
                                 syn = refl;
                                 link = refl;
                                 wanted = unless refl;
-                                wrote = record { waiting = refl; room = omega arith; size = refl; is_cut = refl };
+                                wrote = record {
+                                  waiting = refl;
+                                  room = omega arith;
+                                  size = refl;
+                                  is_cut = refl;
+                                };
                                 course = refl;
                                 stays = refl;
                               },
@@ -138,7 +148,12 @@ returns-clause-streams c = λ line other_line. (
                                     wrote = (
                                       abc,
                                       refl,
-                                      record { waiting = refl; room = omega arith; size = refl; is_cut = refl },
+                                      record {
+                                        waiting = refl;
+                                        room = omega arith;
+                                        size = refl;
+                                        is_cut = refl;
+                                      },
                                     );
                                     stays = refl;
                                   },

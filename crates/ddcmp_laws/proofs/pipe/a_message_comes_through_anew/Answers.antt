@@ -88,7 +88,12 @@ returns-clause-calls c = λ line other_line. (
                         syn = refl;
                         link = refl;
                         wanted = unless refl;
-                        wrote = record { waiting = refl; room = omega arith; size = refl; is_cut = refl };
+                        wrote = record {
+                          waiting = refl;
+                          room = omega arith;
+                          size = refl;
+                          is_cut = refl;
+                        };
                         course = refl;
                         stays = refl;
                       },
@@ -102,12 +107,21 @@ returns-clause-calls c = λ line other_line. (
                               syn = refl;
                               link = refl;
                               wanted = unless refl;
-                              wrote = record { waiting = refl; room = omega arith; size = refl; is_cut = refl };
+                              wrote = record {
+                                waiting = refl;
+                                room = omega arith;
+                                size = refl;
+                                is_cut = refl;
+                              };
                               course = refl;
                               stays = refl;
                             },
                             (
-                              record { state = refl; wanted = λ e. absurd (cc e); part = completes },
+                              record {
+                                state = refl;
+                                wanted = λ e. absurd (cc e);
+                                part = completes;
+                              },
                               (
                                 (refl, inl (omega arith)),
                                 (
@@ -118,7 +132,12 @@ returns-clause-calls c = λ line other_line. (
                                       syn = refl;
                                       link = refl;
                                       wanted = unless refl;
-                                      wrote = record { waiting = refl; room = omega arith; size = refl; is_cut = refl };
+                                      wrote = record {
+                                        waiting = refl;
+                                        room = omega arith;
+                                        size = refl;
+                                        is_cut = refl;
+                                      };
                                       course = refl;
                                       stays = refl;
                                     },
@@ -132,7 +151,12 @@ returns-clause-calls c = λ line other_line. (
                                             syn = refl;
                                             link = refl;
                                             wanted = unless refl;
-                                            wrote = record { waiting = refl; room = omega arith; size = refl; is_cut = refl };
+                                            wrote = record {
+                                              waiting = refl;
+                                              room = omega arith;
+                                              size = refl;
+                                              is_cut = refl;
+                                            };
                                             course = refl;
                                             stays = refl;
                                           },
@@ -141,7 +165,16 @@ returns-clause-calls c = λ line other_line. (
                                             (
                                               record {
                                                 link = refl;
-                                                wrote = (abc, refl, record { waiting = refl; room = omega arith; size = refl; is_cut = refl });
+                                                wrote = (
+                                                  abc,
+                                                  refl,
+                                                  record {
+                                                    waiting = refl;
+                                                    room = omega arith;
+                                                    size = refl;
+                                                    is_cut = refl;
+                                                  },
+                                                );
                                                 stays = refl;
                                               },
                                               (
@@ -287,14 +320,26 @@ returns-clause-streams c = λ line other_line. (
                                     (
                                       λ d e. record { to_a = ([], refl); to_b = ([], refl) },
                                       (
-                                        λ d e. record { to_a = (ack_1_bytes, refl); to_b = ([], refl) },
+                                        λ d e. record {
+                                          to_a = (ack_1_bytes, refl);
+                                          to_b = ([], refl);
+                                        },
                                         (
                                           λ d e. record { to_a = ([], refl); to_b = ([], refl) },
                                           (
                                             λ d e. record { to_a = ([], refl); to_b = ([], refl) },
                                             (
-                                              λ d e. record { to_a = ([], refl); to_b = ([], refl) },
-                                              (λ d e. record { to_a = ([], refl); to_b = ([], refl) }, tt),
+                                              λ d e. record {
+                                                to_a = ([], refl);
+                                                to_b = ([], refl);
+                                              },
+                                              (
+                                                λ d e. record {
+                                                  to_a = ([], refl);
+                                                  to_b = ([], refl);
+                                                },
+                                                tt,
+                                              ),
                                             ),
                                           ),
                                         ),

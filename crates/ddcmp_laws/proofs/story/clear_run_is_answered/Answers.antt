@@ -21,7 +21,8 @@ unfolding low_bits bits add divisor_rest remainder number check_of xor six_bytes
     parsed read_for read_rows is_data_right row read items good_frames_in on notice_of next
     counters_on counters_after_next after_items notices_of_items first_index place_from after_event
     reply_to run replies_to bytes_of begins find_room finds_room is_faithful stays_clear
-returns-clause-clear c = stays_by (map event_in clear_run) (new_pair default_sizes default_sizes) refl
+returns-clause-clear c =
+    stays_by (map event_in clear_run) (new_pair default_sizes default_sizes) refl
 
 pub returns-clause-one : goal.returns-clause-one
 unfolding low_bits bits add divisor_rest remainder number check_of xor six_bytes wire is_check_right

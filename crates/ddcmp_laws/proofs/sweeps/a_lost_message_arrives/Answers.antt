@@ -21,7 +21,8 @@ use Rattle.ddcmp_laws.specs.Price.{price, added}
 use Rattle.ddcmp_laws.specs.Delivers.{IsAtRest, runs_out}
 use Rattle.ddcmp_laws.specs.Sweeps.{OnlyCarries, bytes_brought, is_asked, IsSweep, AreSweeps}
 use Rattle.ddcmp_laws.specs.Sweeps.{in_a_row, AreEnough, after_round}
-use Rattle.ddcmp_laws.specs.SweepStory.{small, until_loss, after_loss, quiet, at_first}
+use Rattle.ddcmp_laws.specs.SweepStory.{until_loss, after_loss, quiet, at_first}
+use Rattle.ddcmp_laws.specs.Vectors.{small}
 use Rattle.ddcmp_laws.specs.SweepStory.{then_both_run, then_it_arrives}
 use Rattle.ddcmp_core.specs.Core.{IsSound}
 use Rattle.ddcmp_frame.specs.Reading.{ReadItem, open_at_end, ending}

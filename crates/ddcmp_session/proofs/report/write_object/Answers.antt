@@ -1,5 +1,5 @@
 use Rattle.std.proofs.Common.{sym, ◌∙◌}
-use Rattle.ddcmp_session.proofs.ErrorsLaws.{line-then, line-none, queues-into}
+use Rattle.ddcmp_streams.proofs.ErrorsLaws.{line-then, line-none, queues-into}
 use Rattle.ddcmp_session.proofs.report.write_object.Goals as goal
 
 pub returns-then-begin_object : goal.returns-then-begin_object

@@ -6,7 +6,10 @@ use Rattle.ddcmp_session.proofs.text.put_hex.Goals as goal
 
 pub loop-at-init : goal.loop-at-init
 loop-at-init c =
-    record { within = omega arith; put = puts-as _ _ _ _ (sym hex-nothing) (puts-nothing c.args.out.now) }
+    record {
+      within = omega arith;
+      put = puts-as _ _ _ _ (sym hex-nothing) (puts-nothing c.args.out.now);
+    }
 
 pub loop-at-preserved : goal.loop-at-preserved
 loop-at-preserved c =

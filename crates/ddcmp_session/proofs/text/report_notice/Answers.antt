@@ -1,4 +1,4 @@
-use Rattle.ddcmp_session.proofs.ErrorsLaws.{through-page}
+use Rattle.ddcmp_streams.proofs.ErrorsLaws.{through-page}
 use Rattle.ddcmp_session.proofs.text.report_notice.Goals as goal
 
 pub returns : goal.returns

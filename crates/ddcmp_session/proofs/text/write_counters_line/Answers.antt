@@ -1,7 +1,7 @@
 use Rattle.std.proofs.Common.{[], ap}
 use Rattle.ddcmp_io.proofs.TextLaws.{sends-as}
 use Rattle.ddcmp_station.specs.CountersText.{counters_line}
-use Rattle.ddcmp_session.proofs.ErrorsLaws.{through-page}
+use Rattle.ddcmp_streams.proofs.ErrorsLaws.{through-page}
 use Rattle.ddcmp_session.proofs.text.write_counters_line.Goals as goal
 
 pub returns : goal.returns

@@ -3,8 +3,9 @@ use Rattle.ddcmp_io.specs.Written.{HandsOver}
 use Rattle.ddcmp_io.proofs.WrittenLaws.{sends-then}
 use Rattle.ddcmp_io.proofs.TextLaws.{sends-as}
 use Rattle.ddcmp_station.specs.CountersText.{counters_line}
-use Rattle.ddcmp_session.specs.EndText.{end_text, paged}
-use Rattle.ddcmp_session.proofs.ErrorsLaws.{through-page}
+use Rattle.ddcmp_session.specs.EndText.{end_text}
+use Rattle.ddcmp_streams.specs.Queued.{paged}
+use Rattle.ddcmp_streams.proofs.ErrorsLaws.{through-page}
 use Rattle.ddcmp_session.proofs.text.write_end.Goals as goal
 use Rattle.ddcmp_session.proofs.text.write_end.Goals.{then-counted, else-counted}
 

@@ -4,7 +4,7 @@ use Rattle.ddcmp_io.proofs.TextLaws.{sends-as}
 use Rattle.ddcmp_station.specs.declared.counts.Layout.TheVariants.{Json}
 use Rattle.ddcmp_station.specs.CountersText.{counts_text}
 use Rattle.ddcmp_station.specs.StationText.{state_text}
-use Rattle.ddcmp_session.proofs.ErrorsLaws.{through-page}
+use Rattle.ddcmp_streams.proofs.ErrorsLaws.{through-page}
 use Rattle.ddcmp_session.proofs.text.write_members.Goals as goal
 
 pub returns : goal.returns

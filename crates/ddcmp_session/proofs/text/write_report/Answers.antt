@@ -3,7 +3,7 @@ use Rattle.ddcmp_io.proofs.WrittenLaws.{sends-then}
 use Rattle.ddcmp_io.proofs.TextLaws.{sends-as}
 use Rattle.ddcmp_station.specs.CountersText.{counters_line}
 use Rattle.ddcmp_station.specs.StationText.{state_text}
-use Rattle.ddcmp_session.proofs.ErrorsLaws.{through-page}
+use Rattle.ddcmp_streams.proofs.ErrorsLaws.{through-page}
 use Rattle.ddcmp_session.proofs.text.write_report.Goals as goal
 
 pub returns : goal.returns

@@ -3,15 +3,15 @@ use Rattle.std.proofs.Common.{length, set}
 use Rattle.ddcmp_explain.specs.Output.{totals_in}
 use Rattle.ddcmp_explain.specs.declared.notation.Notation.TheVariants as wording
 use Rattle.ddcmp_tap.specs.Tapped.{fronted, wording_of}
-use Rattle.ddcmp_tap.specs.declared.notation.Notation.{Notation}
-use Rattle.ddcmp_tap.specs.declared.notation.Notation.TheVariants.{Plain, Ladder}
+use Rattle.ddcmp_tap.specs.declared.notation.LogNotation.{LogNotation}
+use Rattle.ddcmp_tap.specs.declared.notation.LogNotation.TheVariants.{Plain, Ladder}
 use Rattle.ddcmp_tap.specs.declared.side.Side.{Side}
 use Rattle.ddcmp_io.proofs.WrittenLaws.{sends-then}
 use Rattle.ddcmp_tap.proofs.TextLaws.{flushed, ok-whole, joined, inside, written-back}
 use Rattle.ddcmp_tap.proofs.item_log.put_last.Goals as goal
 
 -- a ladder ends in words too
-in_words : (notation : Notation) (stamp : Option ℕ) (side : Side) (items bytes left_open : ℕ)
+in_words : (notation : LogNotation) (stamp : Option ℕ) (side : Side) (items bytes left_open : ℕ)
     (before after : List ℕ) → (notation ≡ Plain) ⊎ (notation ≡ Ladder)
     → after ≡ before ++ fronted Plain stamp side (totals_in wording.Plain items bytes left_open)
     → after

@@ -4,12 +4,14 @@ use Rattle.ddcmp_bridge.proofs.bridge.Bridge.run.Goals as goal
 
 pub returns-then-is_over-clause-goes : goal.returns-then-is_over-clause-goes
 returns-then-is_over-clause-goes g c =
-    goes-then (goes-same c.loop-turn.invariant.goes c.now-now.ensures.traffic) c.pass-moved.ensures.goes
+    goes-then (goes-same c.loop-turn.invariant.goes c.now-now.ensures.traffic)
+    c.pass-moved.ensures.goes
 
 pub returns-then-passed-ends_at-clause-goes : goal.returns-then-passed-ends_at-clause-goes
 returns-then-passed-ends_at-clause-goes g c =
     goes-same
-    (goes-then (goes-same c.loop-turn.invariant.goes c.now-now.ensures.traffic) c.pass-moved.ensures.goes)
+    (goes-then (goes-same c.loop-turn.invariant.goes c.now-now.ensures.traffic)
+    c.pass-moved.ensures.goes)
     c.now-passed.ensures.traffic
 
 pub loop-turn-preserved : goal.loop-turn-preserved
@@ -25,5 +27,6 @@ loop-turn-preserved g c = record {
 pub returns-then-not-goes_on-clause-goes : goal.returns-then-not-goes_on-clause-goes
 returns-then-not-goes_on-clause-goes g c =
     goes-same
-    (goes-then (goes-same c.loop-turn.invariant.goes c.now-now.ensures.traffic) c.pass-moved.ensures.goes)
+    (goes-then (goes-same c.loop-turn.invariant.goes c.now-now.ensures.traffic)
+    c.pass-moved.ensures.goes)
     (c.goes_on.ensures ∙ c.now-passed.ensures.traffic)

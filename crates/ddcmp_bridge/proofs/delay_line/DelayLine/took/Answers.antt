@@ -1,4 +1,5 @@
-use Rattle.std.proofs.Common.{◌≡◌, ◌∙◌, ◌≤◌, ◌∷◌, [], ◌++◌, suc, All, ap, arith, length, subst, sym, vec_capacity, length-append}
+use Rattle.std.proofs.Common.{◌≡◌, ◌∙◌, ◌≤◌, ◌∷◌, [], ◌++◌, suc, All, ap, arith, length, subst, sym}
+use Rattle.std.proofs.Common.{vec_capacity, length-append}
 use Rattle.std.specs.Prelude.{option_to_list}
 use Rattle.std.proofs.lemmas.List.Elements.{All-push}
 use Rattle.ddcmp_bridge.specs.declared.relay.TheConstants.{FRAME}
@@ -20,7 +21,8 @@ invariant_of-self-2 c =
       omega arith,
       λ k d l. held (suc k) d (omega (arith, l)),
       subst (All (λ b. FRAME ≤ vec_capacity b)) (sym spare)
-          (All-push (λ b. FRAME ≤ vec_capacity b) c.self.inside.spare.items first.frame inv.2 reserved),
+          (All-push (λ b. FRAME ≤ vec_capacity b) c.self.inside.spare.items
+          first.frame inv.2 reserved),
       omega (arith, inv.3, longer, one, c.pop_front.ensures.capacity),
       omega (arith, inv.4, longer, one, c.push.ensures.capacity),
     )

@@ -1,4 +1,5 @@
-use Rattle.std.proofs.Common.{◌≡◌, ◌∙◌, ◌∷◌, [], ◌+◌, ◌++◌, ap, arith, drop, inr, length, refl, subst, sym, take}
+use Rattle.std.proofs.Common.{◌≡◌, ◌∙◌, ◌∷◌, [], ◌+◌, ◌++◌, ap, arith, drop, inr, length, refl}
+use Rattle.std.proofs.Common.{subst, sym, take}
 use Rattle.std.specs.Vec.{with_items}
 use Rattle.std.proofs.lemmas.List.{with_items_is}
 use Rattle.ddcmp_frame.specs.Reader.{LentBeside}
@@ -202,6 +203,7 @@ returns-in_default-good_header-clause-fate c = λ start came taken r.
     let idle = ap (λ w. w.waiting) v ∙ c.requires.idle in
     let adds =
     adds-one _ came _ lent _ c.in-Some.item inv.0 c.in-Some.is (e.item came was.stands) in
-    subst (λ w. fates_in w.faults start (came ++ take c.push_all-used.result.used c.args.bytes.now) ≡ fates_in w.faults start came ++ []) v
+    subst (λ w. fates_in w.faults start (came ++ take c.push_all-used.result.used c.args.bytes.now)
+    ≡ fates_in w.faults start came ++ []) v
     (fate-none came _ lent c.in-Some.item adds start _ taken was
     (c.in_default-good_header.ensures.frame lent))

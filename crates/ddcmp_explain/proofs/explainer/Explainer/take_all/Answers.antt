@@ -1,5 +1,5 @@
-use Rattle.std.proofs.Common.{◌++◌, [], refl, inl, Err, ap, append-nil, rules, subst, sym, take, arith, ◌∙◌}
-use Rattle.std.proofs.Common.{length-append, length-take-le}
+use Rattle.std.proofs.Common.{◌++◌, [], refl, inl, Err, ap, append-nil, rules, subst, sym, take}
+use Rattle.std.proofs.Common.{arith, ◌∙◌, length-append, length-take-le}
 use Rattle.std.proofs.lemmas.Bool.{false_from_ne_true}
 use Rattle.std.proofs.lemmas.Result.{err_from_is_err_and}
 use Rattle.std.proofs.KnownBytes.{Consumes-trans}
@@ -12,7 +12,9 @@ use Rattle.ddcmp_explain.proofs.explainer.Explainer.take_all.Goals as goal
 
 pub returns-in_err-take-in-Bytes-clause-tells : goal.returns-in_err-take-in-Bytes-clause-tells
 returns-in_err-take-in-Bytes-clause-tells g c = λ max before begun opened.
-    let told = err_from_is_err_and c.from_residual-in_err-take-in-Bytes.result c.from_residual-in_err-take-in-Bytes.ensures.1 in
+    let told =
+    err_from_is_err_and c.from_residual-in_err-take-in-Bytes.result
+    c.from_residual-in_err-take-in-Bytes.ensures.1 in
     let so_far = c.loop-self.invariant.so_far max before begun opened in
     let piece = take c.in-Bytes.n c.read_within.new.buf in
     let long = length-take-le c.in-Bytes.n c.read_within.new.buf c.in-Bytes.ensures.bytes.0 in
@@ -25,8 +27,9 @@ returns-in_err-take-in-Bytes-clause-tells g c = λ max before begun opened.
           (g.W.Sink.contents c.args.writer.now) (g.W.Sink.contents c.take-in-Bytes.new.writer)
           (Err c.in_err-take-in-Bytes.field-0.0))
           (c.in_err-take-in-Bytes.ensures.form ∙ c.loop-self.invariant.form)
-          (subst (λ style. Tells c.take-in-Bytes.new.self.decoder.form style max (so_far.seen ++ piece) left
-          (g.W.Sink.contents c.args.writer.now) (g.W.Sink.contents c.take-in-Bytes.new.writer)
+          (subst (λ style. Tells c.take-in-Bytes.new.self.decoder.form style max
+          (so_far.seen ++ piece) left (g.W.Sink.contents c.args.writer.now)
+          (g.W.Sink.contents c.take-in-Bytes.new.writer)
           (Err c.in_err-take-in-Bytes.field-0.0))
           (c.in_err-take-in-Bytes.ensures.style ∙ c.loop-self.invariant.style)
           (c.in_err-take-in-Bytes.ensures.takes max _ so_far.seen so_far.progress left)),
@@ -58,12 +61,13 @@ loop-self-preserved g c = record {
   room = search rules;
   form = c.in_ok-take-in-Bytes.ensures.form ∙ c.loop-self.invariant.form;
   style = c.in_ok-take-in-Bytes.ensures.style ∙ c.loop-self.invariant.style;
-  so_far = λ max before begun opened. let so_far = c.loop-self.invariant.so_far max before begun opened in record {
-    seen = so_far.seen ++ take c.in-Bytes.n c.read_within.new.buf;
-    consumed = Consumes-trans _ _ (g.R.Source.left c.read_within.new.reader) so_far.seen _
-        so_far.consumed c.in-Bytes.ensures.bytes.1;
-    progress = c.in_ok-take-in-Bytes.ensures.takes max _ so_far.seen so_far.progress;
-  };
+  so_far = λ max before begun opened.
+      let so_far = c.loop-self.invariant.so_far max before begun opened in record {
+        seen = so_far.seen ++ take c.in-Bytes.n c.read_within.new.buf;
+        consumed = Consumes-trans _ _ (g.R.Source.left c.read_within.new.reader) so_far.seen _
+            so_far.consumed c.in-Bytes.ensures.bytes.1;
+        progress = c.in_ok-take-in-Bytes.ensures.takes max _ so_far.seen so_far.progress;
+      };
 }
 
 -- the first piece was all, or there is more

@@ -2,7 +2,9 @@ use Rattle.std.proofs.Common.{◌≡◌, ◌+◌, refl, sym, ◌∙◌, ap, arit
 use Rattle.ddcmp_frame.specs.Inside.Scan.{bytes_in, skipped_in, left_in, IsDataFrame}
 use Rattle.ddcmp_frame.proofs.ScanLaws.{begun, index-take, takes-frame}
 use Rattle.ddcmp_frame.proofs.scan.Scan.take_frame.Goals.{then-is_empty-via-then-is_empty}
-use Rattle.ddcmp_frame.proofs.scan.Scan.take_frame.Goals.{then-is_empty-via-else-is_empty+then-piece}
+use Rattle.ddcmp_frame.proofs.scan.Scan.take_frame.Goals.{
+  then-is_empty-via-else-is_empty+then-piece,
+}
 use Rattle.ddcmp_frame.proofs.scan.Scan.take_frame.Goals as goal
 
 pub returns-in-Some-clause-takes : goal.returns-in-Some-clause-takes

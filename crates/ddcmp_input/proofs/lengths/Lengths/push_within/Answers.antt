@@ -1,6 +1,6 @@
 use Rattle.std.proofs.Common.{◌≡◌, ap, ◌∙◌, ◌-◌, arith, length, take, sym, length-take-le, take_all}
 use Rattle.ddcmp_input.specs.Lengths.{after_bytes, entries_of_bytes}
-use Rattle.ddcmp_input.specs.declared.lengths.Place.TheVariants.{Start, Inside}
+use Rattle.ddcmp_input.specs.declared.lengths.LengthPlace.TheVariants.{Start, Inside}
 use Rattle.ddcmp_input.proofs.LengthsLaws.{at, some_is_left, short_state, none_of_short}
 use Rattle.ddcmp_input.proofs.LengthsLaws.{none_of_first, whole_state, message_of_whole}
 use Rattle.ddcmp_input.proofs.lengths.Lengths.push_within.Goals as goal

@@ -112,7 +112,8 @@ returns-clause-rests g c = λ e.
     c.write_errors.new.session.state c.pass_input.new.self c.pass_received.new.self
     c.fill.ensures.filled
     (ap (λ (s : LoggedSession). s.state) (passed.0 ∙ c.write_line-moved.ensures.idle n.first))
-    (c.in_ok-moved-2.ensures.typed (as-ok n.third)) (c.in_ok-moved-2.ensures.told (as-ok n.third))
+    (c.in_ok-moved-2.ensures.input_read (as-ok n.third))
+    (c.in_ok-moved-2.ensures.told (as-ok n.third))
     (fed.0
     ∙ ap (λ (s : SessionView). record s { output = c.pass_received.new.session.state.output })
     c.in_ok-moved-3.ensures.session)

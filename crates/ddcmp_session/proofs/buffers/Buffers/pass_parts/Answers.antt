@@ -1,7 +1,7 @@
 use Rattle.std.proofs.Common.{refl, sym}
 use Rattle.ddcmp_session.proofs.GoingLaws.{stays, goes-then}
 use Rattle.ddcmp_session.proofs.InputGoes.{types-held}
-use Rattle.ddcmp_session.proofs.InputLaws.{has-typed}
+use Rattle.ddcmp_session.proofs.InputLaws.{has-input_read}
 use Rattle.ddcmp_session.proofs.buffers.Buffers.pass_parts.Goals as goal
 
 pub loop-part-init : goal.loop-part-init
@@ -15,13 +15,14 @@ pub loop-part-preserved : goal.loop-part-preserved
 loop-part-preserved c = record {
   on = λ known.
       goes-then (c.loop-part.invariant.on known)
-      (types-held c.loop-part.session.state c.typed-used.new.self.state c.typed-used.result
+      (types-held c.loop-part.session.state c.input_read-used.new.self.state
+      c.input_read-used.result
       c.rest.result.now
       c.used.new.self c.rest.ensures c.used.ensures
-      (has-typed c.typed-used.result c.rest.result.now c.loop-part.session.state
-      c.typed-used.new.self.state
-      c.typed-used.ensures.used c.typed-used.ensures.state c.typed-used.ensures.first
-      c.typed-used.ensures.few (λ e. (c.typed-used.ensures.none e).0)));
+      (has-input_read c.input_read-used.result c.rest.result.now c.loop-part.session.state
+      c.input_read-used.new.self.state
+      c.input_read-used.ensures.used c.input_read-used.ensures.state c.input_read-used.ensures.first
+      c.input_read-used.ensures.few (λ e. (c.input_read-used.ensures.none e).0)));
   session = λ e. cc;
   held = λ e. cc;
 }

@@ -2,7 +2,7 @@ use Rattle.std.proofs.Common.{ap, inr, refl, Err}
 use Rattle.ddcmp_session.specs.declared.devices.Fault.TheVariants.{Line}
 use Rattle.ddcmp_session.proofs.LinesGo.{goes-over, none-over, over-then, reports-over}
 use Rattle.ddcmp_session.proofs.LinesGo.{same-err, same-fault}
-use Rattle.ddcmp_session.specs.declared.session.End.TheVariants as End
+use Rattle.ddcmp_session.specs.declared.session.EndReason.TheVariants as EndReason
 use Rattle.ddcmp_session.proofs.StopLaws.{may-at-end}
 use Rattle.ddcmp_session.proofs.buffers.Buffers.run_one.Goals as goal
 
@@ -12,7 +12,7 @@ returns-in-Ok-Done-clause-over g c =
 
 pub returns-in-Ok-Done-clause-well : goal.returns-in-Ok-Done-clause-well
 returns-in-Ok-Done-clause-well g c = λ e.
-    may-at-end c.run.new.session.state (c.run.ensures.ended End.Done cc)
+    may-at-end c.run.new.session.state (c.run.ensures.ended EndReason.Done cc)
 
 pub returns-in-Ok-Restarted-clause-over : goal.returns-in-Ok-Restarted-clause-over
 returns-in-Ok-Restarted-clause-over g c =

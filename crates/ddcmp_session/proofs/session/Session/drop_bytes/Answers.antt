@@ -89,4 +89,5 @@ returns-after-loop-part-clause-dropped c =
 pub returns-then-at-bytes-clause-dropped : goal.returns-then-at-bytes-clause-dropped
 returns-then-at-bytes-clause-dropped c =
     drops-all c.args.bytes.now c.loop-part.at c.args.self.now.state.messages
-    (dropping c.args.self.now) (dropping c.loop-part.self) (omega (arith, c.if-at-bytes.true)) c.loop-part.invariant.2
+    (dropping c.args.self.now) (dropping c.loop-part.self) (omega (arith, c.if-at-bytes.true))
+    c.loop-part.invariant.2

@@ -6,7 +6,8 @@ use Rattle.ddcmp_session.proofs.FrameLaws.{at-most, not-datagrams, one-datagram,
 use Rattle.ddcmp_session.proofs.FrameLaws.{puts-at-most-none, puts-at-most-one, puts-some}
 use Rattle.ddcmp_session.proofs.FrameLaws.{puts-then}
 use Rattle.ddcmp_session.proofs.session.Session.fill.Goals as goal
-use Rattle.ddcmp_session.proofs.session.Session.fill.Goals.{else-is_of_datagrams-via-then-is_of_datagrams+else-not-is_empty, else-is_of_datagrams-via-else-is_of_datagrams}
+use Rattle.ddcmp_session.proofs.session.Session.fill.Goals.{else-is_of_datagrams-via-then-is_of_datagrams+else-not-is_empty}
+use Rattle.ddcmp_session.proofs.session.Session.fill.Goals.{else-is_of_datagrams-via-else-is_of_datagrams}
 
 pub returns-then-not-is_empty-clause-frames : goal.returns-then-not-is_empty-clause-frames
 returns-then-not-is_empty-clause-frames c = puts-none c.args.self.now.state

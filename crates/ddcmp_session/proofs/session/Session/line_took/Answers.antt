@@ -1,8 +1,8 @@
 use Rattle.std.proofs.Common.{◌∙◌, ap, sym, subst, take, List, ℕ, ◌≡◌}
 use Rattle.std.proofs.lemmas.List.{take_min}
-use Rattle.ddcmp_session.specs.declared.trace.Way.TheVariants.{ToLine}
+use Rattle.ddcmp_streams.specs.declared.trace.Way.TheVariants.{ToLine}
 use Rattle.ddcmp_session.specs.Logged.{LogView, Traces}
-use Rattle.ddcmp_session.specs.Trace.{Logs}
+use Rattle.ddcmp_streams.specs.Trace.{Logs}
 use Rattle.ddcmp_session.proofs.LineLogLaws.{traces-some, traces-none}
 use Rattle.ddcmp_session.specs.contracts.session.Session as session
 use Rattle.ddcmp_session.proofs.session.Session.line_took.Goals.{in-Some, in_default}

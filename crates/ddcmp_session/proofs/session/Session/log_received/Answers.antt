@@ -1,6 +1,6 @@
 use Rattle.std.proofs.Common.{sym}
-use Rattle.ddcmp_session.specs.declared.trace.Way.TheVariants.{FromLine}
-use Rattle.ddcmp_session.specs.Trace.{Logs}
+use Rattle.ddcmp_streams.specs.declared.trace.Way.TheVariants.{FromLine}
+use Rattle.ddcmp_streams.specs.Trace.{Logs}
 use Rattle.ddcmp_session.proofs.LineLogLaws.{traces-some}
 use Rattle.ddcmp_session.specs.contracts.session.Session as session
 use Rattle.ddcmp_session.proofs.session.Session.log_received.Goals as goal

@@ -2,7 +2,7 @@ use Rattle.std.proofs.Common.{◌∙◌, ap, sym}
 use Rattle.ddcmp_io.proofs.TextLaws.{sends-as}
 use Rattle.ddcmp_session.specs.EndText.{end_line}
 use Rattle.ddcmp_station.specs.Linking.{LinkView}
-use Rattle.ddcmp_session.proofs.ErrorsLaws.{line-then, queues-into}
+use Rattle.ddcmp_streams.proofs.ErrorsLaws.{line-then, queues-into}
 use Rattle.ddcmp_session.proofs.session.Session.report_last_line.Goals as goal
 
 pub returns-then-begin_line-clause-errors : goal.returns-then-begin_line-clause-errors

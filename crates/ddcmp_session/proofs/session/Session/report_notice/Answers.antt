@@ -1,7 +1,7 @@
 use Rattle.std.proofs.Common.{◌≡◌, ◌∙◌, ap, sym}
-use Rattle.ddcmp_session.specs.declared.messages.Form.{Form}
+use Rattle.ddcmp_streams.specs.declared.messages.MessageForm.{MessageForm}
 use Rattle.ddcmp_session.specs.declared.session.Session.TheInside.{Inside}
-use Rattle.ddcmp_session.specs.Errors.{ErrorsView}
+use Rattle.ddcmp_streams.specs.Errors.{ErrorsView}
 use Rattle.ddcmp_session.specs.Session.{form_of}
 use Rattle.ddcmp_session.specs.Text.{dropped_by}
 use Rattle.ddcmp_session.proofs.LineLogLaws.{HasNoticeLine, drops-none, line-in-binary}
@@ -11,7 +11,7 @@ use Rattle.ddcmp_session.proofs.session.Session.report_notice.Goals as goal
 
 pub returns-in-Restarted-clause-errors : goal.returns-in-Restarted-clause-errors
 returns-in-Restarted-clause-errors c =
-    let by : Form = form_of c.self.inside.messages in
+    let by : MessageForm = form_of c.self.inside.messages in
     let old : ErrorsView = c.self.inside.errors in
     let mid : ErrorsView = c.match-self.self-inside.errors in
     let line : HasNoticeLine by c.args.notice old mid =
@@ -35,7 +35,7 @@ returns-in-Restarted-clause-errors c =
 
 pub returns-in-PeerRestarted-clause-errors : goal.returns-in-PeerRestarted-clause-errors
 returns-in-PeerRestarted-clause-errors c =
-    let by : Form = form_of c.self.inside.messages in
+    let by : MessageForm = form_of c.self.inside.messages in
     let old : ErrorsView = c.self.inside.errors in
     let mid : ErrorsView = c.match-self.self-inside.errors in
     let line : HasNoticeLine by c.args.notice old mid =
@@ -53,7 +53,7 @@ returns-in-PeerRestarted-clause-errors c =
 
 pub returns-in_default-clause-errors : goal.returns-in_default-clause-errors
 returns-in_default-clause-errors c =
-    let by : Form = form_of c.self.inside.messages in
+    let by : MessageForm = form_of c.self.inside.messages in
     let old : ErrorsView = c.self.inside.errors in
     let mid : ErrorsView = c.match-self.self-inside.errors in
     let line : HasNoticeLine by c.args.notice old mid =

@@ -1,7 +1,7 @@
 use Rattle.std.proofs.Common.{◌∙◌, sym, []}
 use Rattle.ddcmp_station.specs.StationText.{notice_line}
-use Rattle.ddcmp_session.proofs.ErrorsLaws.{line-then, line-none, queues-into}
-use Rattle.ddcmp_session.specs.contracts.errors.Errors as errors
+use Rattle.ddcmp_streams.proofs.ErrorsLaws.{line-then, line-none, queues-into}
+use Rattle.ddcmp_streams.specs.contracts.errors.Errors as errors
 use Rattle.ddcmp_session.proofs.session.line.put_notice.Goals as goal
 
 pub returns-then-begin_line : goal.returns-then-begin_line

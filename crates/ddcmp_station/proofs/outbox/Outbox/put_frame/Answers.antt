@@ -1,6 +1,6 @@
 use Rattle.std.proofs.Common.{◌≡◌, ◌+◌, ◌-◌, ◌≤◌, ◌++◌, ap, sym, ◌∙◌, drop, take, length, arith}
 use Rattle.std.proofs.lemmas.List.{with_items_is}
-use Rattle.ddcmp_station.specs.Linking.{bytes_of}
+use Rattle.ddcmp_station.specs.Driving.{frame_bytes}
 use Rattle.ddcmp_station.specs.declared.outbox.TheConstants.{ROOM}
 use Rattle.ddcmp_core.specs.Table.{next, next_frame}
 use Rattle.ddcmp_station.proofs.OutboxLaws.{framed, framed_length}
@@ -19,11 +19,11 @@ returns-in-Some-clause-bytes c =
     let items =
     with_items_is c.self.inside.bytes c.poll_after.new.bytes
     (c.poll_after.auto.bytes ∙ c.deref_mut.ensures.len) in
-    let room : ROOM - (e + k) ≡ (ROOM - e) - length (bytes_of syn f) =
+    let room : ROOM - (e + k) ≡ (ROOM - e) - length (frame_bytes syn f) =
     omega (arith, framed_length syn f k is) in
     rw (sym c.self.view_is) (λ i. record {
       waiting = (ap (λ ys. drop s (take (e + k) ys)) (items ∙ c.poll_after.ensures.bytes)
           ∙ framed syn f s e k held (drop e held) (omega arith) within is
-          ∙ ap (λ ys. drop s (take e ys) ++ bytes_of syn f) c.deref_mut.ensures.value) i;
+          ∙ ap (λ ys. drop s (take e ys) ++ frame_bytes syn f) c.deref_mut.ensures.value) i;
       room = room i;
     })

@@ -1,0 +1,6 @@
+use Rattle.ddcmp_args.specs.Inside.Making.{with_rules}
+use Rattle.ddcmp_args.proofs.command.explain_parser.Goals as goal
+
+pub returns : goal.returns
+unfolding with_rules
+returns c = c.with.ensures _ c.begin.ensures

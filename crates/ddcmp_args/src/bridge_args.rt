@@ -1,0 +1,169 @@
+//! The arguments of `bridge`.
+ghost use Rattle.clap.specs.Words.{first_value, found_of, one_text};
+ghost use Rattle.ddcmp_args.specs.Inside.Making.{Makes};
+ghost use Rattle.ddcmp_args.specs.Args.{HasBridge, bridge_app};
+
+use crate::command::{flag_given, notation_given, number_given, text_given};
+use crate::options::{CommandOption, CommandText, Takes};
+use crate::parser::Parser;
+use clap::ArgMatches;
+use ddcmp_bridge::Faults;
+use ddcmp_explain::Notation;
+use std::alloc::Global;
+
+/// The arguments of a bridge between two lines.
+#[derive(Clone, Copy, Debug)]
+pub struct BridgeArgs<'a> {
+    /// The name of a line, such as `connect:127.0.0.1:7000`.
+    pub first: &'a str,
+    pub second: &'a str,
+    /// After how many seconds it ends, if no line has ended before.
+    pub seconds: u32,
+    pub faults: Faults,
+    /// By how many milliseconds each frame is delayed.
+    pub delay: u32,
+    /// Whether received frames are printed.
+    pub trace: bool,
+    /// Whether they are drawn as a ladder.
+    pub ladder: bool,
+    /// The notation in which they are printed. It can't be JSON with a ladder.
+    pub notation: Notation,
+    /// The files to save the bytes received over each line in, if any.
+    pub save_first: Option<&'a str>,
+    pub save_second: Option<&'a str>,
+}
+
+/// `bridge`, with its description and help.
+static BRIDGE: CommandText = CommandText {
+    name: "bridge",
+    about: "Pass the good frames of each of two lines on to the other",
+    help: "\
+LINE is one of:
+  connect:HOST:PORT      a TCP connection to this address
+  listen:HOST:PORT       a TCP connection accepted at this address
+  udp:LOCAL,REMOTE       datagrams between two addresses
+  device:PATH            a serial device that is set up already, as by stty
+Only whole good frames are passed on, unchanged but for the faults that are asked for;
+it ends with one of its lines.
+Output, at the end:
+  > frames=F skipped=S damaged=D lost=L altered=A
+      from the first line to the second: good frames, bytes that are in none, damaged
+      frames and headers; and how many good frames were lost and altered
+  < frames=F skipped=S damaged=D lost=L altered=A
+      the same for the other direction",
+};
+
+/// The options of a bridge.
+static BRIDGE_OPTIONS: [CommandOption; 12] = [
+    CommandOption {
+        name: "first",
+        takes: Takes::Place("LINE"),
+        is_required: true,
+        help: "First line to open, as listen:127.0.0.1:7000",
+    },
+    CommandOption {
+        name: "second",
+        takes: Takes::Place("LINE"),
+        is_required: true,
+        help: "Second line, opened after the first; both listen from the start",
+    },
+    CommandOption {
+        name: "seconds",
+        takes: Takes::Number {
+            low: 1,
+            high: u32::MAX,
+        },
+        is_required: false,
+        help: "End after N seconds, whatever the state",
+    },
+    CommandOption {
+        name: "lose",
+        takes: Takes::Number { low: 0, high: 100 },
+        is_required: false,
+        help: "Lose N percent of the good frames, 0 to 100 [default: 0]",
+    },
+    CommandOption {
+        name: "damage",
+        takes: Takes::Number { low: 0, high: 100 },
+        is_required: false,
+        help: "Change a byte in N percent of the others, 0 to 100 [default: 0]",
+    },
+    CommandOption {
+        name: "delay",
+        takes: Takes::Number {
+            low: 0,
+            high: u32::MAX,
+        },
+        is_required: false,
+        help: "Hold each good frame back for N milliseconds [default: 0]",
+    },
+    CommandOption {
+        name: "seed",
+        takes: Takes::Number {
+            low: 0,
+            high: u32::MAX,
+        },
+        is_required: false,
+        help: "Seed of the random faults; the same N repeats them [default: 1]",
+    },
+    CommandOption {
+        name: "trace",
+        takes: Takes::Nothing,
+        is_required: false,
+        help: "Log received frames on standard error",
+    },
+    CommandOption {
+        name: "ladder",
+        takes: Takes::Nothing,
+        is_required: false,
+        help: "Draw received frames as a ladder on standard error",
+    },
+    CommandOption {
+        name: "json",
+        takes: Takes::Nothing,
+        is_required: false,
+        help: "Log received frames as JSON objects on standard error",
+    },
+    CommandOption {
+        name: "save-first",
+        takes: Takes::Text("FILE"),
+        is_required: false,
+        help: "Save all bytes that come over the first line in a new FILE",
+    },
+    CommandOption {
+        name: "save-second",
+        takes: Takes::Text("FILE"),
+        is_required: false,
+        help: "Save those that come over the second line",
+    },
+];
+
+/// Returns the parser of `bridge` with its options.
+pub(crate) fn bridge_parser<'a>(alloc: Global) -> Parser<'a>
+    ensures { Makes result bridge_app }
+{
+    Parser::begin(alloc, &BRIDGE).with(&BRIDGE_OPTIONS)
+}
+
+/// Returns the arguments of `bridge`.
+pub(crate) fn bridge_given<'a>(options: &ArgMatches<'a>) -> BridgeArgs<'a>
+    ensures { HasBridge (one_text (found_of options.now)) (first_value (found_of options.now))
+        result }
+{
+    BridgeArgs {
+        first: text_given(options, "first"),
+        second: text_given(options, "second"),
+        seconds: number_given(options, "seconds", 1, u32::MAX, u32::MAX),
+        faults: Faults {
+            lose: number_given(options, "lose", 0, 100, 0),
+            damage: number_given(options, "damage", 0, 100, 0),
+            seed: number_given(options, "seed", 0, u32::MAX, 1),
+        },
+        delay: number_given(options, "delay", 0, u32::MAX, 0),
+        trace: flag_given(options, "trace"),
+        ladder: flag_given(options, "ladder"),
+        notation: notation_given(options),
+        save_first: options.get_str("save-first"),
+        save_second: options.get_str("save-second"),
+    }
+}

@@ -1,0 +1,211 @@
+//! The arguments of `link`.
+ghost use Rattle.std.specs.Prelude.{◌≡◌, ◌≤◌, codes};
+ghost use Rattle.clap.specs.Words.{first_value, found_of, one_text};
+ghost use Rattle.ddcmp_args.specs.Inside.Making.{Makes};
+ghost use Rattle.ddcmp_args.specs.Args.{HasLink, HasMessages, link_app, default_syn_of};
+ghost use Rattle.ddcmp_proto.specs.declared.config.TheConstants.{MAX_SYN};
+
+use crate::command::{SIZE_OPTIONS, flag_given, number_given, sizes_given, text_given};
+use crate::options::{CommandOption, CommandText, Takes};
+use crate::parser::Parser;
+use clap::ArgMatches;
+use ddcmp_streams::{MessageForm, Options};
+use std::alloc::Global;
+
+/// The `timer_ms` of a link if no option sets it.
+pub const DEFAULT_TIMER_MS: u32 = 3000;
+
+/// The `attempts` of a link if no option sets them.
+pub const DEFAULT_ATTEMPTS: u32 = u32::MAX;
+
+/// The arguments of a link.
+#[derive(Clone, Copy, Debug)]
+pub struct LinkArgs<'a> {
+    /// The name of the line, such as `connect:127.0.0.1:7000`.
+    pub line: &'a str,
+    pub options: Options,
+}
+
+/// `link`, with its description and help.
+static LINK: CommandText = CommandText {
+    name: "link",
+    about: "Exchange messages over a line, by standard input and output",
+    help: "\
+LINE is one of:
+  connect:HOST:PORT      a TCP connection to this address
+  listen:HOST:PORT       a TCP connection accepted at this address
+  udp:LOCAL,REMOTE       datagrams between two addresses
+  device:PATH            a serial device that is set up already, as by stty;
+                         the default of --syn is 4
+Input: one message per line, in hexadecimal digits; a line ? asks for a report.
+Output, as it happens:
+  notice N               a notice of the station, as Running or Acknowledged 1
+  mail HEX               a received message
+  lost N                 messages that were accepted and may not have arrived
+  state=S read=R written=W sent=M acknowledged=K handed=H
+                         at the end: state, bytes of the line, messages
+With --binary each message is preceded by its length in two bytes, high byte first,
+and all else goes to standard error.
+With --maintenance, as for MOP, each message goes once: it may be lost, and is
+never damaged. A message counts as delivered once it is written.",
+};
+
+/// The line of a link, which is required.
+static LINE_OPTIONS: [CommandOption; 1] = [CommandOption {
+    name: "line",
+    takes: Takes::Text("LINE"),
+    is_required: true,
+    help: "Line to open, as connect:127.0.0.1:7000",
+}];
+
+/// The options of a link apart from its line and its sizes.
+static LINK_OPTIONS: [CommandOption; 13] = [
+    CommandOption {
+        name: "timer-ms",
+        takes: Takes::Number {
+            low: 1,
+            high: u32::MAX,
+        },
+        is_required: false,
+        help: "Reply timer in milliseconds, from 1 [default: 3000]",
+    },
+    CommandOption {
+        name: "attempts",
+        takes: Takes::Number {
+            low: 0,
+            high: u32::MAX,
+        },
+        is_required: false,
+        help: "Leave a line after N tries without progress, 0: never [default: 7 to start]",
+    },
+    CommandOption {
+        name: "linger-ms",
+        takes: Takes::Number {
+            low: 0,
+            high: u32::MAX,
+        },
+        is_required: false,
+        help: "Once done, stay until no reply was due for N milliseconds [default: 500]",
+    },
+    CommandOption {
+        name: "seconds",
+        takes: Takes::Number {
+            low: 1,
+            high: u32::MAX,
+        },
+        is_required: false,
+        help: "End after N seconds, whatever the state",
+    },
+    CommandOption {
+        name: "report",
+        takes: Takes::Number {
+            low: 0,
+            high: u32::MAX,
+        },
+        is_required: false,
+        help: "Report the counters on standard error every N seconds",
+    },
+    CommandOption {
+        name: "binary",
+        takes: Takes::Nothing,
+        is_required: false,
+        help: "Read and write messages as bytes after their length",
+    },
+    CommandOption {
+        name: "maintenance",
+        takes: Takes::Nothing,
+        is_required: false,
+        help: "Exchange maintenance messages, which nobody acknowledges",
+    },
+    CommandOption {
+        name: "stay",
+        takes: Takes::Nothing,
+        is_required: false,
+        help: "Keep running once all input was delivered",
+    },
+    CommandOption {
+        name: "again",
+        takes: Takes::Nothing,
+        is_required: false,
+        help: "Open the line again if it ends or can't be opened",
+    },
+    CommandOption {
+        name: "counters",
+        takes: Takes::Nothing,
+        is_required: false,
+        help: "Print the station's counters before the last line",
+    },
+    CommandOption {
+        name: "trace",
+        takes: Takes::Nothing,
+        is_required: false,
+        help: "Log each frame both ways on standard error",
+    },
+    CommandOption {
+        name: "clock",
+        takes: Takes::Nothing,
+        is_required: false,
+        help: "Begin each line on standard error with the time of day (UTC)",
+    },
+    CommandOption {
+        name: "json",
+        takes: Takes::Nothing,
+        is_required: false,
+        help: "Write reports as JSON objects",
+    },
+];
+
+/// Returns the parser of `link` with its options.
+pub(crate) fn link_parser<'a>(alloc: Global) -> Parser<'a>
+    ensures { Makes result link_app }
+{
+    Parser::begin(alloc, &LINK)
+        .with(&LINE_OPTIONS)
+        .with(&SIZE_OPTIONS)
+        .with(&LINK_OPTIONS)
+}
+
+/// Returns the default for SYN bytes before each frame of a line: a serial line needs them for
+/// synchronism.
+fn default_syn(line: &str) -> u8
+    ensures value { result ≡ default_syn_of line.now }
+    ensures most { result ≤ MAX_SYN }
+{
+    if line.starts_with("device:") { 4 } else { 0 }
+}
+
+/// Returns the form of messages.
+fn messages_given(options: &ArgMatches<'_>) -> MessageForm
+    ensures { HasMessages (one_text (found_of options.now) (codes "binary")) result }
+{
+    if flag_given(options, "binary") {
+        MessageForm::Binary
+    } else {
+        MessageForm::Digits
+    }
+}
+
+/// Returns the arguments of `link`.
+pub(crate) fn link_given<'a>(options: &ArgMatches<'a>) -> LinkArgs<'a>
+    ensures { HasLink (one_text (found_of options.now)) (first_value (found_of options.now))
+        result }
+{
+    let line = text_given(options, "line");
+    let options = Options {
+        config: sizes_given(options, default_syn(line)),
+        timer_ms: number_given(options, "timer-ms", 1, u32::MAX, DEFAULT_TIMER_MS),
+        attempts: number_given(options, "attempts", 0, u32::MAX, DEFAULT_ATTEMPTS),
+        linger_ms: number_given(options, "linger-ms", 0, u32::MAX, 500),
+        seconds: number_given(options, "seconds", 1, u32::MAX, u32::MAX),
+        report: number_given(options, "report", 0, u32::MAX, 0),
+        form: messages_given(options),
+        maintenance: flag_given(options, "maintenance"),
+        stay: flag_given(options, "stay"),
+        again: flag_given(options, "again"),
+        counters: flag_given(options, "counters"),
+        trace: flag_given(options, "trace"),
+        clock: flag_given(options, "clock"),
+        json: flag_given(options, "json"),
+    };
+    LinkArgs { line, options }
+}

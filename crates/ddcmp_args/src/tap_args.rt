@@ -1,0 +1,113 @@
+//! The arguments of `tap`.
+ghost use Rattle.clap.specs.Words.{first_value, found_of, one_text};
+ghost use Rattle.ddcmp_args.specs.Inside.Making.{Makes};
+ghost use Rattle.ddcmp_args.specs.Args.{HasTap, tap_app};
+
+use crate::command::{flag_given, notation_given, number_given, text_given};
+use crate::options::{CommandOption, CommandText, Takes};
+use crate::parser::Parser;
+use clap::ArgMatches;
+use ddcmp_core::MAX_COUNT;
+use ddcmp_explain::Notation;
+use std::alloc::Global;
+
+/// The arguments of a tap.
+#[derive(Clone, Copy, Debug)]
+pub struct TapArgs<'a> {
+    /// The address to listen at, such as `127.0.0.1:7000`.
+    pub listen: &'a str,
+    /// The address to connect to once someone has connected.
+    pub connect: &'a str,
+    /// Whether it serves one caller after another.
+    pub again: bool,
+    pub notation: Notation,
+    /// Whether the traffic is drawn as a ladder. It can't be with JSON.
+    pub ladder: bool,
+    /// Whether each line begins with the milliseconds.
+    pub time: bool,
+    /// The maximum number of bytes of data in a frame.
+    pub max: u16,
+}
+
+/// `tap`, with its description and help.
+static TAP: CommandText = CommandText {
+    name: "tap",
+    about: "Log the traffic between two ends of a TCP line",
+    help: "\
+Output, as bytes arrive:
+  > LINE                     a line of explain for the side that connected to the tap
+  < LINE                     the same for the other side
+  > items=I bytes=B open=O   at the end, and the same for the other side",
+};
+
+/// The options of a tap.
+static TAP_OPTIONS: [CommandOption; 7] = [
+    CommandOption {
+        name: "listen",
+        takes: Takes::Text("ADDR"),
+        is_required: true,
+        help: "Address to listen at, for one connection, as 127.0.0.1:7001",
+    },
+    CommandOption {
+        name: "connect",
+        takes: Takes::Text("ADDR"),
+        is_required: true,
+        help: "Address to connect to once someone has connected",
+    },
+    CommandOption {
+        name: "again",
+        takes: Takes::Nothing,
+        is_required: false,
+        help: "Carry one connection after another, until it is killed",
+    },
+    CommandOption {
+        name: "json",
+        takes: Takes::Nothing,
+        is_required: false,
+        help: "Print one JSON object per line",
+    },
+    CommandOption {
+        name: "ladder",
+        takes: Takes::Nothing,
+        is_required: false,
+        help: "Draw the traffic as a ladder of text",
+    },
+    CommandOption {
+        name: "time",
+        takes: Takes::Nothing,
+        is_required: false,
+        help: "Print the milliseconds since both were connected before each line",
+    },
+    CommandOption {
+        name: "max",
+        takes: Takes::Number {
+            low: 1,
+            high: MAX_COUNT as u32,
+        },
+        is_required: false,
+        help: "Longest data of a frame, 1 to 16383 bytes [default: 16383]",
+    },
+];
+
+/// Returns the parser of `tap` with its options.
+pub(crate) fn tap_parser<'a>(alloc: Global) -> Parser<'a>
+    ensures { Makes result tap_app }
+{
+    Parser::begin(alloc, &TAP).with(&TAP_OPTIONS)
+}
+
+/// Returns the arguments of `tap`.
+pub(crate) fn tap_given<'a>(options: &ArgMatches<'a>) -> TapArgs<'a>
+    ensures { HasTap (one_text (found_of options.now)) (first_value (found_of options.now))
+        result }
+{
+    TapArgs {
+        listen: text_given(options, "listen"),
+        connect: text_given(options, "connect"),
+        again: flag_given(options, "again"),
+        notation: notation_given(options),
+        ladder: flag_given(options, "ladder"),
+        time: flag_given(options, "time"),
+        max: number_given(options, "max", 1, MAX_COUNT as u32, MAX_COUNT as u32) as u16,
+    }
+}

@@ -1,0 +1,64 @@
+//! The files that the program reads.
+ghost use Rattle.std.specs.Prelude.{◌≡◌, ◌⊎◌};
+ghost use Rattle.ddcmp_commands.specs.Endings.{IsUnopened};
+
+use crate::ending::Ending;
+use crate::fault::Fault;
+use ddcmp_io::{FromRead, Source, Worst};
+use std::alloc::Global;
+use std::fs::{self, File};
+use std::io::{ErrorKind, IsTerminal};
+
+/// The files that the program reads, besides its standard input.
+pub trait Inputs {
+    ghost use Rattle.std.specs.Prelude.{◌≡◌, ℕ, List, Option, Some, IfOk};
+    ghost use Rattle.ddcmp_io.specs.declared.device.Worst.TheVariants.{Fine};
+
+    type Opened: Source + Drop;
+
+    // The contents of the file of a name, if known.
+    ghost held: { Self → List ℕ → Option (List ℕ) };
+
+    /// Opens the file of this name, to be read from its beginning, or returns the system's error.
+    fn open(&self, name: &str) -> Result<Self::Opened, ErrorKind>
+        ensures fine { IfOk result (λ opened. Self.Opened.state opened ≡ Fine) }
+        ensures held { IfOk result (λ opened. (bytes : List ℕ)
+            → held self.now name.now ≡ Some bytes → Self.Opened.left opened ≡ Some bytes) };
+
+    /// Prints on standard error what is read, if standard input is a terminal.
+    fn await_typing(&self, what: &str);
+}
+
+/// The files of the system.
+impl Inputs for HostRuntime {
+    ghost use Rattle.std.specs.Prelude.{None};
+
+    type Opened = FromRead<File>;
+
+    ghost held = { λ _ _. None };
+
+    fn open(&self, name: &str) -> Result<FromRead<File>, ErrorKind> {
+        match fs::open(self, name) {
+            Ok(file) => Ok(FromRead::new(file)),
+            Err(error) => Err(error.kind()),
+        }
+    }
+
+    fn await_typing(&self, what: &str) {
+        if self.stdin().is_terminal() {
+            let _unreported = self.eprintln(format_args!(
+                "ddcmp: reads {what} until the end of input"
+            ));
+        }
+    }
+}
+
+/// Returns the ending if the file of this name can't be opened, with the system's error.
+pub(crate) fn unopened(alloc: Global, name: &str, why: ErrorKind) -> Ending
+    ensures { IsUnopened name.now result ⊎ (result ≡ Ending.Fault Fault.Memory) }
+{
+    match String::from_str(alloc, name) {
+        Ok(name) => Ending::Unopened(name, why),
+        Err(_refused) => Ending::Fault(Fault::Memory),
+    }
+}

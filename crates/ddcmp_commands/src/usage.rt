@@ -1,0 +1,38 @@
+//! Usage errors, and the ending if a line can't be opened.
+ghost use Rattle.std.specs.Prelude.{◌≡◌, ◌≢◌, true};
+ghost use Rattle.ddcmp_commands.specs.Endings.{IsNoLine, is_refusal};
+ghost use Rattle.ddcmp_commands.specs.TapEndings.{IsUnopened};
+
+use crate::ending::Ending;
+use crate::fault::Fault;
+use ddcmp_device::OpenFault;
+use std::alloc::{AllocError, Global};
+
+/// Returns a usage error: what is wrong, and where to find help.
+pub fn usage(alloc: Global, what: &str) -> Ending
+    ensures refusal { is_refusal result ≡ true }
+    ensures kept { IsNoLine result × (result ≢ Ending.Fault Fault.Write) }
+{
+    match usage_text(alloc, what) {
+        Ok(text) => Ending::Usage(text),
+        Err(_refused) => Ending::Fault(Fault::Memory),
+    }
+}
+
+fn usage_text(alloc: Global, what: &str) -> Result<String, AllocError> {
+    let mut text = String::from_str(alloc, "error: ")?;
+    text.push_str(what)?;
+    text.push_str("\n\nFor more information, try '--help'.\n")?;
+    Ok(text)
+}
+
+/// Returns the ending if the line can't be opened.
+pub fn no_line(alloc: Global, fault: &OpenFault<'_>) -> Ending
+    ensures told { result ≢ Ending.Fault Fault.Write }
+    ensures unopened { IsUnopened result }
+{
+    match fault.to_string(alloc) {
+        Ok(text) => Ending::NoLine(text),
+        Err(_refused) => Ending::Fault(Fault::Memory),
+    }
+}

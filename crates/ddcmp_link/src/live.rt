@@ -1,0 +1,292 @@
+//! The devices of a link, on the system.
+ghost use Rattle.std.specs.Prelude.{◌≡◌, ◌≤◌, ◌↔◌, length};
+ghost use Rattle.ddcmp_device.specs.Outlets.{at_once};
+ghost use Rattle.ddcmp_io.specs.Transfers.{count_moved};
+ghost use Rattle.ddcmp_link.specs.Events.{Reports};
+ghost use Rattle.ddcmp_session.specs.Devices.{count_read};
+
+use ddcmp_device::{
+    Descriptor, Event, Framing, Line, LineName, OpenRefusal, Opener, Outlet, Poller, System,
+};
+use ddcmp_frame::ReaderRefusal;
+use ddcmp_io::{Down, Got, Sink, Source, Transfer, Wanted, Worst};
+use ddcmp_session::{Buffers, Devices, Session};
+use ddcmp_station::Clock;
+use std::alloc::Global;
+use std::fmt::InlineText;
+use std::io::{Eprint, ErrorKind};
+
+/// Standard input, output and error, a line and a clock.
+pub(crate) struct Live<'a, S, C, R, W> {
+    system: &'a S,
+    poller: Poller,
+    name: LineName<'a>,
+    opener: Opener<'a>,
+    line: Option<Line>,
+    clock: C,
+    reader: &'a mut R,
+    writer: &'a mut W,
+    output: Outlet,
+    errors: Outlet,
+    /// Finds the end of the last whole frame in a datagram, if the line is one of datagrams.
+    framing: Option<Framing>,
+}
+
+// Manual, since a derived `Drop` would be expanded wherever a value is dropped.
+impl<S, C: Drop, R, W> Drop for Live<'_, S, C, R, W> {
+    fn drop(self) {
+        let Live {
+            system: _,
+            poller: _poller,
+            name: _,
+            opener: _opener,
+            line: _line,
+            clock: _clock,
+            reader: _,
+            writer: _,
+            output: _output,
+            errors: _errors,
+            framing: _framing,
+        } = self;
+    }
+}
+
+/// The parts that a session's devices are made of.
+pub(crate) struct Parts<'a, S, C, R, W> {
+    pub(crate) system: &'a S,
+    pub(crate) poller: Poller,
+    pub(crate) name: LineName<'a>,
+    pub(crate) clock: C,
+    pub(crate) reader: &'a mut R,
+    pub(crate) writer: &'a mut W,
+}
+
+impl<'a, S: System, C: Clock + Drop, R: Source, W: Sink> Live<'a, S, C, R, W> {
+    /// Makes the devices, without a line. It allocates all memory that it will need. If the line is
+    /// one of datagrams, `datagrams` is the maximum length of a message.
+    pub(crate) fn new(
+        parts: Parts<'a, S, C, R, W>,
+        alloc: Global,
+        datagrams: Option<u16>,
+    ) -> Result<Self, ReaderRefusal> {
+        let Parts {
+            system,
+            poller,
+            name,
+            clock,
+            reader,
+            writer,
+        } = parts;
+        let framing = match datagrams {
+            Some(max) => Some(Framing::new(alloc, max.max(1))?),
+            None => None,
+        };
+        Ok(Live {
+            system,
+            poller,
+            name,
+            opener: Opener::new(name),
+            line: None,
+            clock,
+            reader,
+            writer,
+            output: Outlet::new(system, "/dev/stdout"),
+            errors: Outlet::new(system, "/dev/stderr"),
+            framing,
+        })
+    }
+
+    /// Has the owner of standard output write some of the pending bytes.
+    fn write_by_owner(&mut self, bytes: &[u8]) -> Transfer
+        ensures { count_moved result ≤ length (at_once self.old.output bytes.now) }
+    {
+        let bytes = self.output.piece(bytes);
+        if bytes.is_empty() {
+            return Transfer::Nothing;
+        }
+        if self.writer.failed() {
+            return FAILED;
+        }
+        match self.writer.write(bytes) {
+            Some(n) => Transfer::Bytes(n),
+            None => FAILED,
+        }
+    }
+
+    /// Prints some of the pending bytes. They count as written even if that fails.
+    fn print_some(&mut self, bytes: &[u8]) -> Transfer
+        ensures { result ≡ Transfer.Bytes (length (at_once self.old.errors bytes.now)) }
+    {
+        let bytes = self.errors.piece(bytes);
+        if let Ok(text) = str::from_utf8(bytes) {
+            let _ = self.system.eprint(text);
+        }
+        Transfer::Bytes(bytes.len())
+    }
+}
+
+/// A write by the owner of an output failed.
+const FAILED: Transfer = Transfer::Ended(Down::Failed(ErrorKind::Other));
+
+/// Reads an input, if it is ready. An input that has failed stays failed.
+fn read_ready<R: Source>(reader: &mut R, there: &mut Descriptor, space: &mut [u8]) -> Got
+    ensures failed { (result ≡ Got.Failed) ↔ (R.state reader.new ≡ Worst.Failed) }
+    ensures fits { count_read result ≤ length space.new }
+{
+    if reader.worst() == Worst::Failed {
+        return Got::Failed;
+    }
+    if !there.ready.to_read {
+        return Got::Idle;
+    }
+    there.has_read();
+    reader.read(space)
+}
+
+/// Writes to an outlet that was opened again; returns none if its owner is to write, who then gets
+/// the error.
+fn written(outlet: &mut Outlet, there: &mut Descriptor, bytes: &[u8]) -> Option<Transfer> {
+    let moved = outlet.write(bytes);
+    match moved {
+        Some(Transfer::Bytes(_) | Transfer::Interrupted) => moved,
+        Some(Transfer::Nothing) => {
+            there.has_written();
+            moved
+        }
+        Some(Transfer::Ended(_)) | None => {
+            there.has_written();
+            None
+        }
+    }
+}
+
+/// Reports an event of the line on standard error, if there is one.
+fn report(session: &mut Session, event: Option<Event<'_>>)
+    ensures state { session.new.state ≡ session.old.state }
+    ensures errors { Reports event.entry session.old.log.errors session.new.log.errors }
+    ensures log { session.new.log ≡ record session.old.log { errors = session.new.log.errors } }
+{
+    if let Some(event) = event {
+        session.report(&InlineText::of(event));
+    }
+}
+
+impl<S: System, C: Clock + Drop, R: Source, W: Sink> Devices for Live<'_, S, C, R, W> {
+    ghost use Rattle.std.specs.Prelude.{IfOk, OnErr, None, Some, is_some};
+    ghost use Rattle.ddcmp_link.specs.Events.{Reports};
+    ghost use Rattle.ddcmp_device.specs.LineNames.{line_kind, open_fault_of};
+    ghost use Rattle.ddcmp_device.specs.Opening.{SameIfNotYet, Opens, event_of, line_of};
+    ghost use Rattle.ddcmp_device.specs.declared.event.Event.TheVariants as event;
+    ghost use Rattle.ddcmp_device.specs.declared.opener.Opened.{Opened};
+
+    ghost traffic = { λ _. None };
+
+    type Refusal = OpenRefusal;
+
+    fn open_line(&mut self, session: &mut Session) -> Result<bool, OpenRefusal>
+        ensures session { session.new.state ≡ session.old.state }
+        ensures log { session.new.log
+            ≡ record session.old.log { errors = session.new.log.errors } }
+        ensures reports { IfOk result (λ is_open. (opened : Opened)
+            × Opens (line_kind self.old.opener.name) opened
+            × SameIfNotYet self.old.opener.connecting self.new.opener.connecting opened
+            × SameIfNotYet self.old.opener.listener self.new.opener.listener opened
+            × (self.new.line ≡ line_of opened) × (is_open ≡ is_some (line_of opened))
+            × Reports (event_of opened) session.old.log.errors session.new.log.errors) }
+        ensures refused { OnErr result (session.new ≡ session.old) }
+    {
+        let opened = self.opener.open(self.system, &mut self.poller)?;
+        report(session, opened.event());
+        self.line = opened.into_line();
+        Ok(self.line.is_some())
+    }
+
+    fn report_retry(&mut self, session: &mut Session, refusal: OpenRefusal, seconds: u64)
+        ensures session { session.new.state ≡ session.old.state }
+        ensures log { session.new.log
+            ≡ record session.old.log { errors = session.new.log.errors } }
+        ensures reports { Reports
+            (Some (event.Retry (open_fault_of self.old.name refusal) seconds))
+            session.old.log.errors session.new.log.errors }
+    {
+        let fault = self.name.open_fault(refusal);
+        report(session, Some(Event::Retry(fault, seconds)));
+    }
+
+    fn close_line(&mut self) {
+        if let Some(line) = self.line.take() {
+            line.close(&mut self.clock);
+        }
+        self.poller.forget_line();
+    }
+
+    fn read_input(&mut self, space: &mut [u8]) -> Got {
+        read_ready(&mut *self.reader, &mut self.poller.input, space)
+    }
+
+    fn may_read_line(&self) -> bool {
+        self.poller.may_read_line()
+    }
+
+    fn read_line(&mut self, space: &mut [u8]) -> Transfer {
+        let Some(line) = &mut self.line else {
+            return Transfer::Ended(Down::Closed);
+        };
+        let got = line.read(space);
+        self.poller.line_was_read(got == Transfer::Nothing);
+        match (got, &mut self.framing) {
+            // No frame continues in the next datagram, so an incomplete one is dropped.
+            (Transfer::Bytes(n), Some(framing)) => {
+                let n = n.min(space.len());
+                let unfinished = framing.unfinished(&space[..n]);
+                Transfer::Bytes(n.saturating_sub(unfinished))
+            }
+            (Transfer::Bytes(n), None) => Transfer::Bytes(n.min(space.len())),
+            (got, _) => got,
+        }
+    }
+
+    fn write_line(&mut self, bytes: &[u8]) -> Transfer {
+        let Some(line) = &mut self.line else {
+            return Transfer::Ended(Down::Closed);
+        };
+        if !self.poller.may_write_line() {
+            return Transfer::Nothing;
+        }
+        let took = line.write(bytes);
+        self.poller.line_was_written(took == Transfer::Nothing);
+        took
+    }
+
+    fn write_output(&mut self, bytes: &[u8]) -> Transfer {
+        if !self.poller.output.ready.to_write {
+            return Transfer::Nothing;
+        }
+        match written(&mut self.output, &mut self.poller.output, bytes) {
+            Some(moved) => moved,
+            None => self.write_by_owner(bytes),
+        }
+    }
+
+    fn write_errors(&mut self, bytes: &[u8]) -> Transfer {
+        if !self.poller.errors.ready.to_write {
+            return Transfer::Nothing;
+        }
+        match written(&mut self.errors, &mut self.poller.errors, bytes) {
+            Some(moved) => moved,
+            None => self.print_some(bytes),
+        }
+    }
+
+    fn rest(&mut self, session: &Session, buffers: &Buffers, most_ms: u64) -> bool {
+        self.poller.wait(buffers.wanted(session), most_ms)
+    }
+
+    fn wait(&mut self, wanted: Wanted, most_ms: u64) -> bool {
+        self.poller.wait(wanted, most_ms)
+    }
+
+    fn now(&mut self) -> u64 {
+        self.clock.now()
+    }
+}

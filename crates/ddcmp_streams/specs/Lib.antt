@@ -1,0 +1,6 @@
+pub mod Errors
+pub mod Messages
+pub mod Options
+pub mod Queued
+pub mod Trace
+pub use Rattle.ddcmp_io.specs.Queue

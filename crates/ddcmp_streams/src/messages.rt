@@ -1,0 +1,125 @@
+//! Messages as text: a line of hexadecimal digits each, or bytes after their length.
+ghost use Rattle.std.specs.Prelude.{◌≡◌, ◌+◌, ◌≤◌, ℕ, [], IfOk, None, Some, length, take};
+ghost use Rattle.std.specs.Prelude.{option_to_list};
+ghost use Rattle.ddcmp_streams.specs.Messages.{messages_begun, message_in, after_input};
+ghost use Rattle.ddcmp_streams.specs.Messages.{entries_of_input, is_message_unfinished};
+ghost use Rattle.ddcmp_streams.specs.Messages.{after_last, entry_of_last, has_last_line};
+ghost use Rattle.ddcmp_streams.specs.Messages.{is_question};
+ghost use Rattle.ddcmp_streams.specs.Messages.{line_number};
+
+use ddcmp_input::{Entry, HexLines, Lengths, Pushed};
+use std::alloc::{AllocError, Global};
+
+/// How messages are written on standard input and output.
+#[derive(Clone, Copy, Debug, PartialEq, Eq)]
+pub enum MessageForm {
+    /// Each as a line of hexadecimal digits.
+    Digits,
+    /// Each after its length as two bytes, high byte first.
+    Binary,
+}
+
+/// A reader of messages from an input in chunks of any size.
+pub enum Messages {
+    Digits(HexLines),
+    Binary(Lengths),
+}
+
+// Manual, since a derived `Drop` is expanded wherever it is dropped.
+impl Drop for Messages {
+    fn drop(self) {
+        match self {
+            Messages::Digits(_lines) => {}
+            Messages::Binary(_lengths) => {}
+        }
+    }
+}
+
+impl Messages {
+    /// Makes a reader of messages of 1 to `max` bytes. Allocates all the memory that it will need.
+    pub fn new(alloc: Global, form: MessageForm, max: u16) -> Result<Messages, AllocError>
+        ensures { IfOk result (λ made. made ≡ messages_begun form max) }
+    {
+        match form {
+            MessageForm::Digits => Ok(Messages::Digits(HexLines::new(alloc, max)?)),
+            MessageForm::Binary => Ok(Messages::Binary(Lengths::new(alloc, max)?)),
+        }
+    }
+
+    /// Returns the message that was read last.
+    pub fn message(&self) -> &[u8]
+        ensures { result.now ≡ message_in self.now }
+    {
+        match self {
+            Messages::Digits(lines) => lines.message(),
+            Messages::Binary(lengths) => lengths.message(),
+        }
+    }
+
+    /// Handles bytes of the input, up to the first that completes a message or a part that is none.
+    pub fn push(&mut self, bytes: &[u8]) -> Pushed
+        ensures used { result.used ≤ length bytes.now }
+        ensures first { (n : ℕ) (entry : Entry) → result.entry ≡ Some entry → result.used ≡ n + 1
+            → entries_of_input (take n bytes.now) self.old ≡ [] }
+        ensures whole { result.entry ≡ None → result.used ≡ length bytes.now }
+        ensures state { self.new ≡ after_input (take result.used bytes.now) self.old }
+        ensures entries { entries_of_input (take result.used bytes.now) self.old
+            ≡ option_to_list result.entry }
+    {
+        match self {
+            Messages::Digits(lines) => lines.push_all(bytes),
+            Messages::Binary(lengths) => lengths.push_all(bytes),
+        }
+    }
+
+    /// Handles the end of the input, and returns what the last line is, if it has no LF.
+    pub fn end(&mut self) -> Option<Entry>
+        ensures state { self.new ≡ after_last self.old }
+        ensures entry { result ≡ entry_of_last self.old }
+    {
+        match self {
+            Messages::Digits(lines) => lines.push(b'\n'),
+            Messages::Binary(_lengths) => None,
+        }
+    }
+
+    /// Returns whether the input, if it ends here, has a last line without LF that isn't empty.
+    pub fn has_last_line(&self) -> bool
+        ensures { result ≡ has_last_line self.now }
+    {
+        match self {
+            Messages::Digits(lines) => lines.has_last_line(),
+            Messages::Binary(_lengths) => false,
+        }
+    }
+
+    /// Returns whether a message in binary has begun whose end wasn't read yet.
+    pub fn is_unfinished(&self) -> bool
+        ensures { result ≡ is_message_unfinished self.now }
+    {
+        match self {
+            Messages::Digits(_lines) => false,
+            Messages::Binary(lengths) => lengths.is_unfinished(),
+        }
+    }
+
+    /// Returns whether the line of the input that was read last is `?`, which asks for a report.
+    pub fn is_question(&self) -> bool
+        ensures { result ≡ is_question self.now }
+    {
+        match self {
+            Messages::Digits(lines) => lines.is_question(),
+            Messages::Binary(_lengths) => false,
+        }
+    }
+
+    /// Returns the number of the line of the input that was read last, from 1; none in binary.
+    pub fn line_number(&self) -> Option<u64>
+        ensures { result ≡ line_number self.now }
+    {
+        match self {
+            Messages::Digits(lines) => Some(lines.number()),
+            Messages::Binary(_lengths) => None,
+        }
+    }
+}

@@ -1,0 +1,51 @@
+//! The options of a session.
+ghost use Rattle.std.specs.Prelude.{◌≡◌};
+ghost use Rattle.ddcmp_streams.specs.Options.{report_ms};
+
+use crate::messages::MessageForm;
+use ddcmp_proto::Config;
+
+/// The options of a session.
+#[derive(Clone, Copy, Debug)]
+pub struct Options {
+    /// The sizes of the station.
+    pub config: Config,
+    /// The reply timer, in milliseconds.
+    pub timer_ms: u32,
+    /// The number of tries without progress after which a line is left; 0 is never, and `u32::MAX`
+    /// is 7 until the station runs and never from then on.
+    pub attempts: u32,
+    /// How long it waits for more from a quiet peer once nothing of the input is left, in
+    /// milliseconds.
+    pub linger_ms: u32,
+    /// After how many seconds the run ends.
+    pub seconds: u32,
+    /// After how many seconds each report of the counters is written; 0 is never.
+    pub report: u32,
+    /// How messages are written on standard input and output.
+    pub form: MessageForm,
+    /// Whether messages are sent as maintenance messages, each once: none is numbered, acknowledged
+    /// or retransmitted.
+    pub maintenance: bool,
+    /// Whether it continues once nothing of the input is left.
+    pub stay: bool,
+    /// Whether the line is opened again if it ends or can't be opened.
+    pub again: bool,
+    /// Whether counters are written before the last line.
+    pub counters: bool,
+    /// Whether the frames of both directions are logged on standard error.
+    pub trace: bool,
+    /// Whether lines on standard error begin with the time of day.
+    pub clock: bool,
+    /// Whether reports are JSON objects.
+    pub json: bool,
+}
+
+impl Options {
+    /// Returns after how many milliseconds each report of the counters is due; 0 is never.
+    pub fn report_ms(&self) -> u64
+        ensures { result ≡ report_ms self.now }
+    {
+        1000 * self.report as u64
+    }
+}

@@ -1,6 +1,0 @@
-use Rattle.ddcmp_words.specs.Inside.Making.{with_rules}
-use Rattle.ddcmp_words.proofs.bridge_args.bridge_parser.Goals as goal
-
-pub returns : goal.returns
-unfolding with_rules
-returns c = c.with.ensures _ c.begin.ensures

@@ -1,6 +1,0 @@
-use Rattle.ddcmp_words.specs.Inside.Making.{with_rules}
-use Rattle.ddcmp_words.proofs.command.explain_parser.Goals as goal
-
-pub returns : goal.returns
-unfolding with_rules
-returns c = c.with.ensures _ c.begin.ensures
