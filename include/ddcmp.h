@@ -1,16 +1,16 @@
 /* A station of DDCMP, and a reader of frames alone, from the library libddcmp.
 
-   A ddcmp_station is a handle. Begin it as DDCMP_NO_STATION, pass it to every call by its address,
-   and never copy it: a copy would free the same station twice. One call at a time has a handle, and
-   a handle stays on the thread that made it. The same holds for a ddcmp_reader, which begins as
+   A ddcmp_station is a handle. Initialize it with DDCMP_NO_STATION, pass its address to every call,
+   and never copy it: a copy would free the same station twice. Only one call at a time may use a
+   handle, on the thread that made it. The same holds for a ddcmp_reader, which is initialized with
    DDCMP_NO_READER.
 
-   No pointer may be null: a slice of no bytes has some address too. What a pointer leads to is the
-   callee's alone until the call returns, so no two may overlap. If DDCMP_CHECKED is defined before
-   this header is read, each call first tests its pointers: it then returns DDCMP_NULL, or what it
-   returns for a handle without a station, and does nothing.
+   No pointer may be null, even with length 0. No two arguments of a call may overlap in memory. If
+   DDCMP_CHECKED is defined before this header is included, each call tests its pointers first: if
+   one is null, it does nothing, and returns DDCMP_NULL or what it returns for a handle without a
+   station. A null pointer with length 0 is allowed then.
 
-   But for ddcmp_new and ddcmp_reader_new no call allocates. */
+   Only ddcmp_new and ddcmp_reader_new allocate. */
 #ifndef DDCMP_H
 #define DDCMP_H
 
@@ -28,7 +28,7 @@ typedef struct ddcmp_station { void *at; } ddcmp_station;
 typedef struct ddcmp_reader { void *at; } ddcmp_reader;
 #define DDCMP_NO_READER { NULL }
 
-/* What a call returns. But for DDCMP_OK nothing was done. */
+/* The return codes. If a call returns anything but DDCMP_OK, it has changed nothing. */
 enum ddcmp_code {
     DDCMP_OK = 0,
     DDCMP_WINDOW = 1,       /* not 1 to 255 */
@@ -48,8 +48,8 @@ enum ddcmp_code {
     DDCMP_LONG_LINE = 15,   /* 2^64 bytes of one line: halt and ddcmp_clear_line, or reset */
     DDCMP_ABSENT = 16,      /* there is no such message */
     DDCMP_NULL = 17,        /* a pointer is null; only if DDCMP_CHECKED is defined */
-    DDCMP_BAD_HEADER = 18,  /* a header's kind is none, or a number is out of range */
-    DDCMP_BAD_COUNT = 19    /* the data aren't as many as the header says */
+    DDCMP_BAD_HEADER = 18,  /* the kind of a header is invalid, or a number is out of range */
+    DDCMP_BAD_COUNT = 19    /* the length of the data isn't that of the header */
 };
 
 enum ddcmp_state {
@@ -61,12 +61,13 @@ enum ddcmp_state {
     DDCMP_NO_STATE = 5      /* the handle has no station */
 };
 
+/* The notices: what happened at a station. */
 enum ddcmp_kind {
     DDCMP_NO_NOTICE = 0,
     DDCMP_IS_RUNNING = 1,
-    DDCMP_RUNNING_AND_HANDED_UP = 2,
+    DDCMP_RUNNING_AND_HANDED_UP = 2,        /* running, and a message was delivered */
     DDCMP_ACKNOWLEDGED = 3,                 /* count messages */
-    DDCMP_HANDED_UP = 4,
+    DDCMP_HANDED_UP = 4,                    /* a message was delivered to the inbox */
     DDCMP_HANDED_UP_AND_ACKNOWLEDGED = 5,   /* count messages acknowledged */
     DDCMP_PEER_STARTS = 6,
     DDCMP_PEER_RESTARTED = 7,
@@ -88,30 +89,30 @@ enum ddcmp_header_kind {
     DDCMP_HEADER_STACK = 7
 };
 
-/* What a reader finds in the bytes of a line. */
+/* What a reader returns for the bytes of a line. */
 enum ddcmp_item_kind {
     DDCMP_NO_ITEM = 0,
-    DDCMP_ITEM_GOOD = 1,            /* a whole frame whose checks are right */
-    DDCMP_ITEM_HEADER_CHECK = 2,    /* synchronism is lost: a header with a wrong check */
-    DDCMP_ITEM_DATA_CHECK = 3,      /* a frame whose data have another check */
-    DDCMP_ITEM_TOO_LONG = 4,        /* a frame with more data than the reader takes */
-    DDCMP_ITEM_FORMAT = 5           /* a header whose check is right and that is none */
+    DDCMP_ITEM_GOOD = 1,            /* a whole frame with right CRCs */
+    DDCMP_ITEM_HEADER_CHECK = 2,    /* synchronism is lost: a header with a wrong CRC */
+    DDCMP_ITEM_DATA_CHECK = 3,      /* a frame whose data have a wrong CRC */
+    DDCMP_ITEM_TOO_LONG = 4,        /* a frame with more data than the reader's max */
+    DDCMP_ITEM_FORMAT = 5           /* an invalid header with a right CRC */
 };
 
-/* Why it is none. A reader gives the first two alone. */
+/* Why a header is invalid. A reader returns only the first two. */
 enum ddcmp_fault {
     DDCMP_NO_FAULT = 0,
     DDCMP_FAULT_BAD_TYPE = 1,       /* no control message has this TYPE */
     DDCMP_FAULT_COUNT_ZERO = 2,
-    DDCMP_FAULT_NOT_A_START = 3,
-    DDCMP_FAULT_CHECK = 4
+    DDCMP_FAULT_NOT_A_START = 3,    /* its first byte starts no header */
+    DDCMP_FAULT_CHECK = 4           /* a wrong CRC */
 };
 
 /* The sizes of a station. */
 struct ddcmp_config {
-    uint16_t window;    /* messages sent and not acknowledged: 1 to 255 */
-    uint16_t inbox;     /* messages received and not taken: 1 to 255 */
-    uint16_t max;       /* bytes of a message: 1 to 16383 */
+    uint16_t window;    /* most messages sent and not acknowledged: 1 to 255 */
+    uint16_t inbox;     /* most messages received and not taken: 1 to 255 */
+    uint16_t max;       /* longest message in bytes: 1 to 16383 */
     uint8_t syn;        /* SYN bytes before each frame: 0 to 16 */
     uint8_t restart;    /* not 0: restart when the peer restarts, if the inbox is empty */
 };
@@ -144,7 +145,7 @@ struct ddcmp_nak_counts {
     uint32_t other;
 };
 
-/* What was counted. Each number stays at its largest value. */
+/* Each counter stays at its largest value. */
 struct ddcmp_counters {
     struct ddcmp_nak_counts nak_sent;
     struct ddcmp_nak_counts nak_received;
@@ -152,19 +153,18 @@ struct ddcmp_counters {
     uint32_t rep_received;
     uint32_t messages_sent;
     uint32_t bytes_sent;
-    uint32_t messages_again;
+    uint32_t messages_again;    /* retransmitted */
     uint32_t bytes_again;
-    uint32_t messages_up;
+    uint32_t messages_up;       /* delivered */
     uint32_t bytes_up;
-    uint32_t expiries;
-    uint32_t header_checks;
+    uint32_t expiries;          /* timeouts of the reply timer */
+    uint32_t header_checks;     /* received errors, by their kinds */
     uint32_t data_checks;
     uint32_t too_longs;
     uint32_t formats;
 };
 
-/* A header. What its kind doesn't have is 0 if it was read, and isn't looked at if it is
-   written. */
+/* A header. Fields that a kind doesn't have are 0 when read and ignored when written. */
 struct ddcmp_header {
     uint16_t count;     /* of data and maintenance: bytes of data, 1 to 16383 */
     uint8_t kind;       /* enum ddcmp_header_kind */
@@ -191,7 +191,7 @@ struct ddcmp_item {
 #define DDCMP_CALL extern
 #endif
 
-/* A uint32_t that is returned is of enum ddcmp_code, but for ddcmp_state. */
+/* A uint32_t that is returned is an enum ddcmp_code, but for ddcmp_state and ddcmp_check. */
 
 /* Makes a halted station in a handle that has none. */
 DDCMP_CALL uint32_t ddcmp_new(const struct ddcmp_config *config, ddcmp_station *station);
@@ -199,7 +199,7 @@ DDCMP_CALL uint32_t ddcmp_new(const struct ddcmp_config *config, ddcmp_station *
 DDCMP_CALL void ddcmp_free(ddcmp_station *station);
 DDCMP_CALL uint32_t ddcmp_config(ddcmp_station *station, struct ddcmp_config *config);
 
-/* Both report how many queued messages were dropped. */
+/* These two store in dropped how many queued messages were dropped. */
 DDCMP_CALL uint32_t ddcmp_start(ddcmp_station *station, uint8_t *dropped);
 DDCMP_CALL uint32_t ddcmp_enter_maintenance(ddcmp_station *station, uint8_t *dropped);
 DDCMP_CALL uint32_t ddcmp_halt(ddcmp_station *station);
@@ -207,46 +207,50 @@ DDCMP_CALL uint32_t ddcmp_halt(ddcmp_station *station);
 DDCMP_CALL bool ddcmp_clear_line(ddcmp_station *station);
 DDCMP_CALL uint32_t ddcmp_state(ddcmp_station *station); /* enum ddcmp_state */
 
-/* Queues a message, and reports its number. */
+/* Queues a message, and stores its number. */
 DDCMP_CALL uint32_t ddcmp_send(ddcmp_station *station, const uint8_t *message, size_t length,
                                uint8_t *number);
 DDCMP_CALL uint32_t ddcmp_send_maintenance(ddcmp_station *station, const uint8_t *message,
                                            size_t length);
-/* Why ddcmp_send would refuse a message; DDCMP_OK if it wouldn't. */
+/* Returns why ddcmp_send would refuse a message; DDCMP_OK if it wouldn't. */
 DDCMP_CALL uint32_t ddcmp_send_refusal(ddcmp_station *station, const uint8_t *message,
                                        size_t length);
-/* Whether fewer messages are queued than the window allows, and how many are queued. */
+/* Returns whether fewer messages are queued than the window allows; and how many are queued. */
 DDCMP_CALL bool ddcmp_room(ddcmp_station *station);
 DDCMP_CALL uint8_t ddcmp_outgoing(ddcmp_station *station);
 
-/* Takes the first message of the inbox; needs room for config.max bytes. Without one taken is 0. */
+/* Takes the first message of the inbox; needs room for config.max bytes. Stores its length, or 0 if
+   the inbox is empty. */
 DDCMP_CALL uint32_t ddcmp_take(ddcmp_station *station, uint8_t *out, size_t room, size_t *taken);
-/* How many messages wait in the inbox. */
+/* Returns how many messages are in the inbox. */
 DDCMP_CALL uint8_t ddcmp_waiting(ddcmp_station *station);
-/* The length of message i of the inbox, counted from 0: 0 if there is none. */
+/* Returns the length of message i of the inbox, counted from 0; 0 if there is none. */
 DDCMP_CALL size_t ddcmp_waiting_length(ddcmp_station *station, uint8_t i);
 /* Copies message i, which stays in the inbox; needs room for config.max bytes. */
 DDCMP_CALL uint32_t ddcmp_waiting_at(ddcmp_station *station, uint8_t i, uint8_t *out, size_t room,
                                      size_t *written);
 
-/* Takes bytes of the line, up to the first that yields a notice: feed the rest again. */
+/* Handles received bytes, up to the first that yields a notice; stores how many were used: feed the
+   rest again. */
 DDCMP_CALL uint32_t ddcmp_feed(ddcmp_station *station, const uint8_t *piece, size_t length,
                                size_t *used, struct ddcmp_notice *notice);
-/* Writes the next frame; needs room for ddcmp_frame_room bytes, whatever the frame has. If there is
-   nothing to send, written is 0. */
+/* Writes the next frame to out, which needs room for ddcmp_frame_room bytes, however short the
+   frame is. Stores its length, or 0 if there is nothing to send. */
 DDCMP_CALL uint32_t ddcmp_poll(ddcmp_station *station, uint8_t *out, size_t room, size_t *written);
 DDCMP_CALL size_t ddcmp_frame_room(ddcmp_station *station);
-/* How many bytes ddcmp_poll would write now. */
+/* Returns how many bytes ddcmp_poll would write now. */
 DDCMP_CALL size_t ddcmp_next_length(ddcmp_station *station);
-/* Bytes of the line since it was cleared; of the unfinished frame; and of all that is held. */
+/* Return how many bytes were received since the line was cleared; how many of them belong to the
+   unfinished frame; and how many are buffered. */
 DDCMP_CALL uint64_t ddcmp_offset(ddcmp_station *station);
 DDCMP_CALL size_t ddcmp_open(ddcmp_station *station);
 DDCMP_CALL size_t ddcmp_held(ddcmp_station *station);
 
-/* Whether the timer was started since this was last asked: set its deadline. */
+/* Returns whether the reply timer was started since the last call: then set its deadline. */
 DDCMP_CALL bool ddcmp_take_arm(ddcmp_station *station);
+/* Returns whether the reply timer is on. */
 DDCMP_CALL bool ddcmp_timer_on(ddcmp_station *station);
-/* Handles an expiry of the timer; returns whether it was on. */
+/* Handles an expiry of the reply timer; returns whether it was on. */
 DDCMP_CALL bool ddcmp_expire(ddcmp_station *station);
 
 DDCMP_CALL uint32_t ddcmp_numbers(ddcmp_station *station, struct ddcmp_numbers *numbers);
@@ -258,23 +262,23 @@ DDCMP_CALL uint32_t ddcmp_counters(ddcmp_station *station, struct ddcmp_counters
 DDCMP_CALL uint32_t ddcmp_reader_new(uint16_t max, ddcmp_reader *reader);
 /* Frees the reader of a handle; if there is none, does nothing. */
 DDCMP_CALL void ddcmp_reader_free(ddcmp_reader *reader);
-/* Takes bytes of a line, up to the first that yields an item: push the rest again. The data of a
-   good item are copied to out, which needs room for max bytes, and written is how many. Without an
-   item its kind is DDCMP_NO_ITEM. */
+/* Handles bytes of a line, up to the first that yields an item; stores how many were used: push the
+   rest again. Copies the data of a good item to out, which needs room for max bytes, and stores
+   their length in written. If there is no item, its kind is DDCMP_NO_ITEM. */
 DDCMP_CALL uint32_t ddcmp_reader_push(ddcmp_reader *reader, const uint8_t *piece, size_t length,
                                       size_t *used, struct ddcmp_item *item, uint8_t *out,
                                       size_t room, size_t *written);
-/* Bytes of the unfinished frame. */
+/* Returns how many bytes belong to the unfinished frame. */
 DDCMP_CALL size_t ddcmp_reader_open(ddcmp_reader *reader);
-/* Restarts, with the bytes of another line. */
+/* Begins again, for the bytes of another line. */
 DDCMP_CALL uint32_t ddcmp_reader_reset(ddcmp_reader *reader);
 
-/* Writes a frame as it goes on the line: a header with its CRC, and data with theirs. It needs
-   room for 8 bytes for a control message, else for count + 10. */
+/* Writes a frame as it goes on the line: a header with its CRC, and data with theirs. Needs room
+   for 8 bytes for a control message, else for count + 10. */
 DDCMP_CALL uint32_t ddcmp_write_frame(const struct ddcmp_header *header, const uint8_t *message,
                                       size_t length, uint8_t *out, size_t room, size_t *written);
 
-/* The CRC-16 of a text. */
+/* Returns the CRC-16 of a text. */
 DDCMP_CALL uint16_t ddcmp_check(const uint8_t *text, size_t length);
 
 #ifdef __cplusplus
@@ -294,7 +298,7 @@ static inline const char *ddcmp_strerror(uint32_t code) {
     case DDCMP_INBOX: return "the inbox isn't 1 to 255";
     case DDCMP_MAX: return "the largest message isn't 1 to 16383";
     case DDCMP_SYN: return "the SYN fill is above 16";
-    case DDCMP_MEMORY: return "memory was refused";
+    case DDCMP_MEMORY: return "out of memory";
     case DDCMP_CLOSED: return "the handle has no station or reader";
     case DDCMP_OPEN: return "the handle has a station or reader already";
     case DDCMP_NOT_HALTED: return "the station isn't halted";
@@ -313,7 +317,7 @@ static inline const char *ddcmp_strerror(uint32_t code) {
     }
 }
 
-/* The names that scripts write. */
+/* The names that `ddcmp` prints. */
 static inline const char *ddcmp_state_name(uint32_t state) {
     switch (state) {
     case DDCMP_HALTED: return "Halted";
@@ -342,7 +346,7 @@ static inline const char *ddcmp_notice_name(uint8_t kind) {
     }
 }
 
-/* The names that `ddcmp explain` writes. */
+/* The names that `ddcmp explain` prints. */
 static inline const char *ddcmp_header_name(uint8_t kind) {
     switch (kind) {
     case DDCMP_HEADER_DATA: return "DATA";

@@ -1,9 +1,9 @@
-/* Calls of ddcmp.h that test their pointers first. ddcmp.h reads this where DDCMP_CHECKED is
-   defined. A slice of no bytes may be null here. */
+/* Calls of ddcmp.h that test their pointers first. ddcmp.h includes this if DDCMP_CHECKED is
+   defined. A pointer with length 0 may be null here. */
 #ifndef DDCMP_CHECKED_H
 #define DDCMP_CHECKED_H
 
-/* What stands for a slice of no bytes. */
+/* Returns an address for a pointer with length 0 that is null. */
 static inline uint8_t *ddcmp_no_bytes(void) {
     static uint8_t none[1] = { 0 };
     return none;

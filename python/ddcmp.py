@@ -2,10 +2,10 @@
 
 A `Station` does no I/O and keeps no time: received bytes go in, frames and notices come out, and
 the caller runs the reply timer. A `Line` does all that for a station over a socket or a serial
-port. A `Reader` finds frames in bytes. docs/LIBRARY.md says what a caller owes.
+port. A `Reader` finds frames in bytes. docs/LIBRARY.md states what a caller owes.
 
 The library is the file that DDCMP_LIBRARY names, else the one installed beside this module, else
-the loader's.
+the one that the loader finds.
 
 Two stations exchange a message in memory:
 
@@ -42,7 +42,7 @@ A reader explains bytes in chunks of any size:
 1 GOOD Header(kind=<HeaderKind.ACK: 3>, count=0, sub=0, q=False, s=False, resp=0, num=0, addr=1)
 9 GOOD Header(kind=<HeaderKind.DATA: 1>, count=3, sub=0, q=False, s=False, resp=1, num=2, addr=1)
 
-What is refused raises `Error`, with the code and the text of the C library:
+A call that is refused raises `Error`, with the code and the text of the C library:
 
 >>> a.send(bytes(1501))
 Traceback (most recent call last):
@@ -86,14 +86,14 @@ class _Text(enum.IntEnum):
 
 
 class Code(_Text):
-    """What a call of the C library returns."""
+    """The return codes of the C library."""
 
     OK = 0, "no error"
     WINDOW = 1, "the window isn't 1 to 255"
     INBOX = 2, "the inbox isn't 1 to 255"
     MAX = 3, "the largest message isn't 1 to 16383"
     SYN = 4, "the SYN fill is above 16"
-    MEMORY = 5, "memory was refused"
+    MEMORY = 5, "out of memory"
     CLOSED = 6, "the handle has no station or reader"
     OPEN = 7, "the handle has a station or reader already"
     NOT_HALTED = 8, "the station isn't halted"
@@ -121,7 +121,7 @@ class State(_Text):
 
 
 class NoticeKind(_Text):
-    """What happened at a station."""
+    """A notice: what happened at a station."""
 
     RUNNING = 1, "Running"
     RUNNING_AND_HANDED_UP = 2, "RunningAndHandedUp"
@@ -149,26 +149,26 @@ class HeaderKind(_Text):
 
 
 class ItemKind(enum.IntEnum):
-    """What a reader finds."""
+    """The kind of an item."""
 
-    GOOD = 1  #: a whole frame whose checks are right
-    HEADER_CHECK = 2  #: a header with a wrong check: synchronism is lost
-    DATA_CHECK = 3  #: a frame whose data have a wrong check
-    TOO_LONG = 4  #: a frame with more data than the reader takes
-    FORMAT = 5  #: a header whose check is right, but that is none
+    GOOD = 1  #: a whole frame with right CRCs
+    HEADER_CHECK = 2  #: a header with a wrong CRC: synchronism is lost
+    DATA_CHECK = 3  #: a frame whose data have a wrong CRC
+    TOO_LONG = 4  #: a frame with more data than the reader's `max`
+    FORMAT = 5  #: an invalid header with a right CRC
 
 
 class Fault(enum.IntEnum):
-    """Why a header is none. A reader yields the first two only."""
+    """Why a header is invalid. A reader returns only the first two."""
 
     BAD_TYPE = 1  #: no control message has this TYPE
     COUNT_ZERO = 2
-    NOT_A_START = 3
-    CHECK = 4
+    NOT_A_START = 3  #: its first byte starts no header
+    CHECK = 4  #: a wrong CRC
 
 
 class Error(Exception):
-    """A call was refused, and nothing was done."""
+    """A call was refused, and changed nothing."""
 
     def __init__(self, code: Code) -> None:
         super().__init__(code.text)
@@ -186,7 +186,7 @@ class Config(NamedTuple):
 
 
 class Notice(NamedTuple):
-    """What happened, and for how many messages, if that is counted."""
+    """What happened at a station, and for how many messages, if that is counted."""
 
     kind: NoticeKind
     count: int
@@ -222,7 +222,7 @@ class NakCounts(NamedTuple):
 
 
 class Counters(NamedTuple):
-    """What was counted. Each number stays at its largest value."""
+    """The counters. Each stays at its largest value."""
 
     nak_sent: NakCounts
     nak_received: NakCounts
@@ -230,19 +230,19 @@ class Counters(NamedTuple):
     rep_received: int
     messages_sent: int
     bytes_sent: int
-    messages_again: int
+    messages_again: int  #: retransmitted
     bytes_again: int
-    messages_up: int
+    messages_up: int  #: delivered
     bytes_up: int
-    expiries: int
-    header_checks: int
+    expiries: int  #: timeouts of the reply timer
+    header_checks: int  #: received errors, by their kinds
     data_checks: int
     too_longs: int
     formats: int
 
 
 class Header(NamedTuple):
-    """A header. What its kind doesn't have is ignored, and 0 if it was read."""
+    """A header. Fields that a kind doesn't have are 0 when read and ignored when written."""
 
     kind: HeaderKind
     count: int = 0  #: of data and maintenance: bytes of data
@@ -255,7 +255,7 @@ class Header(NamedTuple):
 
 
 class Item(NamedTuple):
-    """What a reader finds: a header if it is good, its data are damaged or it is too long."""
+    """What a reader returns. It has a header if its kind is GOOD, DATA_CHECK or TOO_LONG."""
 
     offset: int  #: of its first byte
     kind: ItemKind
@@ -266,7 +266,7 @@ class Item(NamedTuple):
 
 
 def _struct(of: Any, usual: Any, **others: Any) -> Any:
-    """Makes a struct of C whose fields are those of a NamedTuple, of the usual type and others."""
+    """Makes a struct of C with the fields of a NamedTuple, of type `usual` or as in `others`."""
     fields = [(it, others.get(it, usual)) for it in of._fields]
     return type(of.__name__, (ctypes.Structure,), {"_fields_": fields})
 
@@ -402,14 +402,14 @@ class Station(_Handle):
     """
 
     state: State = _query("state", "The state.", State)
-    waiting: int = _query("waiting", "How many messages the inbox has.")
+    waiting: int = _query("waiting", "How many messages are in the inbox.")
     room: bool = _query("room", "Whether fewer messages are queued than the window allows.")
     outgoing: int = _query("outgoing", "How many messages are not acknowledged.")
-    frame_room: int = _query("frame_room", "Most bytes of a frame.")
+    frame_room: int = _query("frame_room", "The most bytes that a frame has.")
     next_length: int = _query("next_length", "How many bytes `poll` would return.")
-    offset: int = _query("offset", "Bytes of the line since it was cleared.")
-    open: int = _query("open", "Bytes of the unfinished frame.")
-    held: int = _query("held", "Bytes of all that is held.")
+    offset: int = _query("offset", "How many bytes were received since the line was cleared.")
+    open: int = _query("open", "How many bytes belong to the unfinished frame.")
+    held: int = _query("held", "How many bytes are buffered.")
     timer_on: bool = _query("timer_on", "Whether the reply timer is on.")
 
     def __init__(self, config: Config = Config()) -> None:
@@ -457,7 +457,7 @@ class Station(_Handle):
         _must("send_maintenance", self._own(), data, len(data))
 
     def send_refusal(self, message: Bytes) -> Code:
-        """Returns why `send` would refuse a message, or OK."""
+        """Returns why `send` would refuse a message; OK if it wouldn't."""
         data = _bytes(message)
         return Code(_call("send_refusal", self._own(), data, len(data)))
 
@@ -474,7 +474,7 @@ class Station(_Handle):
         return self._fill("waiting_at", self._message, _fit(i, 8)) or b""
 
     def feed(self, piece: Bytes) -> Fed:
-        """Takes bytes of the line, up to the first that yields a notice: feed the rest again."""
+        """Handles received bytes, up to the first that yields a notice: feed the rest again."""
         data, notice = _bytes(piece), _Notice()
         _must("feed", self._own(), data, len(data), ctypes.byref(self._size), ctypes.byref(notice))
         kind = NoticeKind(notice.kind) if notice.kind else None
@@ -519,14 +519,14 @@ class Reader(_Handle):
     """A reader of frames with at most `max` bytes of data."""
 
     _prefix = "reader_"
-    open: int = _query("reader_open", "Bytes of the unfinished frame.")
+    open: int = _query("reader_open", "How many bytes belong to the unfinished frame.")
 
     def __init__(self, max: int = 16383) -> None:
         super().__init__(_fit(max, 16))
         self._data = (ctypes.c_uint8 * max)()
 
     def push(self, piece: Bytes) -> List[Item]:
-        """Takes bytes of a line, in chunks of any size; returns what ends in them."""
+        """Handles bytes of a line, in chunks of any size; returns the items that end in them."""
         left = _bytes(piece)
         items: List[Item] = []
         used, size, it = ctypes.c_size_t(), ctypes.c_size_t(), _Item()
@@ -539,7 +539,7 @@ class Reader(_Handle):
         return items
 
     def reset(self) -> None:
-        """Restarts with the bytes of another line."""
+        """Begins again, for the bytes of another line."""
         _must("reader_reset", self._own())
 
 
@@ -553,7 +553,7 @@ def _item(it: Any, data: bytes) -> Item:
 
 
 def write_frame(header: Header, data: Bytes = b"") -> bytes:
-    """Returns a frame as it goes on the line, with the checks of its header and its data."""
+    """Returns a frame as it goes on the line, with the CRCs of its header and its data."""
     piece, size = _bytes(data), ctypes.c_size_t()
     if any(not 0 <= it <= 255 for it in header[2:]):
         raise Error(Code.BAD_HEADER)
@@ -576,15 +576,16 @@ class _HasDescriptor(Protocol):
 class Line:
     """A started station over a file descriptor: a socket, a pipe or a `serial_port`.
 
-    While one of its calls waits, it writes frames, reads bytes, keeps the reply timer of so many
-    seconds and passes notices on. The descriptor becomes non-blocking; closing it is the caller's.
+    While one of its calls waits, it writes frames, reads bytes, runs the reply timer of `timer`
+    seconds and calls `notice` with each notice. It makes the descriptor non-blocking, and doesn't
+    close it.
 
-    A call raises TimeoutError if it wasn't done in so many seconds (None: it waits forever),
+    A call raises TimeoutError if it wasn't done within `timeout` seconds (None: it waits forever),
     EOFError if the line has ended, ConnectionResetError if the station is halted, as when the peer
     restarted, and OSError if the line failed. While the inbox is full nothing is read: then `send`
     and `flush` raise BlockingIOError, and messages must be received first.
 
-    As a context it flushes at its end, without a limit of time, unless an exception ends it.
+    As a context manager it flushes on exit, without a timeout, unless an exception was raised.
 
     >>> import socket, threading
     >>> here, there = socket.socketpair()
@@ -631,7 +632,7 @@ class Line:
         return number
 
     def receive(self, timeout: Optional[float] = None) -> bytes:
-        """Returns the next message received."""
+        """Waits for the next received message, and returns it."""
         self._until(lambda: self.station.waiting > 0, timeout)
         return self.station.take() or b""
 
@@ -640,7 +641,7 @@ class Line:
         self._until(lambda: not self.station.outgoing and not self._frame, timeout)
 
     def __iter__(self) -> Iterator[bytes]:
-        """Yields the messages received until the line ends."""
+        """Yields received messages until the line ends."""
         while True:
             try:
                 message = self.receive()

@@ -436,7 +436,7 @@ static void texts(void) {
         { DDCMP_INBOX, "the inbox isn't 1 to 255" },
         { DDCMP_MAX, "the largest message isn't 1 to 16383" },
         { DDCMP_SYN, "the SYN fill is above 16" },
-        { DDCMP_MEMORY, "memory was refused" },
+        { DDCMP_MEMORY, "out of memory" },
         { DDCMP_CLOSED, "the handle has no station or reader" },
         { DDCMP_OPEN, "the handle has a station or reader already" },
         { DDCMP_NOT_HALTED, "the station isn't halted" },
