@@ -15,22 +15,23 @@ use Rattle.ddcmp_bridge.specs.Faults.{next_draws}
 use Rattle.ddcmp_bridge.specs.Relaying.{passed_on, relayed}
 use Rattle.ddcmp_bridge.proofs.DelayLaws.{nothing-held}
 use Rattle.ddcmp_bridge.proofs.RelayLaws.{relays-faultless}
-use Rattle.ddcmp_bridge.specs.declared.lines.Way.{Way}
-use Rattle.ddcmp_bridge.specs.declared.lines.Way.TheVariants.{There, Back}
+use Rattle.ddcmp_io.specs.Ends.{other}
+use Rattle.ddcmp_io.specs.declared.carrier.End.{End}
+use Rattle.ddcmp_io.specs.declared.carrier.End.TheVariants.{A, B}
 use Rattle.ddcmp_bridge.specs.Delaying.{Directs, Frames, bytes_of, due_at}
 use Rattle.ddcmp_bridge.specs.Joining.{Becomes, BridgeView, Flows, FlowsOn, FlowView, GoesOn}
 use Rattle.ddcmp_bridge.specs.Joining.{IsDone}
-use Rattle.ddcmp_bridge.specs.Joining.{Passage, Traffic, after_gone, count_of, moved_of, on, other}
+use Rattle.ddcmp_bridge.specs.Joining.{Passage, Traffic, after_gone, count_of, moved_of, on}
 use Rattle.ddcmp_bridge.specs.Joining.{with_on}
 
-on-with : (way : Way) (p : Passage) (t : Traffic) → on way (with_on way p t) ≡ p
-on-with There p t = refl
-on-with Back p t = refl
+on-with : (from : End) (p : Passage) (t : Traffic) → on from (with_on from p t) ≡ p
+on-with A p t = refl
+on-with B p t = refl
 
-on-other : (way : Way) (p : Passage) (t : Traffic)
-    → on (other way) (with_on way p t) ≡ on (other way) t
-on-other There p t = refl
-on-other Back p t = refl
+on-other : (from : End) (p : Passage) (t : Traffic)
+    → on (other from) (with_on from p t) ≡ on (other from) t
+on-other A p t = refl
+on-other B p t = refl
 
 -- ---- what is passed on of what came
 
@@ -92,9 +93,9 @@ flows-faultless start f p h done l d =
 
 -- ---- one direction
 
-pub flows-then : {way : Way} {f g h : FlowView} {x y z : Option Traffic} → FlowsOn way f x g y
-    → FlowsOn way g y h z → FlowsOn way f x h z
-flows-then {way} {f} {g} {h} {x} {y} {z} one two = record {
+pub flows-then : {from : End} {f g h : FlowView} {x y z : Option Traffic} → FlowsOn from f x g y
+    → FlowsOn from g y h z → FlowsOn from f x h z
+flows-then {from} {f} {g} {h} {x} {y} {z} one two = record {
   goes = λ start t e flows.
       (let first = one.goes start t e flows in
       let second = two.goes start first.0 first.1 first.2 in
@@ -102,13 +103,13 @@ flows-then {way} {f} {g} {h} {x} {y} {z} one two = record {
 }
 
 -- the direction took some of what waited for it
-pub flow-took : (way : Way) (was old new : FlowView) (before after : Option Traffic)
+pub flow-took : (from : End) (was old new : FlowView) (before after : Option Traffic)
     (piece : List ℕ) (n : ℕ)
     → old ≡ was → after ≡ before → new.waiting ≡ drop n old.waiting → piece ≡ old.waiting
     → ((start : Lcg) (came taken : List ℕ) → Directs start old.direction came taken
     → Directs start new.direction (came ++ take n piece) taken)
-    → FlowsOn way was before new after
-flow-took way was old new before after piece n v same waits is takes =
+    → FlowsOn from was before new after
+flow-took from was old new before after piece n v same waits is takes =
     let more : (start : Lcg) (p : Passage) → Flows start old p → Flows start new p =
     λ start p h. record {
       used = h.used ++ take n old.waiting;
@@ -120,8 +121,8 @@ flow-took way was old new before after piece n v same waits is takes =
           subst (λ w. Directs start new.direction (h.used ++ take n w) p.gone) is
           (takes start h.used p.gone h.directs);
     } in
-    subst (λ f. FlowsOn way f before new after) v
-    (record { goes = λ start t e h. (t, same ∙ e, more start (on way t) h, refl) })
+    subst (λ f. FlowsOn from f before new after) v
+    (record { goes = λ start t e h. (t, same ∙ e, more start (on from t) h, refl) })
 
 -- what is due is the front of what is held
 due-front : (now : ℕ) (held : Frames) (n : ℕ) → n ≤ length (due_at now held)
@@ -139,35 +140,35 @@ due-front now (frame ∷ rest) n l = by (nat_le frame.0 now) l where
       none (suc n) l = absurd (omega (arith, l))
 
 -- the other line took some of what was due
-pub flow-wrote : (way : Way) (was old new : FlowView) (before after : Option Traffic)
+pub flow-wrote : (from : End) (was old new : FlowView) (before after : Option Traffic)
     (moved : Option ℕ) (bytes : List ℕ) (n now : ℕ)
     → old ≡ was → new.waiting ≡ old.waiting → n ≡ count_of moved
     → bytes ≡ due_at now old.direction.held → n ≤ length bytes
     → ((start : Lcg) (came taken : List ℕ) → Directs start old.direction came taken
     → Directs start new.direction came (taken ++ take n (bytes_of old.direction.held)))
-    → Becomes before after (after_gone way moved bytes) → FlowsOn way was before new after
-flow-wrote way was old new before after moved bytes n now v same count due fits takes becomes =
+    → Becomes before after (after_gone from moved bytes) → FlowsOn from was before new after
+flow-wrote from was old new before after moved bytes n now v same count due fits takes becomes =
     let front : take n (bytes_of old.direction.held) ≡ moved_of moved bytes =
     due-front now old.direction.held n (subst (λ w. n ≤ length w) due fits)
     ∙ ap (take n) (sym due) ∙ ap (λ m. take m bytes) count in
     let passage : Traffic → Passage =
-    λ t. record { came = (on way t).came; gone = (on way t).gone ++ moved_of moved bytes } in
-    let more : (start : Lcg) (t : Traffic) → Flows start old (on way t)
+    λ t. record { came = (on from t).came; gone = (on from t).gone ++ moved_of moved bytes } in
+    let more : (start : Lcg) (t : Traffic) → Flows start old (on from t)
     → Flows start new (passage t) =
     λ start t h. record {
       used = h.used;
       came = h.came ∙ ap (λ w. h.used ++ w) (sym same);
       directs =
-          subst (λ g. Directs start new.direction h.used ((on way t).gone ++ g)) front
-          (takes start h.used (on way t).gone h.directs);
+          subst (λ g. Directs start new.direction h.used ((on from t).gone ++ g)) front
+          (takes start h.used (on from t).gone h.directs);
     } in
-    subst (λ f. FlowsOn way f before new after) v
+    subst (λ f. FlowsOn from f before new after) v
     (record {
       goes = λ start t e h. (
-        with_on way (passage t) t,
+        with_on from (passage t) t,
         becomes t e,
-        subst (Flows start new) (sym (on-with way (passage t) t)) (more start t h),
-        on-other way (passage t) t,
+        subst (Flows start new) (sym (on-with from (passage t) t)) (more start t h),
+        on-other from (passage t) t,
       );
     })
 
@@ -186,7 +187,7 @@ pub goes-same : {a b : BridgeView} {x y z : Option Traffic} → GoesOn a x b y �
 goes-same {a} {b} {x} {y} {z} h e = subst (GoesOn a x b) (sym e) h
 
 pub goes-both : (was a b : BridgeView) {x y z : Option Traffic} → a ≡ was
-    → FlowsOn There a.there x b.there y → FlowsOn Back a.back y b.back z → GoesOn was x b z
+    → FlowsOn A a.there x b.there y → FlowsOn B a.back y b.back z → GoesOn was x b z
 goes-both was a b {x} {y} {z} v one two = subst (λ w. GoesOn w x b z) v (record {
   goes = λ there back t e h.
       (let first = one.goes there t e h.0 in

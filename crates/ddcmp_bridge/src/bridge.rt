@@ -6,12 +6,13 @@ ghost use Rattle.ddcmp_bridge.specs.Faults.{start_of};
 ghost use Rattle.ddcmp_bridge.specs.Joining.{GoesOn, IsOver, Joins, delay_on, faults_on};
 ghost use Rattle.ddcmp_bridge.specs.Joining.{flow_on, no_traffic};
 ghost use Rattle.ddcmp_bridge.specs.Relaying.{counts_of};
-ghost use Rattle.ddcmp_bridge.specs.declared.lines.Way.{Way as WayValue};
+ghost use Rattle.ddcmp_io.specs.declared.carrier.End.{End as EndValue};
 
 use crate::counts::Counts;
 use crate::faults::Faults;
 use crate::flow::Flow;
-use crate::lines::{Lines, Way};
+use crate::line_pair::LinePair;
+use ddcmp_io::End;
 use std::alloc::Global;
 use std::marker::Model;
 
@@ -61,8 +62,8 @@ impl Bridge {
     pub fn new(alloc: Global, faults: Faults, delay_ms: u32) -> Option<Bridge>
         ensures joins { IfSome result (λ made.
             Joins (start_of faults.seed 0) (start_of faults.seed 1) made no_traffic) }
-        ensures faults { (way : WayValue) → IfSome result (λ made. faults_on way made ≡ faults) }
-        ensures delay { (way : WayValue) → IfSome result (λ made. delay_on way made ≡ delay_ms) }
+        ensures faults { (from : EndValue) → IfSome result (λ made. faults_on from made ≡ faults) }
+        ensures delay { (from : EndValue) → IfSome result (λ made. delay_on from made ≡ delay_ms) }
     {
         let there = Flow::new(alloc, faults, delay_ms, 0)?;
         let back = Flow::new(alloc, faults, delay_ms, 1)?;
@@ -71,9 +72,9 @@ impl Bridge {
 
     /// Passes frames on both ways, until a line is down and all that was received over it was
     /// passed on, the time is over, or the lines stop it.
-    pub fn run<L: Lines>(&mut self, lines: &mut L, ends_at: u64) -> BridgeStop
+    pub fn run<L: LinePair>(&mut self, lines: &mut L, ends_at: u64) -> BridgeStop
         ensures goes { GoesOn self.old (L.traffic lines.old) self.new (L.traffic lines.new) }
-        ensures faults { (way : WayValue) → faults_on way self.new ≡ faults_on way self.old }
+        ensures faults { (from : EndValue) → faults_on from self.new ≡ faults_on from self.old }
         ensures over { result ≡ BridgeStop.Line → IsOver self.new (L.down lines.new) }
         ensures time { result ≡ BridgeStop.Time → ends_at ≤ L.moment lines.new }
     {
@@ -97,20 +98,20 @@ impl Bridge {
     }
 
     /// Reads and writes each line once, without blocking; returns whether anything moved.
-    fn pass<L: Lines>(&mut self, lines: &mut L, now: u64) -> bool
+    fn pass<L: LinePair>(&mut self, lines: &mut L, now: u64) -> bool
         ensures goes { GoesOn self.old (L.traffic lines.old) self.new (L.traffic lines.new) }
-        ensures faults { (way : WayValue) → faults_on way self.new ≡ faults_on way self.old }
+        ensures faults { (from : EndValue) → faults_on from self.new ≡ faults_on from self.old }
     {
-        let went = self.there.pass(Way::There, lines, now);
-        let came = self.back.pass(Way::Back, lines, now);
+        let went = self.there.pass(End::A, lines, now);
+        let came = self.back.pass(End::B, lines, now);
         went || came
     }
 
     /// Returns whether a line is down, and nothing received over it can be passed on any more.
-    fn is_over<L: Lines>(&self, lines: &L) -> bool
+    fn is_over<L: LinePair>(&self, lines: &L) -> bool
         ensures { IsTrue result → IsOver self.now (L.down lines.now) }
     {
-        match (lines.is_down(Way::There), lines.is_down(Way::Back)) {
+        match (lines.is_down(End::A), lines.is_down(End::B)) {
             (false, false) => false,
             (true, false) => self.there.is_done(),
             (false, true) => self.back.is_done(),
@@ -127,7 +128,7 @@ impl Bridge {
 
     /// Waits until a line is ready for what is needed of it now, unless `passes_on`; returns false
     /// if the lines stop it, or it can't wait.
-    fn goes_on<L: Lines>(&self, lines: &mut L, now: u64, passes_on: bool, most_ms: u64) -> bool
+    fn goes_on<L: LinePair>(&self, lines: &mut L, now: u64, passes_on: bool, most_ms: u64) -> bool
         ensures { L.traffic lines.new ≡ L.traffic lines.old }
     {
         if lines.is_stopped() {
@@ -136,15 +137,15 @@ impl Bridge {
         passes_on || lines.wait(self.there.needs(now), self.back.needs(now), most_ms)
     }
 
-    /// Returns the counters of this direction.
-    pub fn counts(&self, way: Way) -> Counts
+    /// Returns the counters of the direction from this end.
+    pub fn counts(&self, from: End) -> Counts
         ensures { (start : Lcg) (came taken : List ℕ)
-            → Directs start (flow_on way self.now).direction came taken
-            → result ≡ counts_of (faults_on way self.now) start came }
+            → Directs start (flow_on from self.now).direction came taken
+            → result ≡ counts_of (faults_on from self.now) start came }
     {
-        match way {
-            Way::There => self.there.counts(),
-            Way::Back => self.back.counts(),
+        match from {
+            End::A => self.there.counts(),
+            End::B => self.back.counts(),
         }
     }
 }

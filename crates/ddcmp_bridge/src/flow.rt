@@ -9,8 +9,9 @@ ghost use Rattle.ddcmp_bridge.specs.Relaying.{counts_of};
 use crate::counts::Counts;
 use crate::direction::Direction;
 use crate::faults::Faults;
-use crate::lines::{Lines, Needs, Way};
+use crate::line_pair::{LinePair, Needs};
 use crate::relay::RelayStep;
+use ddcmp_io::End;
 use std::alloc::Global;
 use std::marker::Model;
 
@@ -20,9 +21,9 @@ const MOST: usize = 65536;
 /// A direction, and the bytes that were read for it.
 pub(crate) struct Flow {
     direction: Direction,
-    /// Received bytes; those from `from` to `end` weren't taken by `direction` yet.
+    /// Received bytes; those from `start` to `end` weren't taken by `direction` yet.
     came: Vec<u8>,
-    from: usize,
+    start: usize,
     end: usize,
 }
 
@@ -32,7 +33,7 @@ impl Drop for Flow {
         let Flow {
             direction: _direction,
             came: _came,
-            from: _,
+            start: _,
             end: _,
         } = self;
     }
@@ -47,12 +48,12 @@ impl Model for Flow {
 
     ghost view = { λ f. record {
       direction = f.direction;
-      waiting = drop f.from (take f.end f.came.items);
+      waiting = drop f.start (take f.end f.came.items);
     } };
 
-    ghost invariant = { λ f. (f.from ≤ f.end) × (f.end ≤ vec_len f.came)
+    ghost invariant = { λ f. (f.start ≤ f.end) × (f.end ≤ vec_len f.came)
         × (vec_len f.came ≡ MOST)
-        × (f.direction.relay.frames.offset + (f.end - f.from) < 2 ^ 64) };
+        × (f.direction.relay.frames.offset + (f.end - f.start) < 2 ^ 64) };
 }
 
 impl Flow {
@@ -69,21 +70,21 @@ impl Flow {
         Some(Flow {
             direction,
             came,
-            from: 0,
+            start: 0,
             end: 0,
         })
     }
 
     /// Reads once and writes once, without blocking; returns whether anything moved. `now` is the
     /// moment of what is received.
-    pub(crate) fn pass<L: Lines>(&mut self, way: Way, lines: &mut L, now: u64) -> bool
-        ensures flows { FlowsOn way self.old (L.traffic lines.old) self.new (L.traffic lines.new) }
+    pub(crate) fn pass<L: LinePair>(&mut self, from: End, lines: &mut L, now: u64) -> bool
+        ensures flows { FlowsOn from self.old (L.traffic lines.old) self.new (L.traffic lines.new) }
         ensures faults { self.new.direction.relay.faults ≡ self.old.direction.relay.faults }
     {
-        let came = self.read(way, lines);
-        self.take(way, lines, now);
-        let went = self.write(way, lines, now);
-        self.take(way, lines, now);
+        let came = self.read(from, lines);
+        self.take(from, lines, now);
+        let went = self.write(from, lines, now);
+        self.take(from, lines, now);
         came || went
     }
 
@@ -94,7 +95,7 @@ impl Flow {
         ensures countable { IsTrue result
             → self.now.direction.relay.frames.offset + MOST < 2 ^ 64 }
     {
-        self.from >= self.end
+        self.start >= self.end
             && self.direction.has_room()
             && MOST as u64 <= self.direction.countable()
     }
@@ -111,7 +112,7 @@ impl Flow {
     pub(crate) fn is_done(&self) -> bool
         ensures { IsTrue result → IsDone self.now }
     {
-        self.from >= self.end && self.direction.wakes_at().is_none()
+        self.start >= self.end && self.direction.wakes_at().is_none()
     }
 
     /// Returns the moment at which the first frame is due.
@@ -119,26 +120,26 @@ impl Flow {
         self.direction.wakes_at()
     }
 
-    fn read<L: Lines>(&mut self, way: Way, lines: &mut L) -> bool
-        ensures flows { FlowsOn way self.old (L.traffic lines.old) self.new (L.traffic lines.new) }
+    fn read<L: LinePair>(&mut self, from: End, lines: &mut L) -> bool
+        ensures flows { FlowsOn from self.old (L.traffic lines.old) self.new (L.traffic lines.new) }
         ensures direction { self.new.direction ≡ self.old.direction }
     {
         if !self.wants_more() {
             return false;
         }
-        let came = lines.read(way, self.came.as_mut_slice());
-        self.from = 0;
+        let came = lines.read(from, self.came.as_mut_slice());
+        self.start = 0;
         self.end = came.unwrap_or(0);
         came.is_some()
     }
 
     /// Passes received bytes to the direction, as far as there is room.
-    fn take<L: Lines>(&mut self, way: Way, lines: &mut L, now: u64)
-        ensures flows { FlowsOn way self.old (L.traffic lines.old) self.new (L.traffic lines.new) }
+    fn take<L: LinePair>(&mut self, from: End, lines: &mut L, now: u64)
+        ensures flows { FlowsOn from self.old (L.traffic lines.old) self.new (L.traffic lines.new) }
         ensures faults { self.new.direction.relay.faults ≡ self.old.direction.relay.faults }
     {
         while self.takes_more() {
-            self.take_some(way, lines, now);
+            self.take_some(from, lines, now);
         }
     }
 
@@ -148,32 +149,32 @@ impl Flow {
         ensures room { IsTrue result
             → length self.now.direction.held < self.now.direction.limit }
     {
-        self.from < self.end && self.direction.has_room()
+        self.start < self.end && self.direction.has_room()
     }
 
     /// Passes received bytes to the direction, up to the end of a frame.
-    fn take_some<L: Lines>(&mut self, way: Way, lines: &mut L, now: u64)
+    fn take_some<L: LinePair>(&mut self, from: End, lines: &mut L, now: u64)
         requires some { 0 < length self.old.waiting }
         requires room { length self.old.direction.held < self.old.direction.limit }
-        ensures flows { FlowsOn way self.old (L.traffic lines.old) self.new (L.traffic lines.new) }
+        ensures flows { FlowsOn from self.old (L.traffic lines.old) self.new (L.traffic lines.new) }
         ensures faults { self.new.direction.relay.faults ≡ self.old.direction.relay.faults }
         ensures fewer { length self.new.waiting < length self.old.waiting }
     {
-        let came = &self.came[self.from..self.end];
+        let came = &self.came[self.start..self.end];
         let RelayStep { used, fate } = self.direction.push(now, came);
-        lines.log(way, now, &came[..used], fate);
-        self.from += used;
+        lines.log(from, now, &came[..used], fate);
+        self.start += used;
     }
 
-    fn write<L: Lines>(&mut self, way: Way, lines: &mut L, now: u64) -> bool
-        ensures flows { FlowsOn way self.old (L.traffic lines.old) self.new (L.traffic lines.new) }
+    fn write<L: LinePair>(&mut self, from: End, lines: &mut L, now: u64) -> bool
+        ensures flows { FlowsOn from self.old (L.traffic lines.old) self.new (L.traffic lines.new) }
         ensures faults { self.new.direction.relay.faults ≡ self.old.direction.relay.faults }
     {
         let waiting = self.direction.waiting(now);
         if waiting.is_empty() {
             return false;
         }
-        let went = lines.write(way, waiting);
+        let went = lines.write(from, waiting);
         self.direction.took(went.unwrap_or(0));
         went.is_some()
     }

@@ -1,7 +1,7 @@
 //! A bridge between two lines, without I/O. `Relay` takes the bytes of one line and passes on its
 //! good frames, one at a time, with the `Faults` that are set; `Direction` delays each of these
 //! frames; `write_report` writes the counters of both directions; `Bridge` runs both over the
-//! `Lines`, until one is down.
+//! `LinePair`, until one is down.
 #![tactic(auto)]
 
 mod bridge;
@@ -11,7 +11,7 @@ mod direction;
 pub mod faults;
 mod flow;
 pub mod laws;
-pub mod lines;
+pub mod line_pair;
 mod relay;
 mod report;
 
@@ -19,6 +19,6 @@ pub use bridge::{Bridge, BridgeStop};
 pub use counts::Counts;
 pub use direction::Direction;
 pub use faults::{Fate, Faults};
-pub use lines::{Lines, Needs, Way};
+pub use line_pair::{LinePair, Needs};
 pub use relay::{Relay, RelayStep};
 pub use report::write_report;

@@ -1,2 +1,3 @@
 pub mod BridgeLaws
 pub mod CommandLaws
+pub mod ScriptLaws

@@ -1,11 +1,13 @@
 -- How `ddcmp bridge` ends.
-use Rattle.std.specs.Prelude.{◌≡◌, ◌⊎◌, Bool, if◌then◌else◌, Result, Ok, Err, Option, Some, None}
+use Rattle.std.specs.Prelude.{◌≡◌, ◌⊎◌, Bool, true, if◌then◌else◌, Result, Ok, Err, Option, Some}
+use Rattle.std.specs.Prelude.{None}
 use Rattle.std.specs.Io.KnownBytes.{Appends, Keeps}
 use Rattle.ddcmp_bridge.specs.Report.{bridge_report}
 use Rattle.ddcmp_io.specs.Written.{AppendsPart, Known}
 use Rattle.ddcmp_device.specs.declared.bridge.BridgeEnd.{BridgeEnd}
 use Rattle.ddcmp_device.specs.declared.bridge.BridgeFault.{BridgeFault}
 use Rattle.ddcmp_device.specs.declared.bridge.BridgeFault.TheVariants as bridging
+use Rattle.ddcmp_device.specs.Events.{open_fault_text}
 use Rattle.ddcmp_explain.specs.declared.notation.Notation.{Notation}
 use Rattle.ddcmp_explain.specs.declared.notation.Notation.TheVariants as words
 use Rattle.ddcmp_tap.specs.declared.notation.LogNotation.{LogNotation}
@@ -14,8 +16,7 @@ use Rattle.ddcmp_args.specs.declared.bridge_args.BridgeArgs.{BridgeArgs}
 use Rattle.ddcmp_commands.specs.declared.fault.Fault.TheVariants.{Write, Memory, Ended}
 use Rattle.ddcmp_commands.specs.declared.ending.Ending.{Ending}
 use Rattle.ddcmp_commands.specs.declared.ending.Ending.TheVariants.{Done, Fault as Faulted}
-use Rattle.ddcmp_commands.specs.Endings.{IsNoLine}
-use Rattle.ddcmp_commands.specs.TapEndings.{IsUnopened}
+use Rattle.ddcmp_commands.specs.Endings.{IsLineUnopened, is_refusal}
 
 -- the notation in which received frames are printed: JSON, plain text if `--trace` is given, or
 -- none
@@ -39,12 +40,13 @@ Reports old new end ending =
 -- how the program ends after a bridge with this result
 abbrev pub BridgeEnds : Known → Known → Result BridgeEnd BridgeFault → Ending → Type 0
 BridgeEnds old new (Ok end) ending = Reports old new end ending
-BridgeEnds old new (Err (bridging.Open why)) ending = IsUnopened ending × Keeps old new
+BridgeEnds old new (Err (bridging.Open why)) ending =
+    IsLineUnopened (open_fault_text why) ending × Keeps old new
 BridgeEnds old new (Err bridging.Memory) ending = (ending ≡ Faulted Memory) × Keeps old new
 
 -- There is a usage error, or an allocation failed, and nothing is written; or the program ends as a
 -- bridge did.
 abbrev pub Bridges : Known → Known → Ending → Type 0
 Bridges old new ending =
-    (IsNoLine ending × Keeps old new)
+    ((is_refusal ending ≡ true) × Keeps old new)
     ⊎ ((ended : Result BridgeEnd BridgeFault) × BridgeEnds old new ended ending)

@@ -29,9 +29,9 @@ use Rattle.ddcmp_args.specs.Args.{text_in, Asks, IsAsked, IsOutOfOrder, file_of}
 use Rattle.ddcmp_core.specs.Limits.{MAX_COUNT}
 use Rattle.ddcmp_cli.specs.LinkEndings.{LinesKnown, Links}
 use Rattle.ddcmp_cli.specs.BridgeEndings.{Bridges}
+use Rattle.ddcmp_cli.specs.Scripts.{SimulatesAsked, PairsAsked}
 use Rattle.ddcmp_commands.specs.Endings.{is_refusal, Streams, streams}
 use Rattle.ddcmp_commands.specs.Explaining.{ExplainsAsked}
-use Rattle.ddcmp_commands.specs.Scripts.{SimulatesAsked, PairsAsked}
 use Rattle.ddcmp_commands.specs.Stations.{Stations}
 use Rattle.ddcmp_commands.specs.TapEndings.{TapsAsked}
 

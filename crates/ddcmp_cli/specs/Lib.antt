@@ -1,10 +1,10 @@
 pub mod BridgeEndings
 pub mod Endings
 pub mod LinkEndings
+pub mod Scripts
 pub use Rattle.ddcmp_commands.specs.Connections
 pub use Rattle.ddcmp_commands.specs.Origins
 pub use Rattle.ddcmp_commands.specs.Explaining
-pub use Rattle.ddcmp_commands.specs.Scripts
 pub use Rattle.ddcmp_commands.specs.Stations
 pub use Rattle.ddcmp_commands.specs.TapEndings
 pub use Rattle.ddcmp_explain.specs.Digits

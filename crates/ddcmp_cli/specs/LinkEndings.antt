@@ -3,6 +3,7 @@ use Rattle.std.specs.Prelude.{◌≡◌, ◌≢◌, ◌⊎◌, ◌==◌, ◌&&�
 use Rattle.std.specs.Prelude.{Option, Some, None, Result, Ok, Err}
 use Rattle.ddcmp_streams.specs.declared.options.Options.{Options}
 use Rattle.ddcmp_device.specs.LineNames.{word_of}
+use Rattle.ddcmp_device.specs.Events.{open_fault_text}
 use Rattle.ddcmp_link.specs.declared.fault.LinkFailure.{LinkFailure}
 use Rattle.ddcmp_link.specs.declared.fault.LinkFailure.TheVariants as failure
 use Rattle.ddcmp_device.specs.declared.line_name.LineName.{LineName}
@@ -13,8 +14,7 @@ use Rattle.ddcmp_commands.specs.declared.fault.Fault.TheVariants.{Read, Write, M
 use Rattle.ddcmp_commands.specs.declared.ending.Ending.{Ending}
 use Rattle.ddcmp_commands.specs.declared.ending.Ending.TheVariants.{Done, SomeRefused}
 use Rattle.ddcmp_commands.specs.declared.ending.Ending.TheVariants.{Fault as Faulted}
-use Rattle.ddcmp_commands.specs.Endings.{IsNoLine}
-use Rattle.ddcmp_commands.specs.TapEndings.{IsUnopened}
+use Rattle.ddcmp_commands.specs.Endings.{IsLineUnopened, is_refusal}
 
 -- What is known of the lines of a system: the result of a link over the line of this name, with
 -- these options.
@@ -29,7 +29,7 @@ no_lines_known = record { links = λ word options. None }
 abbrev pub LinkEnds : Result LinkOutcome LinkFailure → Ending → Type 0
 LinkEnds (Ok outcome.Delivered) ending = ending ≡ Done
 LinkEnds (Ok outcome.SomeRefused) ending = ending ≡ SomeRefused
-LinkEnds (Err (failure.Open why)) ending = IsUnopened ending
+LinkEnds (Err (failure.Open why)) ending = IsLineUnopened (open_fault_text why) ending
 LinkEnds (Err failure.Ended) ending = ending ≡ Faulted Ended
 LinkEnds (Err (failure.Lost count)) ending = ending ≡ Faulted (Lost count)
 LinkEnds (Err failure.Read) ending = ending ≡ Faulted Read
@@ -49,8 +49,8 @@ means_nothing o =
 -- the link did.
 abbrev pub Links : LinesKnown → LinkArgs → Ending → Type 0
 Links lines linked ending =
-    (((line : LineName) → word_of line ≢ linked.line.now) × IsNoLine ending)
-    ⊎ ((means_nothing linked.options ≡ true) × IsNoLine ending)
+    (((line : LineName) → word_of line ≢ linked.line.now) × (is_refusal ending ≡ true))
+    ⊎ ((means_nothing linked.options ≡ true) × (is_refusal ending ≡ true))
     ⊎ ((line : LineName) × (word_of line ≡ linked.line.now)
     × (means_nothing linked.options ≡ false)
     × (ended : Result LinkOutcome LinkFailure)

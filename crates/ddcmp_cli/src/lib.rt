@@ -1,9 +1,11 @@
-//! The program `ddcmp`: runs the command that its arguments name, with `link` and `bridge`.
+//! The program `ddcmp`: runs the command that its arguments name. `simulate`, `pair`, `link` and
+//! `bridge` are here, the other commands in `ddcmp_commands`.
 #![tactic(auto)]
 
 mod bridge_command;
 mod link_command;
 pub mod program;
+mod script_command;
 mod standard;
 
 pub use ddcmp_args::{

@@ -36,7 +36,7 @@ pub trait LineSystem {
     ghost use Rattle.ddcmp_device.specs.LineNames.{word_of};
     ghost use Rattle.ddcmp_link.specs.declared.fault.LinkFailure.{LinkFailure as FaultValue};
     ghost use Rattle.ddcmp_link.specs.declared.fault.LinkFailure.TheVariants.{Write};
-    ghost use Rattle.ddcmp_session.specs.declared.link.LinkOutcome.{LinkOutcome as LinkOutcomeValue};
+    ghost use Rattle.ddcmp_session.specs.declared.link.LinkOutcome.{LinkOutcome as OutcomeValue};
     ghost use Rattle.ddcmp_cli.specs.LinkEndings.{LinesKnown};
 
     // What is known of its lines.
@@ -53,7 +53,7 @@ pub trait LineSystem {
         writer: &mut W,
     ) -> Result<LinkOutcome, LinkFailure<'a>>
         ensures broken { (result ≡ Err Write) ↔ IsTrue (W.broken writer.new) }
-        ensures known { (ended : Result LinkOutcomeValue FaultValue)
+        ensures known { (ended : Result OutcomeValue FaultValue)
             → (lines self.now).links (word_of line.entry) options ≡ Some ended
             → result ≡ ended };
 

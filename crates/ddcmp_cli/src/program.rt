@@ -4,7 +4,7 @@ ghost use Rattle.std.specs.Prelude.{List, ℕ, None, Some, codes, map, string_by
 ghost use Rattle.std.specs.IoError.{error_kind};
 ghost use Rattle.ddcmp_io.specs.Input.{GaveMost};
 ghost use Rattle.ddcmp_args.specs.Args.{name_of};
-ghost use Rattle.ddcmp_args.specs.declared.station_args.StationArgs.{StationArgs as StationArgsValue};
+ghost use Rattle.ddcmp_args.specs.declared.station_args.StationArgs.{StationArgs as StationValue};
 ghost use Rattle.ddcmp_cli.specs.Endings.{CanRun, Performs, Shows, file_named, RunsAs};
 ghost use Rattle.ddcmp_commands.specs.Endings.{streams};
 ghost use Rattle.ddcmp_args.specs.declared.tap_args.TapArgs.{TapArgs as TapArgsValue};
@@ -18,14 +18,13 @@ ghost use Rattle.ddcmp_io.specs.Change.{sink_change, source_change};
 
 use crate::bridge_command::bridge;
 use crate::link_command::{LineSystem, link};
+use crate::script_command::{pair_asked, simulate_asked};
 use ddcmp_args::{Command, NoCommand, parse_args};
 pub use ddcmp_args::{
     bridge_is_asked, explain_is_asked, link_is_asked, pair_is_asked, simulate_is_asked,
     station_is_asked, tap_is_asked,
 };
-use ddcmp_commands::{
-    Connections, Ending, Fault, Inputs, explain_asked, pair_asked, simulate_asked, station, tap,
-};
+use ddcmp_commands::{Connections, Ending, Fault, Inputs, explain_asked, station, tap};
 use ddcmp_io::{Sink, Source, Worst, write_all};
 use std::alloc::{AllocError, Global};
 use std::io::{Eprint, ErrorKind};
@@ -57,7 +56,7 @@ fn perform<
         → (result ≡ Ending.Fault Fault.Write) ↔ IsTrue (W.broken writer.new) }
     ensures whole { result ≡ Ending.Done → W.broken writer.new ≡ false }
     ensures untouched { file_named command.entry ≢ None → reader.new ≡ reader.old }
-    ensures stations { (args : StationArgsValue) → command.entry ≡ Command.Station args
+    ensures stations { (args : StationValue) → command.entry ≡ Command.Station args
         → (reader.new ≡ reader.old)
         × Stations (S.peers system.now) args (W.contents writer.old) (W.contents writer.new)
         result }

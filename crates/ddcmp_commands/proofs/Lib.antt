@@ -1,2 +1,1 @@
-pub mod ScriptLaws
 pub mod StationLaws

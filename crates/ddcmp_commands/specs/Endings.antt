@@ -1,7 +1,8 @@
 -- How a command ends: its faults, its status, and what it reads and writes.
 use Rattle.std.specs.Prelude.{⊤, ◌↔◌, IsTrue, None, codes, string_bytes, Bool, true, false, ◌≡◌}
-use Rattle.std.specs.Prelude.{◌≢◌, ◌⊎◌, ℕ, List, [], Option, Some, Result, Ok, Err}
+use Rattle.std.specs.Prelude.{◌≢◌, ◌⊎◌, ◌++◌, ℕ, List, [], Option, Some, Result, Ok, Err}
 use Rattle.std.specs.Io.KnownBytes.{Keeps}
+use Rattle.std.specs.declared.io.ErrorKind.{ErrorKind}
 use Rattle.ddcmp_explain.specs.declared.explain_fault.ExplainFault.{ExplainFault}
 use Rattle.ddcmp_explain.specs.declared.detected_fault.DetectedFault.{DetectedFault}
 use Rattle.ddcmp_explain.specs.declared.detected_fault.DetectedFault.TheVariants as detecting
@@ -24,6 +25,7 @@ use Rattle.ddcmp_net.specs.declared.serve_fault.ServeFault.{ServeFault}
 use Rattle.ddcmp_net.specs.declared.serve_fault.ServeFault.TheVariants as serving
 use Rattle.ddcmp_io.specs.declared.device.LineFault.TheVariants as line
 use Rattle.ddcmp_io.specs.declared.device.Worst.TheVariants.{Fine}
+use Rattle.ddcmp_io.specs.Causes.{cause_words}
 use Rattle.ddcmp_io.specs.Change.{SourceChange}
 use Rattle.ddcmp_io.specs.Input.{GaveMost}
 use Rattle.ddcmp_io.specs.Written.{Known}
@@ -115,11 +117,15 @@ is_refusal (Faulted Ended) = false
 is_refusal (Faulted (Lost count)) = false
 is_refusal (Faulted NoMemory) = true
 
--- a usage error, as for a LINE argument that isn't one, or an allocation failure
-abbrev pub IsNoLine : Ending → Type 0
-IsNoLine (Misused text) = ⊤
-IsNoLine (Faulted NoMemory) = ⊤
-IsNoLine _ = ⊥
+-- a usage error: what is wrong, and where to find help
+abbrev pub usage_text : List ℕ → List ℕ
+usage_text what = codes "error: " ++ what ++ codes "\n\nFor more information, try '--help'.\n"
+
+-- a usage error of this text, or an allocation failure
+abbrev pub IsUsage : List ℕ → Ending → Type 0
+IsUsage text (Misused told) = string_bytes told ≡ text
+IsUsage text (Faulted NoMemory) = ⊤
+IsUsage text _ = ⊥
 
 -- What was read and written: the input and what is left of it, and what the sink held before and
 -- holds after.
@@ -148,6 +154,18 @@ IsUnopened name (Unopened told why) = string_bytes told ≡ name
 IsUnopened name (Unread told fault) = ⊥
 IsUnopened name (Faulted fault) = ⊥
 
+-- If a file can't be opened, this is why.
+abbrev pub HasCause : ErrorKind → Ending → Type 0
+HasCause why (Unopened name known) = known ≡ why
+HasCause why _ = ⊤
+
+-- the ending reports by this text that a line can't be opened, or an allocation failed as that was
+-- reported
+abbrev pub IsLineUnopened : List ℕ → Ending → Type 0
+IsLineUnopened text (NoLine why) = string_bytes why ≡ text
+IsLineUnopened text (Faulted NoMemory) = ⊤
+IsLineUnopened text _ = ⊥
+
 -- The file can't be opened, or an allocation failed as that was reported, and nothing was written;
 -- or its content, if known, was read like this.
 abbrev pub ReadsFile : List ℕ → Known → (Streams → Ending → Type 0) → Known → Known → Ending
@@ -168,14 +186,15 @@ abbrev pub UnlessMisused : Bool → (Ending → Type 0) → (Ending → Type 0) 
 UnlessMisused true Refused Explained ending = (is_refusal ending ≡ true) × Refused ending
 UnlessMisused false Refused Explained ending = Explained ending
 
--- what is printed on standard error, apart from faults
+-- what is printed on standard error, if it isn't a fault of a command
 abbrev pub shown_of : Ending → Option (List ℕ)
 shown_of Done = Some []
 shown_of SomeRefused = Some []
-shown_of (NoLine why) = None
+shown_of (NoLine why) = Some (codes "ddcmp: " ++ string_bytes why ++ codes "\n")
 shown_of (Misused text) = Some (string_bytes text)
 shown_of NotText = Some (codes "ddcmp: an argument isn't UTF-8\n")
-shown_of (Unopened name why) = None
+shown_of (Unopened name why) =
+    Some (codes "ddcmp: open " ++ string_bytes name ++ codes ": " ++ cause_words why ++ codes "\n")
 shown_of (Unread name fault) = None
 shown_of (Faulted fault) = None
 

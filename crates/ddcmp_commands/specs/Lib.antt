@@ -2,6 +2,5 @@ pub mod Connections
 pub mod Origins
 pub mod Endings
 pub mod Explaining
-pub mod Scripts
 pub mod Stations
 pub mod TapEndings

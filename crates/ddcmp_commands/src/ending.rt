@@ -65,19 +65,6 @@ fn write_fault<W: fmt::Write, T: Display>(f: &mut fmt::Formatter<W>, fault: &T) 
     f.write_str("\n")
 }
 
-/// Writes the line for a file that can't be opened.
-fn write_unopened<W: fmt::Write>(
-    f: &mut fmt::Formatter<W>,
-    name: &String,
-    why: ErrorKind,
-) -> fmt::Result {
-    f.write_str("ddcmp: open ")?;
-    f.write_str(name.as_str())?;
-    f.write_str(": ")?;
-    f.write_str(words_of(why))?;
-    f.write_str("\n")
-}
-
 /// Writes the line for a file with a fault.
 fn write_unread<W: fmt::Write>(
     f: &mut fmt::Formatter<W>,
@@ -98,10 +85,13 @@ impl Display for Ending {
     fn fmt<W: fmt::Write>(&self, f: &mut fmt::Formatter<W>) -> fmt::Result {
         match self {
             Ending::Done | Ending::SomeRefused => Ok(()),
-            Ending::NoLine(why) => write_fault(f, why),
+            Ending::NoLine(why) => writeln!(f, "ddcmp: {why}"),
             Ending::Usage(text) => f.write_str(text.as_str()),
             Ending::NotText => f.write_str("ddcmp: an argument isn't UTF-8\n"),
-            Ending::Unopened(name, why) => write_unopened(f, name, *why),
+            Ending::Unopened(name, why) => {
+                let cause = words_of(*why);
+                writeln!(f, "ddcmp: open {name}: {cause}")
+            }
             Ending::Unread(name, fault) => write_unread(f, name, fault),
             Ending::Fault(fault) => write_fault(f, fault),
         }

@@ -1,6 +1,6 @@
 //! The files that the program reads.
 ghost use Rattle.std.specs.Prelude.{◌≡◌, ◌⊎◌};
-ghost use Rattle.ddcmp_commands.specs.Endings.{IsUnopened};
+ghost use Rattle.ddcmp_commands.specs.Endings.{HasCause, IsUnopened};
 
 use crate::ending::Ending;
 use crate::fault::Fault;
@@ -54,8 +54,9 @@ impl Inputs for HostRuntime {
 }
 
 /// Returns the ending if the file of this name can't be opened, with the system's error.
-pub(crate) fn unopened(alloc: Global, name: &str, why: ErrorKind) -> Ending
-    ensures { IsUnopened name.now result ⊎ (result ≡ Ending.Fault Fault.Memory) }
+pub fn unopened(alloc: Global, name: &str, why: ErrorKind) -> Ending
+    ensures name { IsUnopened name.now result ⊎ (result ≡ Ending.Fault Fault.Memory) }
+    ensures cause { HasCause why result }
 {
     match String::from_str(alloc, name) {
         Ok(name) => Ending::Unopened(name, why),

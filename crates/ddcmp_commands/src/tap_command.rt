@@ -3,7 +3,8 @@ ghost use Rattle.std.specs.Prelude.{◌≡◌, ◌≤◌, Err, IsTrue, false};
 ghost use Rattle.ddcmp_core.specs.Limits.{MAX_COUNT};
 ghost use Rattle.ddcmp_commands.specs.Endings.{is_json as is_json_notation};
 ghost use Rattle.ddcmp_commands.specs.TapEndings.{TapEnds, Taps, TapsAsked, TapsInTurn};
-ghost use Rattle.ddcmp_commands.specs.TapEndings.{attempt_of, notation_of as notation};
+ghost use Rattle.ddcmp_commands.specs.TapEndings.{carrier_text, notation_of as notation};
+ghost use Rattle.ddcmp_device.specs.Events.{open_fault_text};
 
 use crate::ending::Ending;
 use crate::fault::Fault;
@@ -20,7 +21,7 @@ use std::time;
 
 /// Returns the connection that a tap can't make, as for the line of a link.
 fn open_fault<'a>(args: &TapArgs<'a>, why: CarrierFault) -> OpenFault<'a>
-    ensures { result.attempt ≡ attempt_of why.stage }
+    ensures { open_fault_text result ≡ carrier_text args.now why }
 {
     let (attempt, name) = match why.stage {
         Stage::Listen => (Attempt::Listen, args.listen),
@@ -39,7 +40,7 @@ fn open_fault<'a>(args: &TapArgs<'a>, why: CarrierFault) -> OpenFault<'a>
 
 /// Returns how the program ends after this fault of a tap.
 fn ending_of_fault(alloc: Global, args: &TapArgs<'_>, fault: TapFault) -> Ending
-    ensures ends { TapEnds (Err fault) result }
+    ensures ends { TapEnds args.now (Err fault) result }
     ensures write { fault ≡ TapFault.Report → result ≡ Ending.Fault Fault.Write }
 {
     match fault {

@@ -2,8 +2,8 @@
 use Rattle.std.specs.Prelude.{List, ◌++◌, codes, decimal, ℕ}
 use Rattle.std.specs.Net.Text.{socket_text}
 use Rattle.ddcmp_io.specs.Causes.{cause_words}
-use Rattle.ddcmp_device.specs.declared.event.Event.{Event}
-use Rattle.ddcmp_device.specs.declared.event.Event.TheVariants as event
+use Rattle.ddcmp_device.specs.declared.event.LineEvent.{LineEvent}
+use Rattle.ddcmp_device.specs.declared.event.LineEvent.TheVariants as event
 use Rattle.ddcmp_device.specs.declared.fault.Attempt.{Attempt}
 use Rattle.ddcmp_device.specs.declared.fault.Attempt.TheVariants as attempt
 use Rattle.ddcmp_device.specs.declared.fault.Cause.{Cause}
@@ -32,7 +32,7 @@ abbrev pub open_fault_text : OpenFault → List ℕ
 open_fault_text f =
     attempt_text f.attempt ++ (codes " " ++ (f.name.now ++ (codes ": " ++ cause_text f.cause)))
 
-abbrev pub event_text : Event → List ℕ
+abbrev pub event_text : LineEvent → List ℕ
 event_text (event.Listening address) = codes "listening " ++ socket_text address
 event_text (event.Connecting address) = codes "connecting " ++ socket_text address
 event_text (event.Connected address) = codes "connected " ++ socket_text address

@@ -1,7 +1,7 @@
 -- The possible results of opening a line, by its kind, and what is reported about them.
 use Rattle.std.specs.Prelude.{⊤, ◌≡◌, Option, Some, None}
-use Rattle.ddcmp_device.specs.declared.event.Event.{Event}
-use Rattle.ddcmp_device.specs.declared.event.Event.TheVariants as event
+use Rattle.ddcmp_device.specs.declared.event.LineEvent.{LineEvent}
+use Rattle.ddcmp_device.specs.declared.event.LineEvent.TheVariants as event
 use Rattle.ddcmp_device.specs.declared.line.Line.{Line as LineValue}
 use Rattle.ddcmp_device.specs.declared.line.Line.TheVariants as line
 use Rattle.ddcmp_device.specs.declared.opener.Opened.{Opened}
@@ -11,7 +11,7 @@ use Rattle.ddcmp_io.specs.declared.line_kind.LineKind.{LineKind}
 use Rattle.ddcmp_io.specs.declared.line_kind.LineKind.TheVariants as kind
 
 -- what is reported: nothing if the line isn't a connection
-abbrev pub event_of : Opened → Option Event
+abbrev pub event_of : Opened → Option LineEvent
 event_of (Line it) = None
 event_of (Connected it peer) = Some (event.Connected peer)
 event_of (Connecting peer) = Some (event.Connecting peer)

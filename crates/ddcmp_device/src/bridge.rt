@@ -2,18 +2,18 @@
 ghost use Rattle.std.specs.Prelude.{◌≡◌, ◌*◌};
 
 use crate::bridge_intake::Intake;
+use crate::bridge_line::BridgeLines;
 use crate::bridge_live::LiveLines;
 use crate::bridge_save::{Save, remove};
-use crate::bridge_side::Sides;
-use crate::bridge_trace::Trace;
+use crate::bridge_trace::BridgeTrace;
 use crate::fault::{Attempt, Cause, OpenFault};
 use crate::line::Line;
 use crate::line_name::LineName;
 use crate::opener::{OpenRefusal, Opened, Opener};
 use crate::poller::Poller;
 use crate::system::System;
-use ddcmp_bridge::{Bridge, BridgeStop, Counts, Faults, Lines, Way};
-use ddcmp_io::{Down, Wanted};
+use ddcmp_bridge::{Bridge, BridgeStop, Counts, Faults, LinePair};
+use ddcmp_io::{Down, End, Wanted};
 use ddcmp_station::{Clock, Elapsed};
 use ddcmp_tap::{LogNotation, NoMemory, Side};
 use std::alloc::Global;
@@ -211,9 +211,9 @@ fn trace_of(
     alloc: Global,
     options: &BridgeOptions<'_>,
     side: Side,
-) -> Result<Option<Trace>, NoMemory> {
+) -> Result<Option<BridgeTrace>, NoMemory> {
     match options.trace {
-        Some(notation) => Ok(Some(Trace::new(alloc, notation, side)?)),
+        Some(notation) => Ok(Some(BridgeTrace::new(alloc, notation, side)?)),
         None => Ok(None),
     }
 }
@@ -256,7 +256,7 @@ impl Ways {
         let Some(second) = two.open(system, &mut clock, ends_at)? else {
             return Ok(end_of(&self.bridge, &self.there, &self.back, false));
         };
-        match Sides::new(system, alloc, first, second) {
+        match BridgeLines::new(system, alloc, first, second) {
             Ok(sides) => Ok(self.run(system, sides, clock, options)),
             Err(error) => Err(no_poller(error.kind())),
         }
@@ -266,7 +266,7 @@ impl Ways {
     fn run<E: Eprint, C: Clock + Drop>(
         self,
         system: &E,
-        sides: Sides,
+        sides: BridgeLines,
         clock: C,
         options: &BridgeOptions<'_>,
     ) -> BridgeEnd {
@@ -306,8 +306,8 @@ fn ends_at(options: &BridgeOptions<'_>) -> u64
 
 fn end_of(bridge: &Bridge, there: &Intake, back: &Intake, has_failed: bool) -> BridgeEnd {
     BridgeEnd {
-        there: there.counts(bridge.counts(Way::There)),
-        back: back.counts(bridge.counts(Way::Back)),
+        there: there.counts(bridge.counts(End::A)),
+        back: back.counts(bridge.counts(End::B)),
         has_failed,
     }
 }

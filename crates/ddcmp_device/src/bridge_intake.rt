@@ -2,7 +2,7 @@
 ghost use Rattle.std.specs.Prelude.{◌≡◌, ◌≤◌, ◌+◌, ◌-◌, ◌^◌, false, length, min};
 
 use crate::bridge_save::Save;
-use crate::bridge_trace::Trace;
+use crate::bridge_trace::BridgeTrace;
 use crate::datagram::Framing;
 use crate::fault::Cause;
 use ddcmp_bridge::{Counts, Fate};
@@ -16,7 +16,7 @@ pub(crate) struct Intake {
     framing: Framing,
     /// How many bytes of such frames were dropped.
     cut: u64,
-    trace: Option<Trace>,
+    trace: Option<BridgeTrace>,
     /// The file that all received bytes are saved in, if there is one.
     save: Option<Save>,
 }
@@ -35,7 +35,11 @@ impl Drop for Intake {
 
 impl Intake {
     /// Allocates all memory that it will need; returns none if an allocation failed.
-    pub(crate) fn new(alloc: Global, trace: Option<Trace>, save: Option<Save>) -> Option<Intake> {
+    pub(crate) fn new(
+        alloc: Global,
+        trace: Option<BridgeTrace>,
+        save: Option<Save>,
+    ) -> Option<Intake> {
         Some(Intake {
             framing: Framing::new(alloc, ddcmp_frame::MAX_COUNT).ok()?,
             cut: 0,

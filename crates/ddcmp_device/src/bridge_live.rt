@@ -3,8 +3,9 @@ ghost use Rattle.std.specs.Prelude.{◌≤◌, length};
 ghost use Rattle.ddcmp_bridge.specs.Joining.{count_of};
 
 use crate::bridge_intake::Intake;
-use crate::bridge_side::{Side, Sides};
-use ddcmp_bridge::{Fate, Lines, Needs, Way};
+use crate::bridge_line::{BridgeLine, BridgeLines};
+use ddcmp_bridge::{Fate, LinePair, Needs};
+use ddcmp_io::End;
 use ddcmp_station::Clock;
 use std::io::Eprint;
 
@@ -15,30 +16,30 @@ pub(crate) struct LiveLines<'a, E, C> {
     pub(crate) clock: C,
     /// The moment that it returned last.
     pub(crate) moment: u64,
-    pub(crate) sides: Sides,
+    pub(crate) sides: BridgeLines,
     pub(crate) there: Intake,
     pub(crate) back: Intake,
 }
 
-/// Reads a side without blocking.
-fn read_from(side: &mut Side, intake: &mut Intake, space: &mut [u8]) -> Option<usize>
+/// Reads a line without blocking.
+fn read_from(side: &mut BridgeLine, intake: &mut Intake, space: &mut [u8]) -> Option<usize>
     ensures { count_of result ≤ length space.new }
 {
     let n = side.read(space)?;
     Some(intake.take(&space[..n], side.has_datagrams()))
 }
 
-/// Returns what is needed of a side that one direction reads and the other one writes.
-fn needs_of(side: &Side, reading: Needs, writing: Needs) -> Needs {
+/// Returns what is needed of a line that one direction reads and the other one writes.
+fn needs_of(side: &BridgeLine, reading: Needs, writing: Needs) -> Needs {
     Needs {
         to_read: reading.to_read && side.down.is_none(),
         to_write: writing.to_write && side.takes_bytes(),
     }
 }
 
-impl<E: Eprint, C: Clock> Lines for LiveLines<'_, E, C> {
+impl<E: Eprint, C: Clock> LinePair for LiveLines<'_, E, C> {
     ghost use Rattle.std.specs.Prelude.{None, is_some};
-    ghost use Rattle.ddcmp_device.specs.Inside.Sides.{down_of};
+    ghost use Rattle.ddcmp_device.specs.Inside.BridgeLines.{down_of};
 
     ghost traffic = { λ _. None };
 
@@ -46,28 +47,28 @@ impl<E: Eprint, C: Clock> Lines for LiveLines<'_, E, C> {
 
     ghost moment = { λ l. l.moment };
 
-    fn read(&mut self, way: Way, space: &mut [u8]) -> Option<usize> {
-        let came = match way {
-            Way::There => read_from(&mut self.sides.first, &mut self.there, space),
-            Way::Back => read_from(&mut self.sides.second, &mut self.back, space),
+    fn read(&mut self, from: End, space: &mut [u8]) -> Option<usize> {
+        let came = match from {
+            End::A => read_from(&mut self.sides.first, &mut self.there, space),
+            End::B => read_from(&mut self.sides.second, &mut self.back, space),
         };
         self.sides.settle();
         came
     }
 
-    fn write(&mut self, way: Way, bytes: &[u8]) -> Option<usize> {
-        let went = match way {
-            Way::There => self.sides.second.write(bytes),
-            Way::Back => self.sides.first.write(bytes),
+    fn write(&mut self, from: End, bytes: &[u8]) -> Option<usize> {
+        let went = match from {
+            End::A => self.sides.second.write(bytes),
+            End::B => self.sides.first.write(bytes),
         };
         self.sides.settle();
         went
     }
 
-    fn is_down(&self, way: Way) -> bool {
-        match way {
-            Way::There => self.sides.first.down.is_some(),
-            Way::Back => self.sides.second.down.is_some(),
+    fn is_down(&self, from: End) -> bool {
+        match from {
+            End::A => self.sides.first.down.is_some(),
+            End::B => self.sides.second.down.is_some(),
         }
     }
 
@@ -75,10 +76,10 @@ impl<E: Eprint, C: Clock> Lines for LiveLines<'_, E, C> {
         self.there.unsaved().is_some() || self.back.unsaved().is_some()
     }
 
-    fn log(&mut self, way: Way, now: u64, bytes: &[u8], fate: Option<Fate>) {
-        match way {
-            Way::There => self.there.log(self.system, now, bytes, fate),
-            Way::Back => self.back.log(self.system, now, bytes, fate),
+    fn log(&mut self, from: End, now: u64, bytes: &[u8], fate: Option<Fate>) {
+        match from {
+            End::A => self.there.log(self.system, now, bytes, fate),
+            End::B => self.back.log(self.system, now, bytes, fate),
         }
     }
 

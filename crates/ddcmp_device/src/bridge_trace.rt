@@ -7,16 +7,16 @@ use std::io::Eprint;
 use std::str;
 
 /// The log of one direction: the lines of a tap, and what the bridge did to a frame.
-pub(crate) struct Trace {
+pub(crate) struct BridgeTrace {
     direction: Direction,
     notation: LogNotation,
     side: Side,
 }
 
 // Manual, since a derived `Drop` would be expanded wherever a value is dropped.
-impl Drop for Trace {
+impl Drop for BridgeTrace {
     fn drop(self) {
-        let Trace {
+        let BridgeTrace {
             direction: _direction,
             notation: _,
             side: _,
@@ -24,11 +24,15 @@ impl Drop for Trace {
     }
 }
 
-impl Trace {
+impl BridgeTrace {
     /// Allocates all memory apart from that of its lines.
-    pub(crate) fn new(alloc: Global, notation: LogNotation, side: Side) -> Result<Trace, NoMemory> {
+    pub(crate) fn new(
+        alloc: Global,
+        notation: LogNotation,
+        side: Side,
+    ) -> Result<BridgeTrace, NoMemory> {
         let direction = Direction::new(alloc, side, notation, MAX_COUNT)?;
-        Ok(Trace {
+        Ok(BridgeTrace {
             direction,
             notation,
             side,

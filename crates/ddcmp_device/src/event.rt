@@ -5,7 +5,7 @@ use std::net::SocketAddr;
 
 /// An event of the line.
 #[derive(Drop)]
-pub enum Event<'a> {
+pub enum LineEvent<'a> {
     Listening(SocketAddr),
     Connecting(SocketAddr),
     Connected(SocketAddr),
@@ -13,7 +13,7 @@ pub enum Event<'a> {
     Retry(OpenFault<'a>, u64),
 }
 
-impl fmt::Display for Event<'_> {
+impl fmt::Display for LineEvent<'_> {
     ghost use Rattle.std.specs.Prelude.{Some};
     ghost use Rattle.ddcmp_device.specs.Events.{event_text};
 
@@ -21,10 +21,10 @@ impl fmt::Display for Event<'_> {
 
     fn fmt<W: fmt::Write>(&self, f: &mut fmt::Formatter<W>) -> fmt::Result {
         match self {
-            Event::Listening(addr) => write!(f, "listening {addr}"),
-            Event::Connecting(addr) => write!(f, "connecting {addr}"),
-            Event::Connected(addr) => write!(f, "connected {addr}"),
-            Event::Retry(fault, seconds) => write!(f, "ddcmp: {fault}; retry in {seconds} s"),
+            LineEvent::Listening(addr) => write!(f, "listening {addr}"),
+            LineEvent::Connecting(addr) => write!(f, "connecting {addr}"),
+            LineEvent::Connected(addr) => write!(f, "connected {addr}"),
+            LineEvent::Retry(fault, seconds) => write!(f, "ddcmp: {fault}; retry in {seconds} s"),
         }
     }
 }

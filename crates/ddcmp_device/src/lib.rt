@@ -4,9 +4,9 @@
 
 mod bridge;
 mod bridge_intake;
+mod bridge_line;
 mod bridge_live;
 mod bridge_save;
-mod bridge_side;
 mod bridge_trace;
 mod datagram;
 mod event;
@@ -14,18 +14,18 @@ mod fault;
 mod line;
 mod line_name;
 mod opener;
-mod outlet;
 mod poller;
 mod socket;
+mod standard_stream;
 mod system;
 
 pub use bridge::{BridgeEnd, BridgeFault, BridgeOptions, bridge_lines};
 pub use datagram::Framing;
-pub use event::Event;
+pub use event::LineEvent;
 pub use fault::{Attempt, Cause, OpenFault};
 pub use line::Line;
 pub use line_name::LineName;
 pub use opener::{OpenRefusal, Opened, Opener};
-pub use outlet::Outlet;
 pub use poller::{Descriptor, Poller, Ready, errors_take};
+pub use standard_stream::StandardStream;
 pub use system::System;

@@ -5,7 +5,7 @@ ghost use Rattle.ddcmp_device.specs.Opening.{Begins, SameIfNotYet, Opens, event_
 ghost use Rattle.ddcmp_device.specs.Opening.{line_of};
 ghost use Rattle.ddcmp_io.specs.declared.line_kind.LineKind.TheVariants as kind;
 
-use crate::event::Event;
+use crate::event::LineEvent;
 use crate::fault::{Cause, OpenFault};
 use crate::line::Line;
 use crate::line_name::LineName;
@@ -60,13 +60,13 @@ pub enum Opened {
 
 impl Opened {
     /// Returns the event to be reported, if there is one.
-    pub fn event(&self) -> Option<Event<'static>>
+    pub fn event(&self) -> Option<LineEvent<'static>>
         ensures { result ≡ event_of self.now }
     {
         match self {
-            Opened::Connected(_, peer) => Some(Event::Connected(*peer)),
-            Opened::Connecting(peer) => Some(Event::Connecting(*peer)),
-            Opened::Listening(addr) => Some(Event::Listening(*addr)),
+            Opened::Connected(_, peer) => Some(LineEvent::Connected(*peer)),
+            Opened::Connecting(peer) => Some(LineEvent::Connecting(*peer)),
+            Opened::Listening(addr) => Some(LineEvent::Listening(*addr)),
             Opened::Line(_) | Opened::NotYet => None,
         }
     }

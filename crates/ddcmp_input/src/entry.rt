@@ -15,7 +15,7 @@ pub enum Entry {
 
 /// The result for a chunk of the input.
 #[derive(Clone, Copy, PartialEq, Eq)]
-pub struct Pushed {
+pub struct PushedEntry {
     /// How many bytes were used. The caller has to push the others again.
     pub used: usize,
     /// What the last of these bytes completed. Without one all bytes were used.

@@ -2,7 +2,7 @@
 ghost use Rattle.std.specs.Prelude.{◌≡◌};
 ghost use Rattle.ddcmp_input.specs.HexLines.{byte_of_digits};
 
-use crate::entry::{Entry, Pushed};
+use crate::entry::{Entry, PushedEntry};
 use std::alloc::{AllocError, Global};
 use std::marker::Model;
 
@@ -150,7 +150,7 @@ impl HexLines {
     }
 
     /// Takes bytes of a chunk, up to the first that completes something.
-    pub fn push_all(&mut self, piece: &[u8]) -> Pushed
+    pub fn push_all(&mut self, piece: &[u8]) -> PushedEntry
         ensures used { result.used ≤ length piece.now }
         // The last byte that was used completed it, and no byte before that completed anything.
         ensures first { (n : ℕ) (entry : Entry) → result.entry ≡ Some entry → result.used ≡ n + 1
@@ -163,13 +163,13 @@ impl HexLines {
         for used in 0..piece.len() {
             let entry = self.push(piece[used]);
             if entry.is_some() {
-                return Pushed {
+                return PushedEntry {
                     used: used + 1,
                     entry,
                 };
             }
         }
-        Pushed {
+        PushedEntry {
             used: piece.len(),
             entry: None,
         }

@@ -1,7 +1,7 @@
 //! Messages in binary.
 ghost use Rattle.std.specs.Prelude.{◌≡◌, ◌+◌, ◌≤◌, ◌++◌, length, vec_len, vec_capacity};
 
-use crate::entry::{Entry, Pushed};
+use crate::entry::{Entry, PushedEntry};
 use std::alloc::{AllocError, Global};
 use std::marker::Model;
 
@@ -110,7 +110,7 @@ impl Lengths {
     }
 
     /// Takes bytes of a chunk, up to the first that completes something.
-    pub fn push_all(&mut self, piece: &[u8]) -> Pushed
+    pub fn push_all(&mut self, piece: &[u8]) -> PushedEntry
         ensures used { result.used ≤ length piece.now }
         // The last byte that was used completed it, and no byte before that completed anything.
         ensures first { (n : ℕ) (entry : Entry) → result.entry ≡ Some entry → result.used ≡ n + 1
@@ -125,18 +125,18 @@ impl Lengths {
             let more = self.push_part(&piece[used..]);
             used += more.used;
             if more.entry.is_some() {
-                return Pushed {
+                return PushedEntry {
                     used,
                     entry: more.entry,
                 };
             }
         }
-        Pushed { used, entry: None }
+        PushedEntry { used, entry: None }
     }
 
     /// Takes the bytes of a chunk up to the next place: a byte of a length, or as much as there is
     /// of a message.
-    fn push_part(&mut self, piece: &[u8]) -> Pushed
+    fn push_part(&mut self, piece: &[u8]) -> PushedEntry
         requires { 0 < length piece.now }
         ensures some { 0 < result.used }
         ensures used { result.used ≤ length piece.now }
@@ -148,7 +148,7 @@ impl Lengths {
     {
         match self.place {
             LengthPlace::Inside(left) => self.push_within(piece, left),
-            _ => Pushed {
+            _ => PushedEntry {
                 used: 1,
                 entry: self.push(piece[0]),
             },
@@ -156,7 +156,7 @@ impl Lengths {
     }
 
     /// Takes as much as there is of a message, of which this many bytes are left.
-    fn push_within(&mut self, piece: &[u8], left: u16) -> Pushed
+    fn push_within(&mut self, piece: &[u8], left: u16) -> PushedEntry
         requires place { self.old.place ≡ LengthPlace.Inside left }
         requires some { 0 < length piece.now }
         ensures some { 0 < result.used }
@@ -170,14 +170,14 @@ impl Lengths {
         if piece.len() < left as usize {
             append(&mut self.message, piece);
             self.place = LengthPlace::Inside(left - piece.len() as u16);
-            return Pushed {
+            return PushedEntry {
                 used: piece.len(),
                 entry: None,
             };
         }
         append(&mut self.message, &piece[..left as usize]);
         self.place = LengthPlace::Start;
-        Pushed {
+        PushedEntry {
             used: left as usize,
             entry: Some(Entry::Message),
         }

@@ -17,7 +17,7 @@ pub mod message_laws;
 mod place;
 
 pub use dump::{Dump, NotDumped};
-pub use entry::{Entry, Pushed};
+pub use entry::{Entry, PushedEntry};
 pub use hex_lines::HexLines;
 pub use lengths::Lengths;
 pub use place::Place;

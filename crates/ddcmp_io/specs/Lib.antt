@@ -1,6 +1,8 @@
+pub mod Carriages
 pub mod Causes
 pub mod Change
 pub mod Device
+pub mod Ends
 pub mod Failing
 pub mod Input
 pub mod LineKinds

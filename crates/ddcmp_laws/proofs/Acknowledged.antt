@@ -5,7 +5,7 @@ use Rattle.std.specs.Prelude.{◌&&◌, ◌==◌}
 use Rattle.std.proofs.lemmas.List.{length-drop}
 use Rattle.ddcmp_proto.specs.Config.{first_refusal}
 use Rattle.ddcmp_proto.specs.declared.config.Config.{Config}
-use Rattle.ddcmp_pair.specs.declared.event.End.{End}
+use Rattle.ddcmp_io.specs.declared.carrier.End.{End}
 use Rattle.ddcmp_pair.specs.InOrder.{Delivers}
 use Rattle.ddcmp_pair.specs.Run.{EndState, PairState, handed_up, run, new_pair, is_clean}
 use Rattle.ddcmp_pair.proofs.Relation.{Face, face, Stands, not_begun, begun}

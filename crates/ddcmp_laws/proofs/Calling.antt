@@ -12,8 +12,8 @@ use Rattle.ddcmp_core.specs.Core.{CoreView}
 use Rattle.ddcmp_proto.specs.Bytes.{received_of, after_item, notices_of_item, after_items}
 use Rattle.ddcmp_proto.specs.Bytes.{notices_of_items, items_added}
 use Rattle.ddcmp_station.specs.Driving.{core_after_take_arm}
-use Rattle.ddcmp_pair.specs.declared.event.End.{End}
-use Rattle.ddcmp_pair.specs.declared.event.End.TheVariants.{A, B}
+use Rattle.ddcmp_io.specs.declared.carrier.End.{End}
+use Rattle.ddcmp_io.specs.declared.carrier.End.TheVariants.{A, B}
 use Rattle.ddcmp_pair.specs.Place.{WholeFrame}
 use Rattle.ddcmp_pair.specs.Run.{EndState, PairState, with_station, whole_frame, notices_at}
 use Rattle.ddcmp_pair.specs.Run.{after_start_here, after_send_here, after_take_here}

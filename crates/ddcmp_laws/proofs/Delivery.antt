@@ -15,8 +15,8 @@ use Rattle.ddcmp_station.specs.Driving.{DriveTurn, Driving, driving_from, is_due
 use Rattle.ddcmp_station.specs.Driving.{core_after_take_arm, core_at_deadline, core_after_message}
 use Rattle.ddcmp_station.specs.Driving.{deadline_at, before_offer, before_frame, before_read}
 use Rattle.ddcmp_station.specs.Driving.{after_turn, after_turns}
-use Rattle.ddcmp_pair.specs.declared.event.End.{End}
-use Rattle.ddcmp_pair.specs.declared.event.End.TheVariants.{A, B}
+use Rattle.ddcmp_io.specs.declared.carrier.End.{End}
+use Rattle.ddcmp_io.specs.declared.carrier.End.TheVariants.{A, B}
 use Rattle.ddcmp_pair.specs.InOrder.{Delivers}
 use Rattle.ddcmp_pair.specs.Run.{EndState, PairState, handed_up, new_end, new_pair, is_clean}
 use Rattle.ddcmp_pair.proofs.Steady.{inbox-sent, expired-inbox}

@@ -28,8 +28,8 @@ use Rattle.ddcmp_proto.specs.Bytes.{received_of, after_item, after_items, items_
 use Rattle.ddcmp_proto.specs.Bytes.{frame_on_line}
 use Rattle.ddcmp_proto.specs.Config.{first_refusal, limits_of}
 use Rattle.ddcmp_proto.specs.declared.config.Config.{Config}
-use Rattle.ddcmp_pair.specs.declared.event.End.{End}
-use Rattle.ddcmp_pair.specs.declared.event.End.TheVariants.{A, B}
+use Rattle.ddcmp_io.specs.declared.carrier.End.{End}
+use Rattle.ddcmp_io.specs.declared.carrier.End.TheVariants.{A, B}
 use Rattle.ddcmp_pair.specs.declared.event.Event.{Event}
 use Rattle.ddcmp_pair.specs.declared.event.Event.TheVariants as event
 use Rattle.ddcmp_pair.specs.declared.event.Reply.TheVariants as reply

@@ -5,8 +5,8 @@ use Rattle.std.proofs.Common.{length, drop, Option, Some, None, refl, sym, ap, â
 use Rattle.std.proofs.Common.{append-nil}
 use Rattle.std.specs.Prelude.{is_some, replicate}
 use Rattle.ddcmp_core.specs.Core.{IsSound}
-use Rattle.ddcmp_pair.specs.declared.event.End.{End}
-use Rattle.ddcmp_pair.specs.declared.event.End.TheVariants.{A, B}
+use Rattle.ddcmp_io.specs.declared.carrier.End.{End}
+use Rattle.ddcmp_io.specs.declared.carrier.End.TheVariants.{A, B}
 use Rattle.ddcmp_pair.specs.declared.event.Event.{Event}
 use Rattle.ddcmp_pair.specs.declared.event.Event.TheVariants as event
 use Rattle.ddcmp_pair.specs.InOrder.{IsRun}

@@ -5,8 +5,8 @@ use Rattle.ddcmp_core.specs.Table.{next, next_frame}
 use Rattle.ddcmp_proto.specs.declared.config.Config.{Config}
 use Rattle.ddcmp_station.specs.UserCalls.{UserCall}
 use Rattle.ddcmp_station.specs.Driving.{Driving, frame_bytes}
-use Rattle.ddcmp_pair.specs.declared.event.End.{End}
-use Rattle.ddcmp_pair.specs.declared.event.End.TheVariants.{A, B}
+use Rattle.ddcmp_io.specs.declared.carrier.End.{End}
+use Rattle.ddcmp_io.specs.declared.carrier.End.TheVariants.{A, B}
 use Rattle.ddcmp_pair.specs.Run.{EndState, PairState, new_end, new_pair}
 use Rattle.ddcmp_laws.specs.Faithful.{bytes_of, written, Begins, IsFaithful}
 use Rattle.ddcmp_laws.specs.PairCalls.{Call, Start, Halt, Send, Poll, Arrive, Expire, Take, Arm}

@@ -6,8 +6,8 @@ use Rattle.ddcmp_proto.specs.Config.{first_refusal}
 use Rattle.ddcmp_proto.specs.StationCalls.{ClearsLine, Feeds as FeedsStation, Halts as HaltsStation}
 use Rattle.ddcmp_proto.specs.StationCalls.{Starts as StartsStation}
 use Rattle.ddcmp_proto.proofs.FeedLaws.{after_piece-limits}
-use Rattle.ddcmp_pair.specs.declared.event.End.{End}
-use Rattle.ddcmp_pair.specs.declared.event.End.TheVariants.{A, B}
+use Rattle.ddcmp_io.specs.declared.carrier.End.{End}
+use Rattle.ddcmp_io.specs.declared.carrier.End.TheVariants.{A, B}
 use Rattle.ddcmp_pair.specs.declared.event.Event.TheVariants as event
 use Rattle.ddcmp_pair.specs.Run.{EndState, PairState, after_arrival_here, after_event, notices_at}
 use Rattle.ddcmp_pair.specs.Run.{run}

@@ -5,11 +5,11 @@ use Rattle.std.specs.Prelude.{◌≤◌, ◌&&◌}
 use Rattle.ddcmp_core.proofs.Sound.{sound_armed}
 use Rattle.ddcmp_core.specs.Table.{is_on}
 use Rattle.ddcmp_proto.specs.StationCalls.{StationCall}
-use Rattle.ddcmp_pair.specs.declared.event.End.{End}
-use Rattle.ddcmp_pair.specs.declared.event.End.TheVariants.{A, B}
+use Rattle.ddcmp_io.specs.Ends.{other}
+use Rattle.ddcmp_io.specs.declared.carrier.End.{End}
+use Rattle.ddcmp_io.specs.declared.carrier.End.TheVariants.{A, B}
 use Rattle.ddcmp_pair.specs.declared.event.Event.TheVariants as event
 use Rattle.ddcmp_pair.specs.Run.{EndState, PairState, at}
-use Rattle.ddcmp_pair.specs.Settle.{other}
 use Rattle.ddcmp_station.specs.Driving.{core_after_take_arm, deadline_at, is_due}
 use Rattle.ddcmp_station.specs.Linking.{LinkView, polls}
 use Rattle.ddcmp_laws.proofs.FaithfulLaws.{IsWell, well_event}

@@ -1,7 +1,7 @@
 -- Two runs over one connection after the other are runs over an honest line, in a clean run.
 use Rattle.std.proofs.Common.{◌≡◌, sym, subst, refl, List, [], None, arith}
 use Rattle.ddcmp_proto.specs.Config.{first_refusal}
-use Rattle.ddcmp_pair.specs.declared.event.End.{End}
+use Rattle.ddcmp_io.specs.declared.carrier.End.{End}
 use Rattle.ddcmp_pair.specs.Run.{new_pair}
 use Rattle.ddcmp_laws.proofs.FaithfulLaws.{well_new}
 use Rattle.ddcmp_laws.specs.LinkRestarts.{calls_of_links}

@@ -20,8 +20,8 @@ use Rattle.ddcmp_core.specs.Table.{new_station, start_refusal, station_begun}
 use Rattle.ddcmp_core.proofs.Sound.{sound_started}
 use Rattle.ddcmp_proto.specs.Config.{first_refusal, limits_of}
 use Rattle.ddcmp_proto.proofs.FeedLaws.{after_piece-none, notices_of_piece-none}
-use Rattle.ddcmp_pair.specs.declared.event.End.{End}
-use Rattle.ddcmp_pair.specs.declared.event.End.TheVariants.{A, B}
+use Rattle.ddcmp_io.specs.declared.carrier.End.{End}
+use Rattle.ddcmp_io.specs.declared.carrier.End.TheVariants.{A, B}
 use Rattle.ddcmp_pair.specs.Run.{EndState, PairState, after_arrival_here, notices_at, restarts_in}
 use Rattle.ddcmp_station.specs.Linking.{LinkView, after_frame}
 use Rattle.ddcmp_laws.specs.Faithful.{Begins, written}

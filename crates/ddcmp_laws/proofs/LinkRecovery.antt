@@ -19,8 +19,8 @@ use Rattle.ddcmp_station.specs.Driving.{deadline_at, is_due, core_after_take_arm
 use Rattle.ddcmp_station.specs.Linking.{LinkView, OutboxView, frame_of_link, polls}
 use Rattle.ddcmp_station.specs.Driving.{frame_bytes}
 use Rattle.ddcmp_station.specs.Linking.{after_polled, with_state, total_plus}
-use Rattle.ddcmp_pair.specs.declared.event.End.{End}
-use Rattle.ddcmp_pair.specs.declared.event.End.TheVariants.{A, B}
+use Rattle.ddcmp_io.specs.declared.carrier.End.{End}
+use Rattle.ddcmp_io.specs.declared.carrier.End.TheVariants.{A, B}
 use Rattle.ddcmp_pair.specs.declared.event.Event.{Event}
 use Rattle.ddcmp_pair.specs.InOrder.{IsRun}
 use Rattle.ddcmp_pair.specs.Recovery.{IsDone}

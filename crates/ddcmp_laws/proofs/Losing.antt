@@ -58,8 +58,8 @@ use Rattle.ddcmp_session.specs.Course.{after_progress, after_state, is_at, progr
 use Rattle.ddcmp_session.specs.Course.{refusal_between, try_counted}
 use Rattle.ddcmp_session.specs.Timing.{PassesTime, after_failure, after_line}
 use Rattle.ddcmp_session.specs.Calls.{SessionStep}
-use Rattle.ddcmp_pair.specs.declared.event.End.{End}
-use Rattle.ddcmp_pair.specs.declared.event.End.TheVariants.{A, B}
+use Rattle.ddcmp_io.specs.declared.carrier.End.{End}
+use Rattle.ddcmp_io.specs.declared.carrier.End.TheVariants.{A, B}
 use Rattle.ddcmp_session.proofs.GoingLaws.{same-at}
 use Rattle.ddcmp_laws.specs.Pipe.{AreSessionCalls, Made, Sessions, after_session_at}
 use Rattle.ddcmp_laws.specs.Pipe.{after_sessions, session_at, session_of}

@@ -10,7 +10,7 @@ use Rattle.ddcmp_input.specs.Told.{Got}
 use Rattle.ddcmp_input.proofs.BinaryLaws as in_binary_laws
 use Rattle.ddcmp_proto.specs.Config.{first_refusal}
 use Rattle.ddcmp_station.specs.Linking.{delivered}
-use Rattle.ddcmp_pair.specs.declared.event.End.{End}
+use Rattle.ddcmp_io.specs.declared.carrier.End.{End}
 use Rattle.ddcmp_pair.specs.Prefix.{IsPrefixOf}
 use Rattle.ddcmp_pair.specs.Run.{new_pair}
 use Rattle.ddcmp_streams.specs.declared.messages.MessageForm.{MessageForm}

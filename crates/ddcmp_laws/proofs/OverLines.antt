@@ -1,7 +1,7 @@
 -- A session that runs over devices, over one line after the other.
 use Rattle.std.proofs.Common.{◌≡◌, ◌∙◌, ap, sym, refl, List, [], ◌∷◌, ◌++◌, map, Option, Some}
 use Rattle.ddcmp_frame.specs.Reader.{StandsFor}
-use Rattle.ddcmp_pair.specs.declared.event.End.TheVariants.{A}
+use Rattle.ddcmp_io.specs.declared.carrier.End.TheVariants.{A}
 use Rattle.ddcmp_session.specs.Session.{SessionView}
 use Rattle.ddcmp_session.specs.Calls.{SessionStep}
 use Rattle.ddcmp_session.specs.Connections.{AreDone, after_all, after_step}

@@ -12,8 +12,8 @@ use Rattle.ddcmp_core.specs.Laws.{tells_restart}
 use Rattle.ddcmp_core.specs.Table.{may_start}
 use Rattle.ddcmp_proto.specs.Config.{first_refusal}
 use Rattle.ddcmp_proto.specs.declared.config.Config.{Config}
-use Rattle.ddcmp_pair.specs.declared.event.End.{End}
-use Rattle.ddcmp_pair.specs.declared.event.End.TheVariants.{A, B}
+use Rattle.ddcmp_io.specs.declared.carrier.End.{End}
+use Rattle.ddcmp_io.specs.declared.carrier.End.TheVariants.{A, B}
 use Rattle.ddcmp_pair.specs.declared.event.Event.TheVariants as event
 use Rattle.ddcmp_pair.specs.InOrder.{Delivers, IsInOrder, IsRun, IsLink}
 use Rattle.ddcmp_pair.specs.Run.{EndState, PairState, at, notices_at, restarts_by, restarts_in}

@@ -6,8 +6,8 @@ use Rattle.ddcmp_input.specs.declared.entry.Entry.{Entry}
 use Rattle.ddcmp_input.specs.declared.entry.Entry.TheVariants.{Message, NotHexadecimal, TooLong}
 use Rattle.ddcmp_input.specs.declared.entry.Entry.TheVariants.{Empty}
 use Rattle.ddcmp_station.specs.Linking.{LinkView, after_frame}
-use Rattle.ddcmp_pair.specs.declared.event.End.{End}
-use Rattle.ddcmp_pair.specs.declared.event.End.TheVariants.{A, B}
+use Rattle.ddcmp_io.specs.declared.carrier.End.{End}
+use Rattle.ddcmp_io.specs.declared.carrier.End.TheVariants.{A, B}
 use Rattle.ddcmp_streams.specs.Messages.{message_in, after_input, entries_of_input, after_last}
 use Rattle.ddcmp_streams.specs.Messages.{entry_of_last}
 use Rattle.ddcmp_session.specs.Session.{SessionView, takes_end}

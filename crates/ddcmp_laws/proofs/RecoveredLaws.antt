@@ -15,8 +15,9 @@ use Rattle.ddcmp_core.specs.Core.{IsSound}
 use Rattle.ddcmp_core.proofs.Sound.{sound_accepted, sound_started}
 use Rattle.ddcmp_proto.specs.Config.{first_refusal}
 use Rattle.ddcmp_proto.specs.declared.config.Config.{Config}
-use Rattle.ddcmp_pair.specs.declared.event.End.{End}
-use Rattle.ddcmp_pair.specs.declared.event.End.TheVariants.{A, B}
+use Rattle.ddcmp_io.specs.Ends.{other}
+use Rattle.ddcmp_io.specs.declared.carrier.End.{End}
+use Rattle.ddcmp_io.specs.declared.carrier.End.TheVariants.{A, B}
 use Rattle.ddcmp_pair.specs.declared.event.Event.{Event}
 use Rattle.ddcmp_pair.specs.declared.event.Event.TheVariants as event
 use Rattle.ddcmp_pair.specs.declared.event.Reply.TheVariants as reply
@@ -26,7 +27,7 @@ use Rattle.ddcmp_pair.specs.Recovery.{IsDelivered, IsDone}
 use Rattle.ddcmp_pair.specs.Run.{EndState, PairState, at, handed_up, with_station, accepted}
 use Rattle.ddcmp_pair.specs.Run.{reply_to, after_send_here, after_event, run, new_pair, line_bytes}
 use Rattle.ddcmp_pair.specs.Run.{is_clean}
-use Rattle.ddcmp_pair.specs.Settle.{other, exchange, either_writes, exchanges_within, all_mail}
+use Rattle.ddcmp_pair.specs.Settle.{exchange, either_writes, exchanges_within, all_mail}
 use Rattle.ddcmp_pair.specs.Settle.{most_exchanges, settled}
 use Rattle.ddcmp_pair.proofs.Runs.{run-append}
 use Rattle.ddcmp_pair.proofs.Settles.{exchanged, quieted, settled-is}

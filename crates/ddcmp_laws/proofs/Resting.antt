@@ -26,7 +26,7 @@ use Rattle.ddcmp_core.proofs.StartLaws.{next_state, expired_state}
 use Rattle.ddcmp_proto.specs.Bytes.{received_of, after_item, after_items, notices_of_items}
 use Rattle.ddcmp_proto.specs.Bytes.{items_added, frame_on_line}
 use Rattle.ddcmp_proto.proofs.FeedLaws.{after_piece-limits}
-use Rattle.ddcmp_pair.specs.declared.event.End.TheVariants.{A, B}
+use Rattle.ddcmp_io.specs.declared.carrier.End.TheVariants.{A, B}
 use Rattle.ddcmp_pair.specs.declared.event.Event.{Event}
 use Rattle.ddcmp_pair.specs.declared.event.Event.TheVariants as event
 use Rattle.ddcmp_pair.specs.InOrder.{IsRun}

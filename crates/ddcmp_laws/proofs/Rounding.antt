@@ -9,7 +9,7 @@ use Rattle.ddcmp_core.specs.Table.{Next, Idle, Sends, next, next_frame}
 use Rattle.ddcmp_core.proofs.Sent.{sending}
 use Rattle.ddcmp_proto.specs.Bytes.{items_added, frame_on_line}
 use Rattle.ddcmp_proto.proofs.FeedLaws.{items_added-none}
-use Rattle.ddcmp_pair.specs.declared.event.End.TheVariants.{A, B}
+use Rattle.ddcmp_io.specs.declared.carrier.End.TheVariants.{A, B}
 use Rattle.ddcmp_pair.specs.declared.event.Event.{Event}
 use Rattle.ddcmp_pair.specs.declared.event.Event.TheVariants as event
 use Rattle.ddcmp_pair.specs.InOrder.{IsRun}

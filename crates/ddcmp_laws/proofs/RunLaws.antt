@@ -6,8 +6,8 @@ use Rattle.ddcmp_frame.specs.Reader.{StandsFor}
 use Rattle.ddcmp_input.specs.InBinary.{in_binary, told_in}
 use Rattle.ddcmp_proto.specs.Config.{first_refusal}
 use Rattle.ddcmp_laws.specs.Faithful.{Begins}
-use Rattle.ddcmp_pair.specs.declared.event.End.{End}
-use Rattle.ddcmp_pair.specs.declared.event.End.TheVariants.{A, B}
+use Rattle.ddcmp_io.specs.declared.carrier.End.{End}
+use Rattle.ddcmp_io.specs.declared.carrier.End.TheVariants.{A, B}
 use Rattle.ddcmp_streams.specs.declared.messages.MessageForm.TheVariants as form
 use Rattle.ddcmp_session.specs.Session.{SessionView, takes_end, after_last_line}
 use Rattle.ddcmp_session.specs.Session.{after_unfinished}

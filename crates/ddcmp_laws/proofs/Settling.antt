@@ -23,7 +23,7 @@ use Rattle.ddcmp_proto.specs.declared.config.Config.{Config}
 use Rattle.ddcmp_laws.proofs.FaithfulLaws.{sound_made}
 use Rattle.ddcmp_proto.specs.Bytes.{received_of, items_added, frame_on_line}
 use Rattle.ddcmp_proto.proofs.FeedLaws.{after_piece-limits, items_added-none}
-use Rattle.ddcmp_pair.specs.declared.event.End.TheVariants.{A, B}
+use Rattle.ddcmp_io.specs.declared.carrier.End.TheVariants.{A, B}
 use Rattle.ddcmp_pair.specs.declared.event.Event.{Event}
 use Rattle.ddcmp_pair.specs.declared.event.Event.TheVariants as event
 use Rattle.ddcmp_pair.specs.Run.{EndState, PairState, line_bytes, wrote, started, accepted, took}

@@ -13,7 +13,7 @@ use Rattle.ddcmp_core.specs.Table.{StationState}
 use Rattle.ddcmp_proto.specs.Bytes.{frame_on_line}
 use Rattle.ddcmp_proto.specs.Config.{first_refusal}
 use Rattle.ddcmp_proto.specs.declared.config.Config.{Config}
-use Rattle.ddcmp_pair.specs.declared.event.End.{End}
+use Rattle.ddcmp_io.specs.declared.carrier.End.{End}
 use Rattle.ddcmp_pair.specs.InOrder.{IsRun}
 use Rattle.ddcmp_pair.specs.Recovery.{IsDelivered}
 use Rattle.ddcmp_pair.specs.Run.{EndState, PairState, handed_up, line_bytes, is_clean, new_pair}

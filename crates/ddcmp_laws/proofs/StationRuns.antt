@@ -29,8 +29,8 @@ use Rattle.ddcmp_proto.specs.StationCalls.{StationCall, Starts, Halts, Sends, Po
 use Rattle.ddcmp_proto.specs.StationCalls.{Takes, TakesArm, Asks, ClearsLine, EntersMaintenance}
 use Rattle.ddcmp_proto.specs.StationCalls.{SendsMaintenance, HasCleared, HasDone}
 use Rattle.ddcmp_proto.proofs.FeedLaws.{items_added-all, after_piece-limits}
-use Rattle.ddcmp_pair.specs.declared.event.End.{End}
-use Rattle.ddcmp_pair.specs.declared.event.End.TheVariants.{A, B}
+use Rattle.ddcmp_io.specs.declared.carrier.End.{End}
+use Rattle.ddcmp_io.specs.declared.carrier.End.TheVariants.{A, B}
 use Rattle.ddcmp_pair.specs.declared.event.Event.{Event}
 use Rattle.ddcmp_pair.specs.declared.event.Event.TheVariants as event
 use Rattle.ddcmp_pair.specs.InOrder.{Delivers, IsInOrder, IsLink}

@@ -2,7 +2,7 @@
 use Rattle.std.proofs.Common.{◌≡◌, true, List, [], ◌∷◌, ◌++◌, refl, ◌∙◌, ap, subst, None}
 use Rattle.ddcmp_proto.specs.Config.{first_refusal}
 use Rattle.ddcmp_proto.specs.declared.config.Config.{Config}
-use Rattle.ddcmp_pair.specs.declared.event.End.{End}
+use Rattle.ddcmp_io.specs.declared.carrier.End.{End}
 use Rattle.ddcmp_pair.specs.declared.event.Event.{Event}
 use Rattle.ddcmp_pair.specs.Run.{PairState, after_event, run, new_pair}
 use Rattle.ddcmp_laws.specs.Faithful.{IsFaithful, StaysFaithful}

@@ -27,7 +27,7 @@ use Rattle.ddcmp_core.specs.Table.{reply_to_offer, on_data, may_restart, on_by, 
 use Rattle.ddcmp_core.specs.Core.{CoreView}
 use Rattle.ddcmp_core.proofs.Sent.{sending}
 use Rattle.ddcmp_proto.specs.Bytes.{received_of, after_item, after_items, items_added}
-use Rattle.ddcmp_pair.specs.declared.event.End.TheVariants.{A, B}
+use Rattle.ddcmp_io.specs.declared.carrier.End.TheVariants.{A, B}
 use Rattle.ddcmp_pair.specs.declared.event.Event.{Event}
 use Rattle.ddcmp_pair.specs.declared.event.Event.TheVariants as event
 use Rattle.ddcmp_pair.specs.InOrder.{IsRun}

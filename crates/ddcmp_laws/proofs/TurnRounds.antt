@@ -8,8 +8,8 @@ use Rattle.ddcmp_proto.specs.Bytes.{after_piece}
 use Rattle.ddcmp_proto.specs.Config.{first_refusal}
 use Rattle.ddcmp_proto.specs.declared.config.Config.{Config}
 use Rattle.ddcmp_station.specs.Driving.{is_due, core_after_take_arm, before_offer}
-use Rattle.ddcmp_pair.specs.declared.event.End.{End}
-use Rattle.ddcmp_pair.specs.declared.event.End.TheVariants.{A, B}
+use Rattle.ddcmp_io.specs.declared.carrier.End.{End}
+use Rattle.ddcmp_io.specs.declared.carrier.End.TheVariants.{A, B}
 use Rattle.ddcmp_pair.specs.declared.event.Event.{Event}
 use Rattle.ddcmp_pair.specs.declared.event.Event.TheVariants as event
 use Rattle.ddcmp_pair.specs.Run.{PairState, run, new_pair}

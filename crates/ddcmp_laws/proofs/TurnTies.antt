@@ -10,8 +10,8 @@ use Rattle.ddcmp_station.specs.UserCalls.{UserCall, calls_of_offer, is_user_aske
 use Rattle.ddcmp_station.specs.Driving.{DriveTurn, Driving, deadline_at, core_after_take_arm}
 use Rattle.ddcmp_station.specs.Driving.{core_at_deadline, core_after_message, frame_bytes}
 use Rattle.ddcmp_station.specs.Driving.{after_read}
-use Rattle.ddcmp_pair.specs.declared.event.End.{End}
-use Rattle.ddcmp_pair.specs.declared.event.End.TheVariants.{A, B}
+use Rattle.ddcmp_io.specs.declared.carrier.End.{End}
+use Rattle.ddcmp_io.specs.declared.carrier.End.TheVariants.{A, B}
 use Rattle.ddcmp_pair.specs.Run.{EndState, PairState, line_bytes, run}
 use Rattle.ddcmp_pair.proofs.Runs.{run-append}
 use Rattle.ddcmp_pair.proofs.Steady.{inbox-sent}

@@ -10,8 +10,8 @@ use Rattle.ddcmp_proto.specs.declared.config.Config.{Config}
 use Rattle.ddcmp_station.specs.Driving.{deadline_at, is_due, core_after_take_arm}
 use Rattle.ddcmp_core.specs.Core.{CoreView}
 use Rattle.ddcmp_station.specs.Linking.{LinkView, polls, delivered}
-use Rattle.ddcmp_pair.specs.declared.event.End.{End}
-use Rattle.ddcmp_pair.specs.declared.event.End.TheVariants.{A, B}
+use Rattle.ddcmp_io.specs.declared.carrier.End.{End}
+use Rattle.ddcmp_io.specs.declared.carrier.End.TheVariants.{A, B}
 use Rattle.ddcmp_pair.specs.InOrder.{Delivers}
 use Rattle.ddcmp_pair.specs.Run.{EndState, PairState, new_pair, is_clean}
 use Rattle.ddcmp_laws.specs.Faithful.{written, Begins, IsFaithful}

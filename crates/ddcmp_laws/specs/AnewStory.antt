@@ -2,8 +2,8 @@
 -- line, and a message is delivered over the second.
 use Rattle.std.specs.Prelude.{◌≡◌, true, List, [], ◌∷◌, ◌++◌}
 use Rattle.ddcmp_frame.specs.Reader.{ReaderView}
-use Rattle.ddcmp_pair.specs.declared.event.End.{End}
-use Rattle.ddcmp_pair.specs.declared.event.End.TheVariants.{A, B}
+use Rattle.ddcmp_io.specs.declared.carrier.End.{End}
+use Rattle.ddcmp_io.specs.declared.carrier.End.TheVariants.{A, B}
 use Rattle.ddcmp_session.specs.Session.{is_delivered}
 use Rattle.ddcmp_laws.specs.Vectors.{abc}
 use Rattle.ddcmp_session.specs.Calls.{SessionCall, Connected, LineEnded, Filled, LineTook}

@@ -17,8 +17,8 @@ use Rattle.ddcmp_station.specs.UserCalls.{calls_of_offer, calls_of_notices}
 use Rattle.ddcmp_station.specs.Driving.{DriveTurn, Driving, driving_from, Devices, deadline_at}
 use Rattle.ddcmp_station.specs.Driving.{is_due, core_after_take_arm, core_after_halt, before_offer}
 use Rattle.ddcmp_station.specs.Driving.{before_read, after_turn, after_turns, bytes_read}
-use Rattle.ddcmp_pair.specs.declared.event.End.{End}
-use Rattle.ddcmp_pair.specs.declared.event.End.TheVariants.{A, B}
+use Rattle.ddcmp_io.specs.declared.carrier.End.{End}
+use Rattle.ddcmp_io.specs.declared.carrier.End.TheVariants.{A, B}
 use Rattle.ddcmp_pair.specs.Prefix.{IsPrefixOf}
 use Rattle.ddcmp_pair.specs.Run.{EndState, acknowledged_in, notices_at}
 use Rattle.ddcmp_laws.specs.Faithful.{written, Begins}

@@ -12,8 +12,8 @@ use Rattle.ddcmp_proto.specs.declared.config.Config.{Config}
 use Rattle.ddcmp_station.specs.Driving.{DriveTurn, Driving, deadline_at, expires_at}
 use Rattle.ddcmp_station.specs.Driving.{core_after_take_arm, before_offer, before_frame}
 use Rattle.ddcmp_station.specs.Driving.{frame_bytes, before_read, after_read}
-use Rattle.ddcmp_pair.specs.declared.event.End.{End}
-use Rattle.ddcmp_pair.specs.declared.event.End.TheVariants.{A, B}
+use Rattle.ddcmp_io.specs.declared.carrier.End.{End}
+use Rattle.ddcmp_io.specs.declared.carrier.End.TheVariants.{A, B}
 use Rattle.ddcmp_pair.specs.declared.event.Event.{Event}
 use Rattle.ddcmp_pair.specs.declared.event.Event.TheVariants as event
 use Rattle.ddcmp_pair.specs.Run.{PairState, run, new_pair}

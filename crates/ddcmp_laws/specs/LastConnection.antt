@@ -2,8 +2,8 @@
 -- connected. No premise about frames is needed.
 use Rattle.std.specs.Prelude.{◌≡◌, true, ⊤, List, [], ◌∷◌, None}
 use Rattle.ddcmp_proto.specs.Config.{first_refusal}
-use Rattle.ddcmp_pair.specs.declared.event.End.{End}
-use Rattle.ddcmp_pair.specs.declared.event.End.TheVariants.{A, B}
+use Rattle.ddcmp_io.specs.declared.carrier.End.{End}
+use Rattle.ddcmp_io.specs.declared.carrier.End.TheVariants.{A, B}
 use Rattle.ddcmp_session.specs.Calls.{Connected, SessionCall, SessionStep}
 use Rattle.ddcmp_session.specs.Connections.{AreDone, Connection, after_step}
 use Rattle.ddcmp_session.specs.Session.{SessionView, starts}

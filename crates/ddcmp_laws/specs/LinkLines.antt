@@ -6,7 +6,7 @@ use Rattle.ddcmp_core.specs.Table.{has_room}
 use Rattle.ddcmp_proto.specs.Config.{first_refusal}
 use Rattle.ddcmp_proto.specs.declared.config.Config.{Config}
 use Rattle.ddcmp_station.specs.Linking.{LinkView, wakes_at, fits, puts_frame}
-use Rattle.ddcmp_pair.specs.declared.event.End.{End}
+use Rattle.ddcmp_io.specs.declared.carrier.End.{End}
 use Rattle.ddcmp_pair.specs.Run.{new_pair}
 use Rattle.ddcmp_laws.specs.PairCalls.{Call, run_calls}
 use Rattle.ddcmp_laws.specs.Links.{LinkStep, LinkHistory, Links, station_calls, HasDone, link_at}

@@ -6,8 +6,8 @@ use Rattle.ddcmp_proto.specs.declared.config.Config.{Config}
 use Rattle.ddcmp_proto.specs.StationCalls.{StationCall, Starts as StartsStation}
 use Rattle.ddcmp_proto.specs.StationCalls.{Halts as HaltsStation, ClearsLine}
 use Rattle.ddcmp_station.specs.Linking.{LinkView, anew}
-use Rattle.ddcmp_pair.specs.declared.event.End.{End}
-use Rattle.ddcmp_pair.specs.declared.event.End.TheVariants.{A, B}
+use Rattle.ddcmp_io.specs.declared.carrier.End.{End}
+use Rattle.ddcmp_io.specs.declared.carrier.End.TheVariants.{A, B}
 use Rattle.ddcmp_pair.specs.Run.{new_pair, is_clean}
 use Rattle.ddcmp_laws.specs.Links.{LinkCall, BeginsAnew, station_calls, HasDone, LinkHistory}
 use Rattle.ddcmp_laws.specs.Links.{LinkStep, after_step, Links, link_at, new_links}

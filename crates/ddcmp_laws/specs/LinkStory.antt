@@ -6,8 +6,8 @@ use Rattle.ddcmp_proto.specs.Bytes.{after_piece}
 use Rattle.ddcmp_station.specs.Linking.{LinkView, with_state, started, anew, after_wake}
 use Rattle.ddcmp_station.specs.Linking.{after_offered}
 use Rattle.ddcmp_station.specs.Linking.{after_frame, after_sent, after_taking, delivered}
-use Rattle.ddcmp_pair.specs.declared.event.End.{End}
-use Rattle.ddcmp_pair.specs.declared.event.End.TheVariants.{A, B}
+use Rattle.ddcmp_io.specs.declared.carrier.End.{End}
+use Rattle.ddcmp_io.specs.declared.carrier.End.TheVariants.{A, B}
 use Rattle.ddcmp_laws.specs.Story.{strt_bytes, stack_bytes, first_bytes, ack_1_bytes}
 use Rattle.ddcmp_laws.specs.Vectors.{abc, small}
 use Rattle.ddcmp_laws.specs.Links.{LinkCall, Starts, BeginsAnew, Halts, Wakes, Offers, FillsOne}

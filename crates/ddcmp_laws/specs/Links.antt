@@ -12,8 +12,8 @@ use Rattle.ddcmp_station.specs.Driving.{deadline_at, core_after_take_arm}
 use Rattle.ddcmp_station.specs.Linking.{LinkView, with_state, started, anew, after_wake}
 use Rattle.ddcmp_station.specs.Linking.{after_offered}
 use Rattle.ddcmp_station.specs.Linking.{polls, after_frame, after_sent, after_taking, link_made}
-use Rattle.ddcmp_pair.specs.declared.event.End.{End}
-use Rattle.ddcmp_pair.specs.declared.event.End.TheVariants.{A, B}
+use Rattle.ddcmp_io.specs.declared.carrier.End.{End}
+use Rattle.ddcmp_io.specs.declared.carrier.End.TheVariants.{A, B}
 use Rattle.ddcmp_pair.specs.Prefix.{IsPrefixOf}
 use Rattle.ddcmp_pair.specs.Run.{EndState, acknowledged_in}
 use Rattle.ddcmp_laws.specs.Faithful.{written, Begins}

@@ -5,7 +5,7 @@ use Rattle.std.specs.List.{All}
 use Rattle.ddcmp_frame.specs.Reading.{ReadItem, open_at_end}
 use Rattle.ddcmp_core.specs.Core.{IsSound, IsReceivable}
 use Rattle.ddcmp_proto.specs.Bytes.{received_of, items_added}
-use Rattle.ddcmp_pair.specs.declared.event.End.TheVariants.{A, B}
+use Rattle.ddcmp_io.specs.declared.carrier.End.TheVariants.{A, B}
 use Rattle.ddcmp_pair.specs.declared.event.Event.{Event}
 use Rattle.ddcmp_pair.specs.declared.event.Event.TheVariants as event
 use Rattle.ddcmp_pair.specs.Run.{EndState, PairState, line_bytes, after_event}

@@ -6,8 +6,8 @@ use Rattle.ddcmp_core.specs.Table.{after_halt}
 use Rattle.ddcmp_proto.specs.Bytes.{after_piece, notices_of_piece}
 use Rattle.ddcmp_station.specs.Linking.{LinkView, with_state, after_frames, after_sent}
 use Rattle.ddcmp_station.specs.Linking.{after_taking}
-use Rattle.ddcmp_pair.specs.declared.event.End.{End}
-use Rattle.ddcmp_pair.specs.declared.event.End.TheVariants.{A, B}
+use Rattle.ddcmp_io.specs.declared.carrier.End.{End}
+use Rattle.ddcmp_io.specs.declared.carrier.End.TheVariants.{A, B}
 use Rattle.ddcmp_streams.specs.declared.messages.MessageForm.TheVariants as form
 use Rattle.ddcmp_io.specs.declared.line_kind.LineKind.TheVariants.{Connect}
 use Rattle.ddcmp_streams.specs.declared.options.Options.{Options}

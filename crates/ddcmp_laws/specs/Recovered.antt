@@ -1,10 +1,10 @@
 -- What two ends do once their line has recovered.
 use Rattle.std.specs.Prelude.{◌≡◌, ℕ, ◌+◌, ◌%◌, List, [], ◌∷◌, ◌++◌, length}
-use Rattle.ddcmp_pair.specs.declared.event.End.{End}
+use Rattle.ddcmp_io.specs.Ends.{other}
+use Rattle.ddcmp_io.specs.declared.carrier.End.{End}
 use Rattle.ddcmp_pair.specs.declared.event.Event.TheVariants as event
 use Rattle.ddcmp_pair.specs.declared.event.Reply.TheVariants as reply
 use Rattle.ddcmp_pair.specs.Run.{PairState, at, after_event, reply_to, handed_up}
-use Rattle.ddcmp_pair.specs.Settle.{other}
 use Rattle.ddcmp_pair.specs.Recovery.{recovered, IsDone}
 use Rattle.ddcmp_laws.specs.Story.{number}
 

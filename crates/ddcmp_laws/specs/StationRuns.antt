@@ -14,8 +14,8 @@ use Rattle.ddcmp_proto.specs.Station.{StationView}
 use Rattle.ddcmp_proto.specs.StationCalls.{StationCall, Starts, Halts, Sends, Polls, Feeds, Expires}
 use Rattle.ddcmp_proto.specs.StationCalls.{Takes, TakesArm, Asks, ClearsLine, EntersMaintenance}
 use Rattle.ddcmp_proto.specs.StationCalls.{SendsMaintenance, HasDone}
-use Rattle.ddcmp_pair.specs.declared.event.End.{End}
-use Rattle.ddcmp_pair.specs.declared.event.End.TheVariants.{A, B}
+use Rattle.ddcmp_io.specs.declared.carrier.End.{End}
+use Rattle.ddcmp_io.specs.declared.carrier.End.TheVariants.{A, B}
 use Rattle.ddcmp_pair.specs.Prefix.{IsPrefixOf}
 use Rattle.ddcmp_pair.specs.Run.{EndState, PairState, with_station, cleared, acknowledged_in}
 use Rattle.ddcmp_pair.specs.Run.{new_end, new_pair, is_clean}

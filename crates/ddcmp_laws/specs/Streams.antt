@@ -2,8 +2,8 @@
 -- order.
 use Rattle.std.specs.Prelude.{ℕ, List, [], ◌∷◌, ◌++◌}
 use Rattle.ddcmp_station.specs.Driving.{Driving}
-use Rattle.ddcmp_pair.specs.declared.event.End.{End}
-use Rattle.ddcmp_pair.specs.declared.event.End.TheVariants.{A, B}
+use Rattle.ddcmp_io.specs.declared.carrier.End.{End}
+use Rattle.ddcmp_io.specs.declared.carrier.End.TheVariants.{A, B}
 use Rattle.ddcmp_pair.specs.Run.{PairState}
 use Rattle.ddcmp_laws.specs.Faithful.{Begins, IsFaithful}
 use Rattle.ddcmp_laws.specs.PairCalls.{Call, after_call}

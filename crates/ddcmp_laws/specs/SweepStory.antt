@@ -3,7 +3,7 @@ use Rattle.std.specs.Prelude.{List, [], ◌∷◌, ◌++◌, replicate}
 use Rattle.ddcmp_laws.specs.Story.{strt_bytes, stack_bytes, ack_0_bytes, rep_1_bytes, nak_3_bytes}
 use Rattle.ddcmp_laws.specs.Story.{first_bytes, ack_1_bytes}
 use Rattle.ddcmp_laws.specs.Vectors.{abc, small}
-use Rattle.ddcmp_pair.specs.declared.event.End.TheVariants.{A, B}
+use Rattle.ddcmp_io.specs.declared.carrier.End.TheVariants.{A, B}
 use Rattle.ddcmp_pair.specs.declared.event.Event.{Event}
 use Rattle.ddcmp_pair.specs.declared.event.Event.TheVariants as event
 use Rattle.ddcmp_pair.specs.Recovery.{both_expire}

@@ -12,7 +12,7 @@ ghost use Rattle.ddcmp_core.specs.Table.{answer_to_send, answer_to_send_maintena
 ghost use Rattle.ddcmp_core.specs.Table.{after_take, after_expire, after_take_arm};
 ghost use Rattle.ddcmp_proto.specs.Config.{first_refusal};
 ghost use Rattle.ddcmp_proto.specs.declared.config.Config.{Config as ConfigValue};
-ghost use Rattle.ddcmp_pair.specs.declared.event.End.{End as EndValue};
+ghost use Rattle.ddcmp_io.specs.declared.carrier.End.{End as EndValue};
 ghost use Rattle.ddcmp_pair.specs.Run.{PairState, at, notices_at, run, new_pair, is_clean};
 ghost use Rattle.ddcmp_pair.specs.InOrder.{IsInOrder, IsLink};
 ghost use Rattle.ddcmp_laws.specs.PairCalls.{Call, Arrive, after_call, run_calls, events_in};

@@ -1,7 +1,7 @@
 //! Two runs over one connection: the input of one is the output of the other, with no premise about
 //! frames.
 ghost use Rattle.std.specs.Prelude.{List};
-ghost use Rattle.ddcmp_pair.specs.declared.event.End.{End};
+ghost use Rattle.ddcmp_io.specs.declared.carrier.End.{End};
 ghost use Rattle.ddcmp_session.specs.Calls.{SessionStep};
 ghost use Rattle.ddcmp_session.specs.Connections.{AreDone};
 ghost use Rattle.ddcmp_laws.specs.Connected.{AreTwoRuns, BinaryIsInFiles, IsConnectedOnce};

@@ -1,7 +1,7 @@
 //! Two driven stations over lines that lose nothing from some moment on.
 ghost use Rattle.std.specs.Prelude.{◌≡◌, ℕ, List};
 ghost use Rattle.ddcmp_station.specs.Driving.{DriveTurn, after_turn};
-ghost use Rattle.ddcmp_pair.specs.declared.event.End.{End as EndValue};
+ghost use Rattle.ddcmp_io.specs.declared.carrier.End.{End as EndValue};
 ghost use Rattle.ddcmp_pair.specs.Run.{PairState, run};
 ghost use Rattle.ddcmp_laws.specs.LossFree.{IsLossFree, run_on_line};
 ghost use Rattle.ddcmp_laws.specs.Sweeps.{IsSweep, AreInTime, IsRecoveryBySweeps};

@@ -6,7 +6,7 @@ ghost use Rattle.ddcmp_core.specs.Table.{Limits, StationState, Frame, Data, Good
 ghost use Rattle.ddcmp_proto.specs.Bytes.{frame_on_line, items_added, received_of};
 ghost use Rattle.ddcmp_proto.specs.Config.{first_refusal};
 ghost use Rattle.ddcmp_proto.specs.declared.config.Config.{Config as ConfigValue};
-ghost use Rattle.ddcmp_pair.specs.declared.event.End.TheVariants.{A, B};
+ghost use Rattle.ddcmp_io.specs.declared.carrier.End.TheVariants.{A, B};
 ghost use Rattle.ddcmp_pair.specs.declared.event.Event.TheVariants.{Send, Poll, Arrive};
 ghost use Rattle.ddcmp_pair.specs.declared.event.Reply.TheVariants.{Wrote};
 ghost use Rattle.ddcmp_pair.specs.Run.{reply_to, run, handed_up};

@@ -1,6 +1,6 @@
 //! Two links that restart.
 ghost use Rattle.std.specs.Prelude.{◌≡◌, [], true};
-ghost use Rattle.ddcmp_pair.specs.declared.event.End.TheVariants.{A, B};
+ghost use Rattle.ddcmp_io.specs.declared.carrier.End.TheVariants.{A, B};
 ghost use Rattle.ddcmp_pair.specs.Run.{PairState};
 ghost use Rattle.ddcmp_station.specs.Linking.{LinkView, delivered};
 ghost use Rattle.ddcmp_laws.specs.Links.{BeginsAnew, LinkReaches, received};

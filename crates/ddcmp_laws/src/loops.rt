@@ -2,7 +2,7 @@
 ghost use Rattle.std.specs.Prelude.{◌≡◌, ◌++◌, List, [], Option, Some, map};
 ghost use Rattle.ddcmp_frame.specs.Reader.{StandsFor};
 ghost use Rattle.ddcmp_session.specs.Session.{SessionView};
-ghost use Rattle.ddcmp_pair.specs.declared.event.End.TheVariants.{A};
+ghost use Rattle.ddcmp_io.specs.declared.carrier.End.TheVariants.{A};
 ghost use Rattle.ddcmp_session.specs.Calls.{SessionDoes, SessionStep, Connected};
 ghost use Rattle.ddcmp_session.specs.Calls.{after_session_steps};
 ghost use Rattle.ddcmp_session.specs.Connections.{AreDone, after_all};

@@ -1,7 +1,7 @@
 //! Two sessions as pipes, over a line that may lose, cut and damage what it carries.
 ghost use Rattle.std.specs.Prelude.{◌≡◌, true};
 ghost use Rattle.ddcmp_frame.specs.Reader.{ReaderView};
-ghost use Rattle.ddcmp_pair.specs.declared.event.End.TheVariants.{A, B};
+ghost use Rattle.ddcmp_io.specs.declared.carrier.End.TheVariants.{A, B};
 ghost use Rattle.ddcmp_pair.specs.Run.{is_clean, new_pair};
 ghost use Rattle.ddcmp_laws.specs.PairCalls.{run_calls};
 ghost use Rattle.ddcmp_laws.specs.LinkLines.{calls_of_steps};

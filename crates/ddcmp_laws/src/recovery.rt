@@ -2,7 +2,7 @@
 ghost use Rattle.std.specs.Prelude.{◌≡◌, ◌≤◌, ℕ, List, [], ◌∷◌, Some};
 ghost use Rattle.ddcmp_core.specs.declared.state.Timer.TheVariants.{On};
 ghost use Rattle.ddcmp_station.specs.Linking.{LinkView};
-ghost use Rattle.ddcmp_pair.specs.declared.event.End.{End as EndValue};
+ghost use Rattle.ddcmp_io.specs.declared.carrier.End.{End as EndValue};
 ghost use Rattle.ddcmp_pair.specs.Run.{run};
 ghost use Rattle.ddcmp_laws.specs.LossFree.{IsLossFree, run_on_line};
 ghost use Rattle.ddcmp_laws.specs.Sweeps.{IsRecoveryBySweeps};

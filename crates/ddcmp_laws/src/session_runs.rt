@@ -2,8 +2,8 @@
 //! other.
 ghost use Rattle.std.specs.Prelude.{◌≡◌, ◌++◌, Bool, List, [], Option, Some};
 ghost use Rattle.ddcmp_frame.specs.Reader.{StandsFor};
-ghost use Rattle.ddcmp_pair.specs.declared.event.End.{End};
-ghost use Rattle.ddcmp_pair.specs.declared.event.End.TheVariants.{A, B};
+ghost use Rattle.ddcmp_io.specs.declared.carrier.End.{End};
+ghost use Rattle.ddcmp_io.specs.declared.carrier.End.TheVariants.{A, B};
 ghost use Rattle.ddcmp_session.specs.Session.{SessionView};
 ghost use Rattle.ddcmp_session.specs.Calls.{SessionStep};
 ghost use Rattle.ddcmp_session.specs.Connections.{AreDone, Connection, after_all};

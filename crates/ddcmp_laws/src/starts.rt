@@ -3,12 +3,12 @@ ghost use Rattle.std.specs.Prelude.{◌≡◌, ◌≤◌, ℕ, List, [], ◌∷�
 ghost use Rattle.ddcmp_core.specs.Core.{IsSound};
 ghost use Rattle.ddcmp_proto.specs.Config.{first_refusal};
 ghost use Rattle.ddcmp_proto.specs.declared.config.Config.{Config as ConfigValue};
-ghost use Rattle.ddcmp_pair.specs.declared.event.End.{End as EndValue};
+ghost use Rattle.ddcmp_io.specs.Ends.{other};
+ghost use Rattle.ddcmp_io.specs.declared.carrier.End.{End as EndValue};
 ghost use Rattle.ddcmp_pair.specs.declared.event.Event.{Event as EventValue};
 ghost use Rattle.ddcmp_pair.specs.declared.event.Event.TheVariants.{Send};
 ghost use Rattle.ddcmp_pair.specs.declared.event.Reply.TheVariants.{Accepted};
 ghost use Rattle.ddcmp_pair.specs.Run.{PairState, at, run, new_pair, reply_to, handed_up};
-ghost use Rattle.ddcmp_pair.specs.Settle.{other};
 ghost use Rattle.ddcmp_pair.specs.Recovery.{is_ready, recovered};
 ghost use Rattle.ddcmp_laws.specs.Story.{number};
 ghost use Rattle.ddcmp_laws.specs.Starts.{both_start, started, IsUp};

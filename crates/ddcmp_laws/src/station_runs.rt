@@ -9,8 +9,8 @@ ghost use Rattle.ddcmp_proto.specs.declared.config.Config.{Config as ConfigValue
 ghost use Rattle.ddcmp_proto.specs.Station.{StationView};
 ghost use Rattle.ddcmp_proto.specs.StationCalls.{StationCall, Feeds, ClearsLine, EntersMaintenance};
 ghost use Rattle.ddcmp_proto.specs.StationCalls.{HasDone};
-ghost use Rattle.ddcmp_pair.specs.declared.event.End.{End as EndValue};
-ghost use Rattle.ddcmp_pair.specs.declared.event.End.TheVariants.{A, B};
+ghost use Rattle.ddcmp_io.specs.declared.carrier.End.{End as EndValue};
+ghost use Rattle.ddcmp_io.specs.declared.carrier.End.TheVariants.{A, B};
 ghost use Rattle.ddcmp_pair.specs.declared.event.Event.TheVariants.{Clear};
 ghost use Rattle.ddcmp_pair.specs.Run.{EndState, PairState, at, notices_at, new_end, new_pair};
 ghost use Rattle.ddcmp_pair.specs.Run.{is_clean, clear_refusal, after_event};

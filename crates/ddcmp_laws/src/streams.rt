@@ -2,8 +2,8 @@
 ghost use Rattle.std.specs.Prelude.{◌≡◌, List, true, None};
 ghost use Rattle.ddcmp_proto.specs.Config.{first_refusal};
 ghost use Rattle.ddcmp_proto.specs.declared.config.Config.{Config as ConfigValue};
-ghost use Rattle.ddcmp_pair.specs.declared.event.End.{End as EndValue};
-ghost use Rattle.ddcmp_pair.specs.declared.event.End.TheVariants.{A, B};
+ghost use Rattle.ddcmp_io.specs.declared.carrier.End.{End as EndValue};
+ghost use Rattle.ddcmp_io.specs.declared.carrier.End.TheVariants.{A, B};
 ghost use Rattle.ddcmp_pair.specs.Run.{new_pair};
 ghost use Rattle.ddcmp_laws.specs.PairCalls.{Call, run_calls};
 ghost use Rattle.ddcmp_laws.specs.Driven.{DriveCall, Reaches, AreDriven, seen_of, begun};

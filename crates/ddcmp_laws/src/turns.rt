@@ -9,7 +9,7 @@ ghost use Rattle.ddcmp_io.specs.declared.device.LineFault.TheVariants.{Memory};
 ghost use Rattle.ddcmp_station.specs.UserCalls.{Calls};
 ghost use Rattle.ddcmp_station.specs.Driving.{DriveTurn, Devices, Drives, driving_from};
 ghost use Rattle.ddcmp_station.specs.Driving.{after_turns};
-ghost use Rattle.ddcmp_pair.specs.declared.event.End.{End as EndValue};
+ghost use Rattle.ddcmp_io.specs.declared.carrier.End.{End as EndValue};
 ghost use Rattle.ddcmp_pair.specs.Run.{EndState, new_pair};
 ghost use Rattle.ddcmp_laws.specs.PairCalls.{Call, after_calls_here, run_calls};
 ghost use Rattle.ddcmp_laws.specs.Driven.{shown_in, accepted_from, handed_to, acknowledged_to};

@@ -10,7 +10,7 @@ use Rattle.std.specs.Prelude.{is_some}
 use Rattle.std.specs.Borrow.{Bor}
 use Rattle.std.specs.Option.{option_map_or}
 use Rattle.std.specs.List.{slice_split, onto_first}
-use Rattle.ddcmp_pair.specs.declared.event.End.{End}
+use Rattle.ddcmp_io.specs.declared.carrier.End.{End}
 use Rattle.ddcmp_line.specs.declared.command.ParsedLine.TheVariants.{NoCommand}
 use Rattle.ddcmp_line.specs.ScriptWords.{end_named, asked_at, asked_by, asked_of_end}
 use Rattle.ddcmp_line.specs.ScriptWords.{asked_in, words}

@@ -17,15 +17,15 @@ use Rattle.ddcmp_io.specs.Written.{Known, Output, HoldsBy, Holds, HandsOver, App
 use Rattle.ddcmp_io.proofs.WrittenLaws.{sends-then, part-append}
 use Rattle.ddcmp_pair.specs.Run.{PairState}
 use Rattle.ddcmp_line.specs.declared.command.ParsedLine.{ParsedLine}
-use Rattle.ddcmp_line.specs.declared.performer.Stop.{Stop}
-use Rattle.ddcmp_line.specs.declared.performer.Stop.TheVariants as stop
+use Rattle.ddcmp_line.specs.declared.performer.Undone.{Undone}
+use Rattle.ddcmp_line.specs.declared.performer.Undone.TheVariants as stop
 use Rattle.ddcmp_line.specs.declared.script_fault.ScriptFault.{ScriptFault}
 use Rattle.ddcmp_line.specs.declared.script_fault.ScriptFault.TheVariants.{Line, Hex, Read}
 use Rattle.ddcmp_line.specs.declared.script_fault.ScriptFault.TheVariants.{Write, Memory}
 use Rattle.ddcmp_line.specs.declared.script_fault.ScriptFault.TheVariants.{Carrier}
 use Rattle.ddcmp_line.specs.ScriptWords.{lines_of}
 use Rattle.ddcmp_line.specs.ScriptText.{closing_text}
-use Rattle.ddcmp_pair.specs.Carriages.{Carriage}
+use Rattle.ddcmp_io.specs.Carriages.{Carriage}
 use Rattle.ddcmp_line.specs.Script.{Between, AllFit, nothing_between, after_lines, text_of_lines}
 use Rattle.ddcmp_line.specs.Script.{carriages_of_lines, IsScriptLine, lines_done}
 use Rattle.ddcmp_line.specs.ScriptEnds.{text_then, Around, around, PausedBefore, StoppedAt}
@@ -109,7 +109,7 @@ module _ (counted : Bool) (input : List ℕ) (x : Around) where
     written = s.did.written;
   }
 
-  pub stops-flushed : (number : ℕ) (start a b : Output) (why : Stop)
+  pub stops-flushed : (number : ℕ) (start a b : Output) (why : Undone)
       → Stops input number (course start a x) why → HandsOver a b []
       → Stops input number (course start b x) why
   stops-flushed number start a b stop.NoCommand s f =
@@ -121,7 +121,7 @@ module _ (counted : Bool) (input : List ℕ) (x : Around) where
   stops-flushed number start a b stop.Carrier s f =
       stopped-wrote _ _ (HandsOver start a) (HandsOver start b) (λ t h. sends-more t h f) s
 
-  stops-break : (number : ℕ) (start a : Output) (why : Stop)
+  stops-break : (number : ℕ) (start a : Output) (why : Undone)
       → Stops input number (course start a x) why
       → Broken input x (λ text behind. HandsOver start a text)
   stops-break number start a stop.NoCommand s = stopped-breaks _ _ (HandsOver start a) s
@@ -140,7 +140,7 @@ module _ (counted : Bool) (input : List ℕ) (x : Around) where
       (wrote-part sink o t h)) s
 
   -- the text of a stop couldn't be written
-  pub plays-write : (number : ℕ) (sink : Known) (o : Output) (why : Stop)
+  pub plays-write : (number : ℕ) (sink : Known) (o : Output) (why : Undone)
       → Stops input number (course (fresh sink) o x) why
       → Plays counted input x (Appends sink o.sink) (AppendsPart sink o.sink) (Err Write)
   plays-write number sink o why s = broken-part sink o (stops-break number (fresh sink) o why s)

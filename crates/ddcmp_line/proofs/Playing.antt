@@ -9,12 +9,12 @@ use Rattle.ddcmp_io.specs.Device.{Logs}
 use Rattle.ddcmp_io.specs.Written.{Output, HandsOver}
 use Rattle.ddcmp_io.proofs.WrittenLaws.{sends-then}
 use Rattle.ddcmp_pair.specs.Run.{PairState}
-use Rattle.ddcmp_line.specs.declared.performer.Stop.{Stop}
-use Rattle.ddcmp_line.specs.declared.performer.Stop.TheVariants.{NoCommand, NotHex, Write}
-use Rattle.ddcmp_line.specs.declared.performer.Stop.TheVariants.{Memory, Carrier}
+use Rattle.ddcmp_line.specs.declared.performer.Undone.{Undone}
+use Rattle.ddcmp_line.specs.declared.performer.Undone.TheVariants.{NoCommand, NotHex, Write}
+use Rattle.ddcmp_line.specs.declared.performer.Undone.TheVariants.{Memory, Carrier}
 use Rattle.ddcmp_line.specs.ScriptWords.{reading_of, without_cr, lines_between, between_lf}
 use Rattle.ddcmp_line.specs.ScriptWords.{lines_of}
-use Rattle.ddcmp_pair.specs.Carriages.{Carriage}
+use Rattle.ddcmp_io.specs.Carriages.{Carriage}
 use Rattle.ddcmp_line.specs.Script.{Carries, Between, Scene, AreDirect, AreWithin, DoneLine}
 use Rattle.ddcmp_line.specs.Script.{after_line, text_of, carriages_by, after_lines, text_of_lines}
 use Rattle.ddcmp_line.specs.Script.{carriages_of_lines, IsScriptLine, AllFit, lines_done}
@@ -163,7 +163,7 @@ module _ (input line : List ℕ) (behind : List (List ℕ)) (done : List DoneLin
         number_is = ap (λ n. n + 1) ne ∙ sym (length-append done (e ∷ []));
       }
 
-  pub line-stops : (number : ℕ) → number ≡ length done → (stop : Stop)
+  pub line-stops : (number : ℕ) → number ≡ length done → (stop : Undone)
       → LineEnds d told now (reading_of line) (scene_of q lines) (scene_of r later) before after
       (Err stop)
       → Stops input number (course start after (around p r d log now)) stop
@@ -319,7 +319,7 @@ module _ (input rest raw : List ℕ) (number : ℕ) (lines later : Between) (p q
         begun = tt;
       }
 
-  pub stop-line : (why : Stop)
+  pub stop-line : (why : Undone)
       → LineEnds d told now (reading_of (without_cr raw)) (scene_of q lines) (scene_of r later)
       before after (Err why) → Stops input number (course start after (around p r d log now)) why
   stop-line why ends =
@@ -379,14 +379,14 @@ module _ (input line : List ℕ) (number : ℕ) (lines later : Between) (p q r :
         (begins-last some) h.did h.lines_are number h.number_is ends in
         record { done = next.done; begins = next.begins; did = next.did }
 
-    pub end-stopped : 0 < length line → (why : Stop)
+    pub end-stopped : 0 < length line → (why : Undone)
         → LineEnds d told now (reading_of line) (scene_of q lines) (scene_of r later) before after
         (Err why) → Stops input number (course start after (around p r d log now)) why
     end-stopped some why ends =
         line-stops input line [] h.done p q r lines later d log told now start before after
         (begins-last some) h.did h.lines_are number h.number_is why ends
 
-    pub end-any : 0 < length line → (result : Result (Unit {0}) Stop)
+    pub end-any : 0 < length line → (result : Result (Unit {0}) Undone)
         → LineEnds d told now (reading_of line) (scene_of q lines) (scene_of r later)
         before after result
         → PlaysOut input number (course start after (around p r d log now)) result

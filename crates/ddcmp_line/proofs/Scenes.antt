@@ -13,18 +13,18 @@ use Rattle.ddcmp_line.specs.declared.command.ScriptCommand.TheVariants.{Happens,
 use Rattle.ddcmp_line.specs.declared.command.ScriptCommand.TheVariants.{Damage, Raw, Settle}
 use Rattle.ddcmp_line.specs.declared.command.ScriptCommand.TheVariants.{Recover, State}
 use Rattle.ddcmp_line.specs.declared.command.ParsedLine.TheVariants.{Asks}
-use Rattle.ddcmp_pair.specs.declared.event.End.{End}
-use Rattle.ddcmp_pair.specs.declared.event.End.TheVariants.{A, B}
+use Rattle.ddcmp_io.specs.declared.carrier.End.{End}
+use Rattle.ddcmp_io.specs.declared.carrier.End.TheVariants.{A, B}
 use Rattle.ddcmp_pair.specs.declared.event.Event.{Event}
 use Rattle.ddcmp_pair.specs.declared.event.Event.TheVariants as event
 use Rattle.ddcmp_pair.specs.declared.event.Reply.{Reply}
-use Rattle.ddcmp_line.specs.declared.performer.Stop.{Stop}
-use Rattle.ddcmp_line.specs.declared.performer.Stop.TheVariants.{Memory}
+use Rattle.ddcmp_line.specs.declared.performer.Undone.{Undone}
+use Rattle.ddcmp_line.specs.declared.performer.Undone.TheVariants.{Memory}
 use Rattle.ddcmp_pair.specs.Run.{PairState, at, end_of, reply_to, after_event, asks_memory, run}
-use Rattle.ddcmp_pair.specs.Settle.{other, WantsMemory}
+use Rattle.ddcmp_pair.specs.Settle.{WantsMemory}
 use Rattle.ddcmp_line.specs.ScriptText.{end_name, name_before, reply_text, counted_line}
 use Rattle.ddcmp_line.specs.ScriptText.{station_line}
-use Rattle.ddcmp_pair.specs.Carriages.{Carriage, HasCarried}
+use Rattle.ddcmp_io.specs.Carriages.{Carriage, HasCarried}
 use Rattle.ddcmp_line.specs.Script.{Carries, Between, Scene, Effect, AreDirect, AreWithin}
 use Rattle.ddcmp_line.specs.Script.{frames_of, with_frames, taken_off, part_of, frames_after}
 use Rattle.ddcmp_line.specs.Script.{lines_after, outcome_of_event, outcome_of_carry}
@@ -34,6 +34,7 @@ use Rattle.ddcmp_line.specs.Script.{carriages_from, carriages_of}
 use Rattle.ddcmp_line.specs.Inside.ScriptSteps.{scene_of, Comes, stopped_of, LineEnds}
 use Rattle.ddcmp_pair.proofs.Runs.{run-one, run-none}
 use Rattle.ddcmp_io.proofs.TextLaws.{sends-as, sends-nothing}
+use Rattle.ddcmp_io.specs.Ends.{other}
 
 -- an event has come
 pub comes-event : (ev : Event) (p q : PairState) (lines after : Between) (before now : Output)
@@ -206,7 +207,7 @@ module _ (command : ScriptCommand) (s t : Scene) (before after : Output) (d : Bo
 
 -- the command that was asked is this one, and its answer is passed on
 pub told-by : (d : Bool) (log : Option (List Carriage)) (command asked : ScriptCommand)
-    (s t : Scene) (before after : Output) (done told : Result (Unit {0}) Stop) → asked ≡ command
+    (s t : Scene) (before after : Output) (done told : Result (Unit {0}) Undone) → asked ≡ command
     → told ≡ done
     → LineEnds d log log (Asks command) s t before after done
     → LineEnds d log log (Asks asked) s t before after told

@@ -3,7 +3,7 @@ pub mod Script
 pub mod ScriptEnds
 pub mod ScriptText
 pub mod ScriptWords
-pub use Rattle.ddcmp_pair.specs.Carriages
+pub use Rattle.ddcmp_io.specs.Carriages
 pub use Rattle.ddcmp_io.specs.Input
 pub use Rattle.ddcmp_net.specs.Connection
 pub use Rattle.ddcmp_station.specs.StationText

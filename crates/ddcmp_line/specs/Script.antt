@@ -2,10 +2,11 @@
 use Rattle.std.specs.Prelude.{◌≡◌, ◌≢◌, ◌≤◌, ℕ, Bool, true, false, if◌then◌else◌, nat_lt, ◌==◌}
 use Rattle.std.specs.Prelude.{List, [], ◌∷◌, ◌++◌, length, take, drop, map, slice_set}
 use Rattle.std.specs.Prelude.{slice_index_or, bit_xor, codes, Option, Some, None, ⊤}
-use Rattle.ddcmp_pair.specs.Carriages.{Carriage}
+use Rattle.ddcmp_io.specs.Carriages.{Carriage}
 use Rattle.ddcmp_io.specs.Device.{Logs}
-use Rattle.ddcmp_pair.specs.declared.event.End.{End}
-use Rattle.ddcmp_pair.specs.declared.event.End.TheVariants.{A, B}
+use Rattle.ddcmp_io.specs.Ends.{other}
+use Rattle.ddcmp_io.specs.declared.carrier.End.{End}
+use Rattle.ddcmp_io.specs.declared.carrier.End.TheVariants.{A, B}
 use Rattle.ddcmp_pair.specs.declared.event.Event.{Event}
 use Rattle.ddcmp_pair.specs.declared.event.Event.TheVariants as event
 use Rattle.ddcmp_pair.specs.declared.event.Reply.{Reply}
@@ -18,7 +19,7 @@ use Rattle.ddcmp_line.specs.declared.command.ParsedLine.{ParsedLine}
 use Rattle.ddcmp_line.specs.declared.command.ParsedLine.TheVariants.{Skipped, Asks}
 use Rattle.ddcmp_line.specs.declared.command.ParsedLine.TheVariants.{NoCommand, NotHex}
 use Rattle.ddcmp_pair.specs.Run.{PairState, at, reply_to, end_of, run}
-use Rattle.ddcmp_pair.specs.Settle.{other, settling}
+use Rattle.ddcmp_pair.specs.Settle.{settling}
 use Rattle.ddcmp_pair.specs.Recovery.{recovering, recovered, is_done}
 use Rattle.ddcmp_line.specs.ScriptWords.{reading_of}
 use Rattle.ddcmp_line.specs.ScriptText.{end_name, name_before, counted_line, reply_text}

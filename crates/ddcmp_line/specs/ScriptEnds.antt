@@ -6,7 +6,7 @@ use Rattle.ddcmp_io.specs.declared.device.Worst.TheVariants.{Fine}
 use Rattle.ddcmp_io.specs.Change.{SourceChange, SinkChange}
 use Rattle.ddcmp_io.specs.Input.{GaveMost}
 use Rattle.ddcmp_io.specs.Written.{AppendsPart}
-use Rattle.ddcmp_pair.specs.declared.event.End.{End}
+use Rattle.ddcmp_io.specs.declared.carrier.End.{End}
 use Rattle.ddcmp_pair.specs.InOrder.{IsInOrder}
 use Rattle.ddcmp_pair.specs.Run.{PairState}
 use Rattle.ddcmp_pair.specs.Settle.{WantsMemory}
@@ -19,7 +19,7 @@ use Rattle.ddcmp_line.specs.declared.script_fault.ScriptFault.TheVariants.{Write
 use Rattle.ddcmp_line.specs.declared.script_fault.ScriptFault.TheVariants.{Carrier}
 use Rattle.ddcmp_line.specs.ScriptWords.{reading_of, lines_of}
 use Rattle.ddcmp_line.specs.ScriptText.{closing_text}
-use Rattle.ddcmp_pair.specs.Carriages.{Carriage}
+use Rattle.ddcmp_io.specs.Carriages.{Carriage}
 use Rattle.ddcmp_line.specs.Script.{Carries, Scene, DoneLine, AllFit, nothing_between, lines_done}
 use Rattle.ddcmp_line.specs.Script.{after_lines, text_of_lines, carriages_of_lines, events_by}
 use Rattle.ddcmp_line.specs.Script.{carriages_by}

@@ -10,8 +10,8 @@ use Rattle.ddcmp_core.specs.SendRefusal.TheVariants.{WrongState, Empty, TooLong,
 use Rattle.ddcmp_core.specs.Table.{StationState, is_on}
 use Rattle.ddcmp_station.specs.StationText.{notice_line, state_text}
 use Rattle.ddcmp_station.specs.CountersText.{counters_line}
-use Rattle.ddcmp_pair.specs.declared.event.End.{End}
-use Rattle.ddcmp_pair.specs.declared.event.End.TheVariants.{A, B}
+use Rattle.ddcmp_io.specs.declared.carrier.End.{End}
+use Rattle.ddcmp_io.specs.declared.carrier.End.TheVariants.{A, B}
 use Rattle.ddcmp_pair.specs.declared.event.Reply.{Reply}
 use Rattle.ddcmp_pair.specs.declared.event.Reply.TheVariants as reply
 use Rattle.ddcmp_pair.specs.Run.{PairState, handed_up, is_clean}

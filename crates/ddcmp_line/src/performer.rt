@@ -3,8 +3,9 @@ ghost use Rattle.std.specs.Prelude.{◌≡◌, ◌<◌, [], false, length, Some,
 ghost use Rattle.std.specs.Prelude.{IsTrue};
 ghost use Rattle.std.specs.VecDeque.{deque_capacity, deque_len};
 ghost use Rattle.ddcmp_io.specs.Written.{HandsOver, output_of};
+ghost use Rattle.ddcmp_io.specs.Ends.{other};
 ghost use Rattle.ddcmp_pair.specs.Run.{PairState, at, end_of, after_event, reply_to, asks_memory};
-ghost use Rattle.ddcmp_pair.specs.Settle.{other, settling, WantsMemory};
+ghost use Rattle.ddcmp_pair.specs.Settle.{settling, WantsMemory};
 ghost use Rattle.ddcmp_pair.specs.Recovery.{recovering};
 ghost use Rattle.ddcmp_line.specs.ScriptWords.{reading_of};
 ghost use Rattle.ddcmp_line.specs.ScriptText.{end_name, name_before, reply_text};
@@ -30,7 +31,7 @@ use std::collections::VecDeque;
 
 /// Why a line wasn't done.
 #[derive(Clone, Copy, PartialEq, Eq)]
-pub(crate) enum Stop {
+pub(crate) enum Undone {
     NoCommand,
     NotHex,
     Write,
@@ -110,13 +111,13 @@ fn flush_before<W: Sink, C: Carrier>(
     page.flush(writer)
 }
 
-/// Returns the stop for an allocation failure.
-fn stopped(done: Result<(), Memory>) -> Result<(), Stop>
+/// Returns why a line wasn't done, for an allocation failure.
+fn stopped(done: Result<(), Memory>) -> Result<(), Undone>
     ensures { result ≡ stopped_of done }
 {
     match done {
         Ok(()) => Ok(()),
-        Err(_refused) => Err(Stop::Memory),
+        Err(_refused) => Err(Undone::Memory),
     }
 }
 
@@ -260,7 +261,7 @@ impl Stage {
         carrier: &mut C,
         from: End,
         most: Option<u32>,
-    ) -> Result<(), Stop>
+    ) -> Result<(), Undone>
         requires whole { C.broken carrier.old ≡ false }
         ensures devices { TellsDevices (output_of W.broken W.contents writer.new self.new.page)
             (C.broken carrier.new) result }
@@ -278,14 +279,14 @@ impl Stage {
         let bytes = first_of(front, most);
         let length = bytes.len();
         let Ok(mut out) = Vec::from_elem(self.alloc, 0u8, length) else {
-            return Err(Stop::Memory);
+            return Err(Undone::Memory);
         };
         if flush_before(&mut self.page, writer, carrier).is_err() {
-            return Err(Stop::Write);
+            return Err(Undone::Write);
         }
         match carrier.carry(from, bytes, &mut out) {
             Ok(came) => out.truncate(came),
-            Err(_fault) => return Err(Stop::Carrier),
+            Err(_fault) => return Err(Undone::Carrier),
         }
         let came = Bytes::new(out);
         match self.arrive(pair, view, writer, from, b"passed ", from.other(), came) {
@@ -293,7 +294,7 @@ impl Stage {
                 self.lines.take_off(from, length);
                 Ok(())
             }
-            Err(_refused) => Err(Stop::Memory),
+            Err(_refused) => Err(Undone::Memory),
         }
     }
 
@@ -395,7 +396,7 @@ impl Stage {
         writer: &mut W,
         carrier: &mut C,
         command: ScriptCommand,
-    ) -> Result<(), Stop>
+    ) -> Result<(), Undone>
         requires whole { C.broken carrier.old ≡ false }
         ensures devices { TellsDevices (output_of W.broken W.contents writer.new self.new.page)
             (C.broken carrier.new) result }
@@ -438,7 +439,7 @@ impl Stage {
         writer: &mut W,
         carrier: &mut C,
         line: &[u8],
-    ) -> Result<(), Stop>
+    ) -> Result<(), Undone>
         requires whole { C.broken carrier.old ≡ false }
         ensures devices { TellsDevices (output_of W.broken W.contents writer.new self.new.page)
             (C.broken carrier.new) result }
@@ -452,9 +453,9 @@ impl Stage {
         match read_line(self.alloc, line) {
             Ok(ParsedLine::Skipped) => Ok(()),
             Ok(ParsedLine::Asks(command)) => self.perform(pair, view, writer, carrier, command),
-            Ok(ParsedLine::NoCommand) => Err(Stop::NoCommand),
-            Ok(ParsedLine::NotHex) => Err(Stop::NotHex),
-            Err(_refused) => Err(Stop::Memory),
+            Ok(ParsedLine::NoCommand) => Err(Undone::NoCommand),
+            Ok(ParsedLine::NotHex) => Err(Undone::NotHex),
+            Err(_refused) => Err(Undone::Memory),
         }
     }
 }

@@ -5,7 +5,7 @@ ghost use Rattle.std.specs.Io.KnownBytes.{Appends, Consumes};
 ghost use Rattle.ddcmp_io.specs.Written.{AppendsPart, Output, output_of};
 ghost use Rattle.ddcmp_pair.specs.Run.{PairState};
 ghost use Rattle.ddcmp_io.specs.Change.{sink_change, source_change};
-ghost use Rattle.ddcmp_pair.specs.Carriages.{Carriage};
+ghost use Rattle.ddcmp_io.specs.Carriages.{Carriage};
 ghost use Rattle.ddcmp_line.specs.Script.{nothing_between};
 ghost use Rattle.ddcmp_line.specs.ScriptEnds.{Around, around, IsPlayed, PausedBefore, Plays};
 ghost use Rattle.ddcmp_line.specs.Inside.ScriptProgress.{HasDone, IsPlaying, PlaysOut, Stops};
@@ -15,7 +15,7 @@ ghost use Rattle.ddcmp_line.specs.Inside.ScriptSteps.{TellsDevices};
 use crate::closing::write_closing;
 use crate::command::without_cr;
 use crate::nowhere::Nowhere;
-use crate::performer::{Stage, Stop};
+use crate::performer::{Stage, Undone};
 use crate::script_fault::ScriptFault;
 use crate::view::View;
 use ddcmp_io::input::read_within;
@@ -62,7 +62,7 @@ impl Player {
         writer: &mut W,
         carrier: &mut C,
         byte: u8,
-    ) -> Result<(), Stop>
+    ) -> Result<(), Undone>
         requires whole { C.broken carrier.old ≡ false }
         requires few { self.old.number < 2 ^ 64 - 1 }
         ensures seen { self.new.seen ≡ self.old.seen }
@@ -81,7 +81,7 @@ impl Player {
         if byte != b'\n' {
             return match self.line.push(byte) {
                 Ok(()) => Ok(()),
-                Err(_refused) => Err(Stop::Memory),
+                Err(_refused) => Err(Undone::Memory),
             };
         }
         match self
@@ -105,7 +105,7 @@ impl Player {
         writer: &mut W,
         carrier: &mut C,
         piece: &[u8],
-    ) -> Result<(), Stop>
+    ) -> Result<(), Undone>
         requires whole { C.broken carrier.old ≡ false }
         requires few { self.old.number + length piece.now < 2 ^ 64 }
         ensures seen { self.new.seen ≡ self.old.seen }
@@ -131,33 +131,33 @@ impl Player {
     }
 
     /// Writes what is buffered; returns the fault.
-    fn stop<W: Sink>(&mut self, writer: &mut W, stop: Stop) -> ScriptFault
+    fn stop<W: Sink>(&mut self, writer: &mut W, stop: Undone) -> ScriptFault
         requires few { self.old.number < 2 ^ 64 - 1 }
-        requires write { stop ≡ Stop.Write → IsTrue (W.broken writer.old) }
-        requires one { stop ≡ Stop.Carrier → (W.broken writer.old ≡ false)
+        requires write { stop ≡ Undone.Write → IsTrue (W.broken writer.old) }
+        requires one { stop ≡ Undone.Carrier → (W.broken writer.old ≡ false)
             × (self.old.stage.page ≡ []) }
         ensures seen { self.new.seen ≡ self.old.seen }
         ensures read { result ≢ ScriptFault.Read }
         ensures write { (result ≡ ScriptFault.Write) ↔ IsTrue (W.broken writer.new) }
-        ensures carrier { (result ≡ ScriptFault.Carrier) ↔ (stop ≡ Stop.Carrier) }
+        ensures carrier { (result ≡ ScriptFault.Carrier) ↔ (stop ≡ Undone.Carrier) }
         ensures plays { (counted : Bool) (input : List ℕ) (x : Around) (sink : Option (List ℕ))
             → Stops input self.old.number (course (fresh sink)
             (output_of W.broken W.contents writer.old self.old.stage.page) x) stop
             → Plays counted input x (Appends sink (W.contents writer.new))
             (AppendsPart sink (W.contents writer.new)) (Err result) }
     {
-        if stop == Stop::Carrier {
+        if stop == Undone::Carrier {
             return ScriptFault::Carrier;
         }
         if self.stage.page.flush(writer).is_err() {
             return ScriptFault::Write;
         }
         match stop {
-            Stop::NoCommand => ScriptFault::Line(self.number + 1),
-            Stop::NotHex => ScriptFault::Hex(self.number + 1),
-            Stop::Write => ScriptFault::Write,
-            Stop::Memory => ScriptFault::Memory,
-            Stop::Carrier => ScriptFault::Carrier,
+            Undone::NoCommand => ScriptFault::Line(self.number + 1),
+            Undone::NotHex => ScriptFault::Hex(self.number + 1),
+            Undone::Write => ScriptFault::Write,
+            Undone::Memory => ScriptFault::Memory,
+            Undone::Carrier => ScriptFault::Carrier,
         }
     }
 
@@ -168,7 +168,7 @@ impl Player {
         view: &mut V,
         writer: &mut W,
         carrier: &mut C,
-    ) -> Result<(), Stop>
+    ) -> Result<(), Undone>
         requires whole { C.broken carrier.old ≡ false }
         ensures seen { self.new.seen ≡ self.old.seen }
         ensures number { self.new.number ≡ self.old.number }

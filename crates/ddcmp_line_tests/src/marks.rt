@@ -2,7 +2,7 @@
 use ddcmp_frame::Sink;
 use ddcmp_frame::failing::{BoundedSink, Pieces};
 use ddcmp_line::{Config, Direct, End, Pair, script_viewed};
-use ddcmp_picture::{Drawing, Fate, Mark, Paper};
+use ddcmp_picture::{Drawing, Mark, Paper, TripEnd};
 
 /// The marks as lines of text.
 #[derive(Drop)]
@@ -47,10 +47,10 @@ impl Paper for List {
             Mark::Departs(trip) => self.line(trip.from, b" sends ", trip.label.as_slice()),
             Mark::Ends(trip, fate) => {
                 let what: &[u8] = match fate {
-                    Fate::Arrived => b" arrived: ",
-                    Fate::Cut { .. } => b" cut: ",
-                    Fate::Lost => b" lost: ",
-                    Fate::InFlight => b" on its way: ",
+                    TripEnd::Arrived => b" arrived: ",
+                    TripEnd::Cut { .. } => b" cut: ",
+                    TripEnd::Lost => b" lost: ",
+                    TripEnd::InFlight => b" in flight: ",
                 };
                 self.line(trip.from, what, fate.label(trip).as_slice());
             }
@@ -82,7 +82,7 @@ fn marks() -> &'static [u8] {
     A nothing to lose\nA nothing to pass\nA idle\nA expired\nA sends STRT\n\
     A arrived: STRT, damaged\nB header check wrong\nA expired\nA sends STRT\n\
     B gets bytes: 05\nB nothing to take\nB Halted R=0 N=0 A=0 T=1\nB out=0 in=0 timer=off\n\
-    line not cleared: not halted\nA on its way: STRT, damaged\n"
+    line not cleared: not halted\nA in flight: STRT, damaged\n"
 }
 
 #[test]

@@ -5,7 +5,7 @@ ghost use Rattle.ddcmp_device.specs.declared.opener.OpenRefusal.{OpenRefusal as 
 
 use crate::fault::LinkFailure;
 use ddcmp_device::{Attempt, Cause, LineName, OpenFault, OpenRefusal};
-use ddcmp_session::{Fault, Stop};
+use ddcmp_session::{DeviceFault, Stop};
 use std::io::ErrorKind;
 
 /// Why a run ended before all was delivered. The name of the line is added last.
@@ -22,7 +22,7 @@ impl LinkStop {
     /// Returns why a link over a line of this name failed, whose output hasn't.
     pub(crate) fn fault(self, line: LineName<'_>) -> LinkFailure<'_>
         ensures whole { result ≢ LinkFailure.Write }
-        ensures read { self ≡ LinkStop.Stopped (Stop.Device Fault.Input)
+        ensures read { self ≡ LinkStop.Stopped (Stop.Device DeviceFault.Input)
             → result ≡ LinkFailure.Read }
         ensures memory { self ≡ LinkStop.Memory → result ≡ LinkFailure.Memory }
         ensures lost { (count : ℕ) → self ≡ LinkStop.Stopped (Stop.Lost count)
@@ -40,7 +40,7 @@ impl LinkStop {
             LinkStop::Stopped(Stop::NotOpened(refused)) => {
                 LinkFailure::Open(line.open_fault(refused))
             }
-            LinkStop::Stopped(Stop::Device(Fault::Input)) => LinkFailure::Read,
+            LinkStop::Stopped(Stop::Device(DeviceFault::Input)) => LinkFailure::Read,
             LinkStop::Stopped(Stop::Device(_) | Stop::Left | Stop::Unread) => LinkFailure::Ended,
             LinkStop::Stopped(Stop::Lost(count)) => LinkFailure::Lost(count),
             LinkStop::Memory => LinkFailure::Memory,

@@ -1,12 +1,13 @@
 //! The devices of a link, on the system.
 ghost use Rattle.std.specs.Prelude.{◌≡◌, ◌≤◌, ◌↔◌, length};
-ghost use Rattle.ddcmp_device.specs.Outlets.{at_once};
+ghost use Rattle.ddcmp_device.specs.StandardStreams.{at_once};
 ghost use Rattle.ddcmp_io.specs.Transfers.{count_moved};
 ghost use Rattle.ddcmp_link.specs.Events.{Reports};
 ghost use Rattle.ddcmp_session.specs.Devices.{count_read};
 
 use ddcmp_device::{
-    Descriptor, Event, Framing, Line, LineName, OpenRefusal, Opener, Outlet, Poller, System,
+    Descriptor, Framing, Line, LineEvent, LineName, OpenRefusal, Opener, Poller, StandardStream,
+    System,
 };
 use ddcmp_frame::ReaderRefusal;
 use ddcmp_io::{Down, Got, Sink, Source, Transfer, Wanted, Worst};
@@ -26,8 +27,8 @@ pub(crate) struct Live<'a, S, C, R, W> {
     clock: C,
     reader: &'a mut R,
     writer: &'a mut W,
-    output: Outlet,
-    errors: Outlet,
+    output: StandardStream,
+    errors: StandardStream,
     /// Finds the end of the last whole frame in a datagram, if the line is one of datagrams.
     framing: Option<Framing>,
 }
@@ -90,8 +91,8 @@ impl<'a, S: System, C: Clock + Drop, R: Source, W: Sink> Live<'a, S, C, R, W> {
             clock,
             reader,
             writer,
-            output: Outlet::new(system, "/dev/stdout"),
-            errors: Outlet::new(system, "/dev/stderr"),
+            output: StandardStream::new(system, "/dev/stdout"),
+            errors: StandardStream::new(system, "/dev/stderr"),
             framing,
         })
     }
@@ -143,10 +144,10 @@ fn read_ready<R: Source>(reader: &mut R, there: &mut Descriptor, space: &mut [u8
     reader.read(space)
 }
 
-/// Writes to an outlet that was opened again; returns none if its owner is to write, who then gets
+/// Writes to a stream that was opened again; returns none if its owner is to write, who then gets
 /// the error.
-fn written(outlet: &mut Outlet, there: &mut Descriptor, bytes: &[u8]) -> Option<Transfer> {
-    let moved = outlet.write(bytes);
+fn written(stream: &mut StandardStream, there: &mut Descriptor, bytes: &[u8]) -> Option<Transfer> {
+    let moved = stream.write(bytes);
     match moved {
         Some(Transfer::Bytes(_) | Transfer::Interrupted) => moved,
         Some(Transfer::Nothing) => {
@@ -161,7 +162,7 @@ fn written(outlet: &mut Outlet, there: &mut Descriptor, bytes: &[u8]) -> Option<
 }
 
 /// Reports an event of the line on standard error, if there is one.
-fn report(session: &mut Session, event: Option<Event<'_>>)
+fn report(session: &mut Session, event: Option<LineEvent<'_>>)
     ensures state { session.new.state ≡ session.old.state }
     ensures errors { Reports event.entry session.old.log.errors session.new.log.errors }
     ensures log { session.new.log ≡ record session.old.log { errors = session.new.log.errors } }
@@ -176,7 +177,7 @@ impl<S: System, C: Clock + Drop, R: Source, W: Sink> Devices for Live<'_, S, C, 
     ghost use Rattle.ddcmp_link.specs.Events.{Reports};
     ghost use Rattle.ddcmp_device.specs.LineNames.{line_kind, open_fault_of};
     ghost use Rattle.ddcmp_device.specs.Opening.{SameIfNotYet, Opens, event_of, line_of};
-    ghost use Rattle.ddcmp_device.specs.declared.event.Event.TheVariants as event;
+    ghost use Rattle.ddcmp_device.specs.declared.event.LineEvent.TheVariants as event;
     ghost use Rattle.ddcmp_device.specs.declared.opener.Opened.{Opened};
 
     ghost traffic = { λ _. None };
@@ -210,7 +211,7 @@ impl<S: System, C: Clock + Drop, R: Source, W: Sink> Devices for Live<'_, S, C, 
             session.old.log.errors session.new.log.errors }
     {
         let fault = self.name.open_fault(refusal);
-        report(session, Some(Event::Retry(fault, seconds)));
+        report(session, Some(LineEvent::Retry(fault, seconds)));
     }
 
     fn close_line(&mut self) {

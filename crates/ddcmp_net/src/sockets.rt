@@ -2,7 +2,7 @@
 ghost use Rattle.std.specs.Prelude.{◌≡◌, false, IfOk};
 ghost use Rattle.ddcmp_net.specs.Connection.{has_failed};
 
-use ddcmp_pair::{Carrier, End, LineFault};
+use ddcmp_io::{Carrier, End, LineFault};
 use std::io::{self, Read, Write};
 use std::net::{Ipv4Addr, Net, OpenListener, TcpListener, TcpStream};
 use std::time::Duration;

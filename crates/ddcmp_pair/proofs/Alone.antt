@@ -27,8 +27,8 @@ use Rattle.ddcmp_core.proofs.TimedLaws.{timed_halted, timed_accepted, timed_take
 use Rattle.ddcmp_proto.specs.Bytes.{received_of, after_item, after_items, notices_of_item}
 use Rattle.ddcmp_proto.specs.Bytes.{notices_of_items, items_added}
 use Rattle.ddcmp_proto.specs.declared.config.Config.{Config}
-use Rattle.ddcmp_pair.specs.declared.event.End.{End}
-use Rattle.ddcmp_pair.specs.declared.event.End.TheVariants.{A, B}
+use Rattle.ddcmp_io.specs.declared.carrier.End.{End}
+use Rattle.ddcmp_io.specs.declared.carrier.End.TheVariants.{A, B}
 use Rattle.ddcmp_pair.specs.declared.event.Event.{Event}
 use Rattle.ddcmp_pair.specs.declared.event.Event.TheVariants as event
 use Rattle.ddcmp_pair.specs.Run.{EndState, PairState, restarts_by, restarts_in, after_event_here}

@@ -19,7 +19,7 @@ use Rattle.ddcmp_core.proofs.Sound.{sound_on, sound_next}
 use Rattle.ddcmp_core.proofs.TimedLaws.{timed_on, timed_next}
 use Rattle.ddcmp_core.proofs.StartLaws.{next_state, sent_in_state}
 use Rattle.ddcmp_proto.specs.Bytes.{frame_on_line}
-use Rattle.ddcmp_pair.specs.declared.event.End.TheVariants.{B}
+use Rattle.ddcmp_io.specs.declared.carrier.End.TheVariants.{B}
 use Rattle.ddcmp_pair.specs.declared.event.Event.TheVariants.{Arrive}
 use Rattle.ddcmp_pair.specs.Place.{place_of, WholeFrame}
 use Rattle.ddcmp_pair.specs.Run.{EndState, PairState, handed_up, after_poll_here, is_honest_here}

@@ -20,8 +20,8 @@ use Rattle.ddcmp_core.specs.declared.station_core.StartRefusal.TheVariants.{NotH
 use Rattle.ddcmp_proto.specs.Config.{first_refusal, is_size}
 use Rattle.ddcmp_proto.specs.declared.config.Config.{Config}
 use Rattle.ddcmp_proto.specs.declared.config.ConfigRefusal.TheVariants.{Window}
-use Rattle.ddcmp_pair.specs.declared.event.End.{End}
-use Rattle.ddcmp_pair.specs.declared.event.End.TheVariants.{A, B}
+use Rattle.ddcmp_io.specs.declared.carrier.End.{End}
+use Rattle.ddcmp_io.specs.declared.carrier.End.TheVariants.{A, B}
 use Rattle.ddcmp_pair.specs.declared.event.Event.{Event}
 use Rattle.ddcmp_pair.specs.declared.event.Event.TheVariants as event
 use Rattle.ddcmp_pair.specs.declared.event.Reply.{Reply}

@@ -1,7 +1,7 @@
 -- A round and a recovery, settle after settle.
 use Rattle.std.proofs.Common.{◌≡◌, [], ◌∷◌, ◌++◌, refl, sym, ◌∙◌, ap, subst}
 use Rattle.std.specs.Prelude.{Bool, true, false, ◌&&◌, ℕ, Result, Ok, Err, OnErr}
-use Rattle.ddcmp_pair.specs.declared.event.End.TheVariants.{A, B}
+use Rattle.ddcmp_io.specs.declared.carrier.End.TheVariants.{A, B}
 use Rattle.ddcmp_pair.specs.declared.event.Event.TheVariants as event
 use Rattle.ddcmp_pair.specs.Run.{PairState, after_event, asks_memory, run}
 use Rattle.ddcmp_pair.specs.Settle.{settling, settled, WantsMemory}

@@ -6,13 +6,14 @@ use Rattle.std.proofs.Math.Seq.{take-suc}
 use Rattle.std.proofs.lemmas.List.{replicate-append-replicate}
 use Rattle.ddcmp_pair.specs.declared.event.Event.{Event}
 use Rattle.std.specs.Prelude.{Option, Some, None, Result, Ok, Err, OnErr}
-use Rattle.ddcmp_pair.specs.declared.event.End.{End}
-use Rattle.ddcmp_pair.specs.declared.event.End.TheVariants.{A, B}
+use Rattle.ddcmp_io.specs.Ends.{other}
+use Rattle.ddcmp_io.specs.declared.carrier.End.{End}
+use Rattle.ddcmp_io.specs.declared.carrier.End.TheVariants.{A, B}
 use Rattle.ddcmp_pair.specs.declared.event.Event.TheVariants as event
 use Rattle.ddcmp_pair.specs.declared.event.Reply.TheVariants as reply
 use Rattle.ddcmp_pair.specs.Run.{PairState, at, line_bytes, wrote, reply_to, after_event}
 use Rattle.ddcmp_pair.specs.Run.{asks_memory, run}
-use Rattle.ddcmp_pair.specs.Settle.{other, mail_events, carried, crossing_of, crossing, WantsMemory}
+use Rattle.ddcmp_pair.specs.Settle.{mail_events, carried, crossing_of, crossing, WantsMemory}
 
 pub run-append : (xs ys : List Event) (p : PairState) → run (xs ++ ys) p ≡ run ys (run xs p)
 unfolding run

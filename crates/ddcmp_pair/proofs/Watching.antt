@@ -3,14 +3,15 @@ use Rattle.std.proofs.Common.{◌≡◌, ℕ, suc, ◌+◌, ◌-◌, ◌<◌, tr
 use Rattle.std.proofs.Common.{sym, ◌∙◌, ap, subst, arith, append_assoc, append-nil}
 use Rattle.std.specs.Prelude.{Option, Some, None}
 use Rattle.ddcmp_io.specs.Device.{Logs}
-use Rattle.ddcmp_pair.specs.declared.event.End.{End}
-use Rattle.ddcmp_pair.specs.declared.event.End.TheVariants.{A, B}
+use Rattle.ddcmp_io.specs.Ends.{other}
+use Rattle.ddcmp_io.specs.declared.carrier.End.{End}
+use Rattle.ddcmp_io.specs.declared.carrier.End.TheVariants.{A, B}
 use Rattle.ddcmp_pair.specs.declared.event.Event.{Event}
 use Rattle.ddcmp_pair.specs.declared.event.Event.TheVariants as event
 use Rattle.ddcmp_pair.specs.declared.event.Reply.{Reply}
 use Rattle.ddcmp_pair.specs.Run.{PairState, after_event, reply_to, run}
 use Rattle.ddcmp_pair.specs.Settle.{counted, carried, exchange, either_writes, exchanges_within}
-use Rattle.ddcmp_pair.specs.Settle.{mail_events, all_mail, most_exchanges, settling, settled, other}
+use Rattle.ddcmp_pair.specs.Settle.{mail_events, all_mail, most_exchanges, settling, settled}
 use Rattle.ddcmp_pair.specs.Recovery.{both_expire, rounding, rounded, recovering}
 use Rattle.ddcmp_pair.proofs.Runs.{run-append, run-one}
 use Rattle.ddcmp_pair.proofs.Settles.{exchanged, quieted}

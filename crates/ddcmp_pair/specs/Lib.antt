@@ -1,4 +1,3 @@
-pub mod Carriages
 pub mod InOrder
 pub mod Inside
 pub mod Link

@@ -6,7 +6,7 @@ use Rattle.std.specs.Cmp.Lexicographic.{pointwise}
 use Rattle.ddcmp_frame.specs.Reading.{open_at_end}
 use Rattle.ddcmp_core.specs.declared.state.State.TheVariants.{Running}
 use Rattle.ddcmp_core.specs.Table.{is_halted, is_running}
-use Rattle.ddcmp_pair.specs.declared.event.End.TheVariants.{A, B}
+use Rattle.ddcmp_io.specs.declared.carrier.End.TheVariants.{A, B}
 use Rattle.ddcmp_pair.specs.declared.event.Event.{Event}
 use Rattle.ddcmp_pair.specs.declared.event.Event.TheVariants as event
 use Rattle.ddcmp_pair.specs.Run.{EndState, PairState, handed_up, is_clean, run}

@@ -3,27 +3,7 @@ ghost use Rattle.std.specs.Prelude.{◌≡◌};
 
 use crate::bytes::{Bytes, Notices};
 use ddcmp_core::{SendRefusal, Seq, StartRefusal};
-
-/// An end of the line.
-#[derive(Clone, Copy, Debug)]
-pub enum End {
-    A,
-    B,
-}
-
-impl End {
-    ghost use Rattle.ddcmp_pair.specs.Settle.{other};
-
-    /// Returns the other end.
-    pub fn other(self) -> End
-        ensures { result ≡ other self }
-    {
-        match self {
-            End::A => End::B,
-            End::B => End::A,
-        }
-    }
-}
+use ddcmp_io::End;
 
 /// An event of a pair.
 #[derive(Drop)]

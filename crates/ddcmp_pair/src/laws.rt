@@ -6,7 +6,7 @@ ghost use Rattle.ddcmp_core.specs.Numbers.{next_number};
 ghost use Rattle.ddcmp_pair.specs.Place.{WholeFrame, same_frame, place_after, place_of};
 ghost use Rattle.ddcmp_pair.specs.Place.{IsSubsequence};
 ghost use Rattle.ddcmp_pair.specs.declared.event.Event.{Event as EventValue};
-ghost use Rattle.ddcmp_pair.specs.declared.event.End.{End as EndValue};
+ghost use Rattle.ddcmp_io.specs.declared.carrier.End.{End as EndValue};
 ghost use Rattle.ddcmp_pair.specs.Run.{PairState, at, after_event, reply_to, run, new_pair};
 ghost use Rattle.ddcmp_pair.specs.Run.{is_clean};
 ghost use Rattle.ddcmp_pair.specs.InOrder.{IsInOrder, IsLink, NoRestart};

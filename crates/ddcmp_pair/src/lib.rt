@@ -1,10 +1,8 @@
-//! Two stations on a line: their events, and what is promised for every run of these; the carriers
-//! that bring the bytes of frames from one end to the other; and two ends between which events
-//! happen.
+//! Two stations on a line: their events, what is promised for every run of these, and two ends
+//! between which events happen.
 #![tactic(auto)]
 
 mod bytes;
-mod carrier;
 mod ends;
 mod event;
 mod frames;
@@ -18,12 +16,11 @@ mod side;
 mod watch;
 
 pub use bytes::{Bytes, Notices};
-pub use carrier::{Carrier, Direct};
-pub use ddcmp_io::LineFault;
+pub use ddcmp_io::{Carrier, Direct, End, LineFault};
 pub use ddcmp_proto::{
     Config, ConfigRefusal, Memory, Notice, SendRefusal, Seq, StartRefusal, State, Station,
 };
-pub use event::{End, Event, Reply};
+pub use event::{Event, Reply};
 pub use pair::{Pair, PairRefusal};
 pub use recovery::Recovered;
 pub use runner::{RunRefusal, run};

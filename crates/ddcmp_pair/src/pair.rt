@@ -46,7 +46,7 @@ impl Pair {
     ghost use Rattle.ddcmp_frame.specs.Reader.{StandsFor};
     ghost use Rattle.ddcmp_core.specs.Store.{with_front};
     ghost use Rattle.ddcmp_proto.specs.Config.{first_refusal, config_of};
-    ghost use Rattle.ddcmp_pair.specs.declared.event.End.{End as EndValue};
+    ghost use Rattle.ddcmp_io.specs.declared.carrier.End.{End as EndValue};
     ghost use Rattle.ddcmp_pair.specs.Run.{new_pair, after_event, reply_to, asks_memory, at};
     ghost use Rattle.ddcmp_pair.specs.Run.{handed_up, is_clean};
     ghost use Rattle.ddcmp_pair.specs.InOrder.{IsRun, IsInOrder, NoRestart};

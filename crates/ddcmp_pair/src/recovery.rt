@@ -44,7 +44,7 @@ impl Recovered {
 impl Pair {
     ghost use Rattle.std.specs.Prelude.{◌≡◌, ◌+◌, ◌*◌, ◌≤◌, true, IsOk, IfOk, OnErr};
     ghost use Rattle.std.specs.List.{All};
-    ghost use Rattle.ddcmp_pair.specs.declared.event.End.{End as EndValue};
+    ghost use Rattle.ddcmp_io.specs.declared.carrier.End.{End as EndValue};
     ghost use Rattle.ddcmp_pair.specs.Run.{at};
     ghost use Rattle.ddcmp_pair.specs.InOrder.{IsInOrder};
     ghost use Rattle.ddcmp_pair.specs.Settle.{WantsMemory, most_exchanges};
@@ -149,8 +149,8 @@ impl Pair {
 
 impl Pair {
     ghost use Rattle.std.specs.Prelude.{◌≡◌, ◌↔◌, ◌≤◌, ◌<◌, [], length, slice_index_or, IsTrue};
+    ghost use Rattle.ddcmp_io.specs.Ends.{other};
     ghost use Rattle.ddcmp_pair.specs.Run.{at, handed_up};
-    ghost use Rattle.ddcmp_pair.specs.Settle.{other};
     ghost use Rattle.ddcmp_pair.specs.Recovery.{is_ready, is_ready_here, is_done, IsDelivered};
     ghost use Rattle.ddcmp_pair.specs.Recovery.{IsDone};
 

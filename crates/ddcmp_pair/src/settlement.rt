@@ -15,7 +15,7 @@ pub struct Settled {
 
 impl Pair {
     ghost use Rattle.std.specs.Prelude.{◌≡◌, IsOk, IfOk, OnErr};
-    ghost use Rattle.ddcmp_pair.specs.declared.event.End.{End as EndValue};
+    ghost use Rattle.ddcmp_io.specs.declared.carrier.End.{End as EndValue};
     ghost use Rattle.ddcmp_pair.specs.Run.{at, run};
     ghost use Rattle.ddcmp_pair.specs.InOrder.{IsInOrder};
     ghost use Rattle.ddcmp_pair.specs.Settle.{settling, settled, exchange, either_writes, crossing};

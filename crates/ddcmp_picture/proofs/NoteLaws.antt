@@ -7,7 +7,7 @@ use Rattle.std.proofs.lemmas.List.{drop_all, append-nil}
 use Rattle.ddcmp_io.specs.Device.{Logs}
 use Rattle.ddcmp_core.specs.declared.notice.Notice.{Notice}
 use Rattle.ddcmp_core.specs.declared.state.State.{State}
-use Rattle.ddcmp_pair.specs.declared.event.End.{End}
+use Rattle.ddcmp_io.specs.declared.carrier.End.{End}
 use Rattle.ddcmp_picture.specs.Labels.{notice_label}
 use Rattle.ddcmp_picture.specs.Marks.{name_state, names_state, notice_marks}
 use Rattle.ddcmp_picture.specs.declared.mark.Mark.TheVariants.{Note}

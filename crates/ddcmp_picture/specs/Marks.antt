@@ -10,9 +10,9 @@ use Rattle.ddcmp_core.specs.declared.state.State.{State}
 use Rattle.ddcmp_core.specs.declared.state.State.TheVariants.{Halted, IStart, AStart, Running}
 use Rattle.ddcmp_core.specs.declared.state.State.TheVariants.{Maintenance}
 use Rattle.ddcmp_pair.specs.Run.{PairState, at}
-use Rattle.ddcmp_pair.specs.Settle.{other}
-use Rattle.ddcmp_pair.specs.declared.event.End.{End}
-use Rattle.ddcmp_pair.specs.declared.event.End.TheVariants.{A, B}
+use Rattle.ddcmp_io.specs.Ends.{other}
+use Rattle.ddcmp_io.specs.declared.carrier.End.{End}
+use Rattle.ddcmp_io.specs.declared.carrier.End.TheVariants.{A, B}
 use Rattle.ddcmp_pair.specs.declared.event.Event.{Event}
 use Rattle.ddcmp_pair.specs.declared.event.Event.TheVariants as event
 use Rattle.ddcmp_pair.specs.declared.event.Reply.{Reply}
@@ -26,8 +26,8 @@ use Rattle.ddcmp_line.specs.declared.command.ScriptCommand.TheVariants.{State as
 use Rattle.ddcmp_station.specs.StationText.{state_text}
 use Rattle.ddcmp_picture.specs.declared.request.Request.{Request}
 use Rattle.ddcmp_picture.specs.declared.request.Request.TheVariants as asked
-use Rattle.ddcmp_picture.specs.declared.mark.Fate.{Fate}
-use Rattle.ddcmp_picture.specs.declared.mark.Fate.TheVariants.{Arrived, Cut, Lost}
+use Rattle.ddcmp_picture.specs.declared.mark.TripEnd.{TripEnd}
+use Rattle.ddcmp_picture.specs.declared.mark.TripEnd.TheVariants.{Arrived, Cut, Lost}
 use Rattle.ddcmp_picture.specs.declared.mark.Mark.{Mark}
 use Rattle.ddcmp_picture.specs.declared.mark.Mark.TheVariants.{Note, Across, Departs, Ends, Appears}
 use Rattle.ddcmp_picture.specs.declared.mark.Trip.{Trip}
@@ -149,12 +149,12 @@ abbrev pub lost_marks : End → List Trip → List Mark
 lost_marks from [] = Note from (words (codes "nothing to lose")) false ∷ []
 lost_marks from (trip ∷ rest) = Ends trip Lost ∷ []
 
-abbrev pub ends_by : Fate → Trip → Mark
-ends_by fate trip = Ends trip fate
+abbrev pub ends_by : TripEnd → Trip → Mark
+ends_by trip_end trip = Ends trip trip_end
 
 -- all frames are taken off the lines, those of A first
-abbrev pub all_end : Fate → Trips → List Mark
-all_end fate trips = map (ends_by fate) trips.a ++ map (ends_by fate) trips.b
+abbrev pub all_end : TripEnd → Trips → List Mark
+all_end trip_end trips = map (ends_by trip_end) trips.a ++ map (ends_by trip_end) trips.b
 
 -- ---- a step
 

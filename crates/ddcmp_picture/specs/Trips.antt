@@ -1,10 +1,10 @@
 -- Frames in flight.
 use Rattle.std.specs.Prelude.{ℕ, false, not, ◌||◌, ◌==◌, if◌then◌else◌, List, [], ◌∷◌}
 use Rattle.std.specs.Prelude.{codes, decimal, Option, Some, None}
-use Rattle.ddcmp_pair.specs.declared.event.End.{End}
-use Rattle.ddcmp_pair.specs.declared.event.End.TheVariants.{A, B}
-use Rattle.ddcmp_picture.specs.declared.mark.Fate.{Fate}
-use Rattle.ddcmp_picture.specs.declared.mark.Fate.TheVariants.{Arrived, Cut, Lost, InFlight}
+use Rattle.ddcmp_io.specs.declared.carrier.End.{End}
+use Rattle.ddcmp_io.specs.declared.carrier.End.TheVariants.{A, B}
+use Rattle.ddcmp_picture.specs.declared.mark.TripEnd.{TripEnd}
+use Rattle.ddcmp_picture.specs.declared.mark.TripEnd.TheVariants.{Arrived, Cut, Lost, InFlight}
 use Rattle.ddcmp_picture.specs.declared.mark.Trip.{Trip}
 use Rattle.ddcmp_picture.specs.declared.short_text.ShortText.{ShortText}
 use Rattle.ddcmp_picture.specs.ShortTexts.{with_text}
@@ -31,7 +31,7 @@ rest_of row t = record {
 
 -- ---- the label at the end of a trip
 
-abbrev pub part_label : Fate → ShortText → ShortText
+abbrev pub part_label : TripEnd → ShortText → ShortText
 part_label Arrived label = label
 part_label (Cut part of) label =
     with_text (with_text (with_text (with_text label (codes ", ")) (decimal part)) (codes " of "))
@@ -39,9 +39,9 @@ part_label (Cut part of) label =
 part_label Lost label = label
 part_label InFlight label = label
 
-abbrev pub end_label : Fate → Trip → ShortText
-end_label fate t =
-    part_label fate (if t.is_damaged then with_text t.label (codes ", damaged") else t.label)
+abbrev pub end_label : TripEnd → Trip → ShortText
+end_label trip_end t =
+    part_label trip_end (if t.is_damaged then with_text t.label (codes ", damaged") else t.label)
 
 -- ---- the trips of both ends
 

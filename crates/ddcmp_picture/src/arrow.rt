@@ -2,7 +2,7 @@
 use crate::elements::Part::{Number, Text, Thousandths};
 use crate::elements::{LINE_A, LINE_B, MIDDLE, class_of, height_of, line_of, write, write_text};
 use crate::lettering::{Lettering, Spot, width_of};
-use crate::mark::{Fate, Trip};
+use crate::mark::{Trip, TripEnd};
 use ddcmp_io::{Page, Sink};
 use ddcmp_pair::End;
 
@@ -40,10 +40,10 @@ pub(crate) struct Stroke {
 
 impl Stroke {
     /// Returns the stroke of a trip that ends in this row.
-    fn of(trip: &Trip, fate: Fate, row: u64) -> Stroke {
-        let x2 = match fate {
-            Fate::Arrived | Fate::Cut { .. } => line_of(trip.from.other()),
-            Fate::Lost | Fate::InFlight => MIDDLE,
+    fn of(trip: &Trip, trip_end: TripEnd, row: u64) -> Stroke {
+        let x2 = match trip_end {
+            TripEnd::Arrived | TripEnd::Cut { .. } => line_of(trip.from.other()),
+            TripEnd::Lost | TripEnd::InFlight => MIDDLE,
         };
         Stroke {
             from: trip.from,
@@ -224,20 +224,20 @@ impl Stroke {
     }
 
     /// Writes how a trip ends, at its end.
-    fn write_fate<W: Sink>(&self, page: &mut Page, writer: &mut W, fate: Fate) {
-        match fate {
-            Fate::Arrived => {}
-            Fate::Cut { .. } => {
+    fn write_trip_end<W: Sink>(&self, page: &mut Page, writer: &mut W, trip_end: TripEnd) {
+        match trip_end {
+            TripEnd::Arrived => {}
+            TripEnd::Cut { .. } => {
                 let shape: &[u8] = match self.from {
                     End::A => b"m-5 -8v16",
                     End::B => b"m5 -8v16",
                 };
                 self.write_shape(page, writer, self.x2, shape);
             }
-            Fate::Lost => {
+            TripEnd::Lost => {
                 self.write_shape(page, writer, self.x2, b"m-6 -6l12 12m0 -12l-12 12");
             }
-            Fate::InFlight => self.write_shape(page, writer, self.x2, b"m-4 0l4 4l4 -4l-4 -4z"),
+            TripEnd::InFlight => self.write_shape(page, writer, self.x2, b"m-4 0l4 4l4 -4l-4 -4z"),
         }
     }
 
@@ -293,24 +293,24 @@ impl Stroke {
     }
 }
 
-/// Draws a trip that ends with this fate in this row.
+/// Draws a trip that ends like this in this row.
 pub(crate) fn write_trip<W: Sink>(
     page: &mut Page,
     writer: &mut W,
     lettering: &mut Lettering,
     trip: &Trip,
-    fate: Fate,
+    trip_end: TripEnd,
     row: u64,
 ) {
-    let stroke = Stroke::of(trip, fate, row);
+    let stroke = Stroke::of(trip, trip_end, row);
     let class: &[u8] = if trip.is_damaged { b" damaged" } else { b"" };
-    stroke.write(page, writer, class, matches!(fate, Fate::Arrived));
-    stroke.write_fate(page, writer, fate);
+    stroke.write(page, writer, class, matches!(trip_end, TripEnd::Arrived));
+    stroke.write_trip_end(page, writer, trip_end);
     if trip.is_damaged {
         stroke.write_damage(page, writer);
     }
-    if let Fate::Lost = fate {
+    if let TripEnd::Lost = trip_end {
         stroke.write_lost(lettering);
     }
-    stroke.write_label(lettering, fate.label(trip).as_slice());
+    stroke.write_label(lettering, trip_end.label(trip).as_slice());
 }

@@ -15,7 +15,7 @@ ghost use Rattle.ddcmp_picture.specs.Marks.{settled_label, step_marks, step_trip
 use crate::endings::{damage, end_all, land, lose};
 use crate::flights::Flights;
 use crate::labels::label_of;
-use crate::mark::{Fate, Mark, Trip};
+use crate::mark::{Mark, Trip, TripEnd};
 use crate::notes::{across, answer, look, note, report, sent};
 use crate::paper::Paper;
 use crate::replies::{answer_text, words};
@@ -138,7 +138,7 @@ impl<P: Paper + Drop> Drawing<P> {
         ensures asked { self.new.asked ≡ self.old.asked }
     {
         if let Reply::Cleared = reply {
-            end_all(&mut self.paper, &mut self.flights, Fate::Lost);
+            end_all(&mut self.paper, &mut self.flights, TripEnd::Lost);
         }
         across(&mut self.paper, answer_text(reply));
     }
@@ -243,7 +243,7 @@ impl<P: Paper + Drop> Drawing<P> {
         ensures asked { self.new.asked ≡ Request.Settle }
     {
         self.asked = Request::Settle;
-        end_all(&mut self.paper, &mut self.flights, Fate::Lost);
+        end_all(&mut self.paper, &mut self.flights, TripEnd::Lost);
         across(&mut self.paper, words(name));
     }
 
@@ -299,13 +299,13 @@ impl<P: Paper + Drop> Drawing<P> {
     /// Draws the frames that are still in flight when the run is over.
     pub fn end_flights(&mut self)
         ensures marks { Logs (P.drawn self.old.paper) (P.drawn self.new.paper)
-            (all_end Fate.InFlight self.old.flights) }
+            (all_end TripEnd.InFlight self.old.flights) }
         ensures trips { self.new.flights ≡ no_trips }
         ensures whole { self.new.is_whole ≡ self.old.is_whole }
         ensures states { self.new.states ≡ self.old.states }
         ensures asked { self.new.asked ≡ self.old.asked }
     {
-        end_all(&mut self.paper, &mut self.flights, Fate::InFlight);
+        end_all(&mut self.paper, &mut self.flights, TripEnd::InFlight);
     }
 
     /// Draws the result of a settle.

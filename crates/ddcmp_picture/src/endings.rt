@@ -7,7 +7,7 @@ ghost use Rattle.ddcmp_picture.specs.Trips.{no_trips, trips_of, with_trips};
 
 use crate::flights::Flights;
 use crate::labels::without_lf;
-use crate::mark::{Fate, Mark};
+use crate::mark::{Mark, TripEnd};
 use crate::notes::note;
 use crate::paper::Paper;
 use crate::replies::words;
@@ -35,10 +35,10 @@ pub(crate) fn land<P: Paper>(
     };
     if part < of {
         flights.leave_rest(from, row);
-        paper.put(&Mark::Ends(trip, Fate::Cut { part, of }));
+        paper.put(&Mark::Ends(trip, TripEnd::Cut { part, of }));
     } else {
         let _arrived = flights.pop(from);
-        paper.put(&Mark::Ends(trip, Fate::Arrived));
+        paper.put(&Mark::Ends(trip, TripEnd::Arrived));
     }
 }
 
@@ -50,7 +50,7 @@ pub(crate) fn lose<P: Paper>(paper: &mut P, flights: &mut Flights, from: End)
         ≡ with_trips from (drop 1 (trips_of from flights.old)) flights.old }
 {
     match flights.pop(from) {
-        Some(trip) => paper.put(&Mark::Ends(trip, Fate::Lost)),
+        Some(trip) => paper.put(&Mark::Ends(trip, TripEnd::Lost)),
         None => note(paper, from, words(b"nothing to lose"), false),
     }
 }
@@ -82,25 +82,25 @@ pub(crate) fn damage<P: Paper>(
 
 /// Takes all frames of an end off its line.
 #[tactic(auto, using(crate::proofs::EndLaws::ends_none, crate::proofs::EndLaws::ends_all))]
-fn end_of<P: Paper>(paper: &mut P, flights: &mut Flights, end: End, fate: Fate)
+fn end_of<P: Paper>(paper: &mut P, flights: &mut Flights, end: End, trip_end: TripEnd)
     ensures marks { Logs (P.drawn paper.old) (P.drawn paper.new)
-        (map (ends_by fate) (trips_of end flights.old)) }
+        (map (ends_by trip_end) (trips_of end flights.old)) }
     ensures trips { flights.new ≡ with_trips end [] flights.old }
 {
     for _trip in 0..flights.len(end) {
         let Some(trip) = flights.pop(end) else {
             return;
         };
-        paper.put(&Mark::Ends(trip, fate));
+        paper.put(&Mark::Ends(trip, trip_end));
     }
 }
 
 /// Takes all frames off the lines, and draws each with this end.
 #[tactic(auto, using(crate::proofs::NoteLaws::logs_then))]
-pub(crate) fn end_all<P: Paper>(paper: &mut P, flights: &mut Flights, fate: Fate)
-    ensures marks { Logs (P.drawn paper.old) (P.drawn paper.new) (all_end fate flights.old) }
+pub(crate) fn end_all<P: Paper>(paper: &mut P, flights: &mut Flights, trip_end: TripEnd)
+    ensures marks { Logs (P.drawn paper.old) (P.drawn paper.new) (all_end trip_end flights.old) }
     ensures trips { flights.new ≡ no_trips }
 {
-    end_of(paper, flights, End::A, fate);
-    end_of(paper, flights, End::B, fate);
+    end_of(paper, flights, End::A, trip_end);
+    end_of(paper, flights, End::B, trip_end);
 }

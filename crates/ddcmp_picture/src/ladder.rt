@@ -1,5 +1,5 @@
 //! A ladder: a line of text for each step, 78 columns wide.
-use crate::mark::{Fate, Mark, Trip};
+use crate::mark::{Mark, Trip, TripEnd};
 use ddcmp_io::{Page, Sink};
 use ddcmp_pair::End;
 
@@ -92,18 +92,18 @@ impl Row {
         }
     }
 
-    fn put_end(&mut self, trip: &Trip, fate: Fate) {
-        let label = match fate {
-            Fate::Lost => fate.label(trip).with(b", lost"),
-            _ => fate.label(trip),
+    fn put_end(&mut self, trip: &Trip, trip_end: TripEnd) {
+        let label = match trip_end {
+            TripEnd::Lost => trip_end.label(trip).with(b", lost"),
+            _ => trip_end.label(trip),
         };
         let text = label.as_slice();
         let stroke = if trip.is_damaged { b'~' } else { b'-' };
-        match (trip.from, fate) {
-            (End::A, Fate::Arrived) => self.put_at_b(b" ->", text, stroke, stroke, NEAR_B),
-            (End::B, Fate::Arrived) => self.put_at_a(b"<- ", text, stroke, stroke, NEAR_A),
-            (End::A, Fate::Cut { .. }) => self.put_at_b(b" -|", text, stroke, stroke, NEAR_B),
-            (End::B, Fate::Cut { .. }) => self.put_at_a(b"|- ", text, stroke, stroke, NEAR_A),
+        match (trip.from, trip_end) {
+            (End::A, TripEnd::Arrived) => self.put_at_b(b" ->", text, stroke, stroke, NEAR_B),
+            (End::B, TripEnd::Arrived) => self.put_at_a(b"<- ", text, stroke, stroke, NEAR_A),
+            (End::A, TripEnd::Cut { .. }) => self.put_at_b(b" -|", text, stroke, stroke, NEAR_B),
+            (End::B, TripEnd::Cut { .. }) => self.put_at_a(b"|- ", text, stroke, stroke, NEAR_A),
             (End::A, _) => self.put_at_a(b"-- ", text, stroke, b'X', HALF_A),
             (End::B, _) => self.put_at_b(b" -", text, stroke, b'X', HALF_B),
         }
@@ -121,7 +121,7 @@ impl Row {
             Mark::Note { at, text, .. } => self.put_note(*at, text.as_slice()),
             Mark::Across(text) => self.put_across(text.as_slice()),
             Mark::Departs(trip) => self.put_departure(trip),
-            Mark::Ends(trip, fate) => self.put_end(trip, *fate),
+            Mark::Ends(trip, trip_end) => self.put_end(trip, *trip_end),
             Mark::Appears { at, label } => self.put_appearance(*at, label.as_slice()),
         }
     }
@@ -138,7 +138,7 @@ pub(crate) fn write_ladder_head<W: Sink>(page: &mut Page, writer: &mut W) {
 
 /// Writes the line of a step.
 pub(crate) fn write_ladder<W: Sink>(page: &mut Page, writer: &mut W, mark: &Mark) {
-    if let Mark::Ends(_, Fate::InFlight) = mark {
+    if let Mark::Ends(_, TripEnd::InFlight) = mark {
         return;
     }
     let mut row = Row::new();

@@ -30,7 +30,7 @@ mod svg;
 
 pub use canvas::Picture;
 pub use drawing::Drawing;
-pub use mark::{Fate, Mark, Trip};
+pub use mark::{Mark, Trip, TripEnd};
 pub use paper::Paper;
 pub use player::draw;
 pub use short_text::ShortText;

@@ -39,7 +39,7 @@ impl Trip {
 
 /// How a trip ends.
 #[derive(Clone, Copy)]
-pub enum Fate {
+pub enum TripEnd {
     /// It arrived, or the last part of it did.
     Arrived,
     /// Only this many of the bytes that were left arrived.
@@ -61,7 +61,7 @@ pub enum Mark {
     /// A text about both ends.
     Across(ShortText),
     Departs(Trip),
-    Ends(Trip, Fate),
+    Ends(Trip, TripEnd),
     /// Bytes that neither end sent arrive at an end.
     Appears {
         at: End,
@@ -69,7 +69,7 @@ pub enum Mark {
     },
 }
 
-impl Fate {
+impl TripEnd {
     /// Returns the label of a trip that ends like this.
     pub fn label(self, trip: &Trip) -> ShortText
         ensures { result ≡ end_label self trip.now }
@@ -80,12 +80,12 @@ impl Fate {
             trip.label
         };
         match self {
-            Fate::Cut { part, of } => label
+            TripEnd::Cut { part, of } => label
                 .with(b", ")
                 .with_number(part as u64)
                 .with(b" of ")
                 .with_number(of as u64),
-            Fate::Arrived | Fate::Lost | Fate::InFlight => label,
+            TripEnd::Arrived | TripEnd::Lost | TripEnd::InFlight => label,
         }
     }
 }

@@ -145,7 +145,7 @@ pub(crate) fn write_element<W: Sink>(
         Mark::Across(text) => write_across(lettering, row, text.as_slice()),
         // Its arrow is drawn once its end is known.
         Mark::Departs(_trip) => {}
-        Mark::Ends(trip, fate) => write_trip(page, writer, lettering, trip, *fate, row),
+        Mark::Ends(trip, trip_end) => write_trip(page, writer, lettering, trip, *trip_end, row),
         Mark::Appears { at, label } => {
             write_appearance(page, writer, lettering, *at, row, label.as_slice());
         }

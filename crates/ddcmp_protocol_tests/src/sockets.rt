@@ -3,8 +3,8 @@
 // stream.
 
 use crate::same::is;
+use ddcmp_io::{Carrier, End, LineFault};
 use ddcmp_net::Sockets;
-use ddcmp_pair::{Carrier, End, LineFault};
 use std::cell::Cell;
 use std::io::{self, ErrorKind, Write};
 use std::net::{Net, OpenListener, SocketAddr, TcpListener, TcpStream};

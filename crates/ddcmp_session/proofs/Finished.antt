@@ -10,8 +10,8 @@ use Rattle.std.proofs.lemmas.List.{take_min}
 use Rattle.ddcmp_io.specs.Queue.{after_taken}
 use Rattle.ddcmp_station.specs.Linking.{after_taking}
 use Rattle.ddcmp_window.specs.Store.{first_message}
-use Rattle.ddcmp_session.specs.declared.devices.Fault.{Fault}
-use Rattle.ddcmp_session.specs.declared.devices.Fault.TheVariants.{Input}
+use Rattle.ddcmp_session.specs.declared.devices.DeviceFault.{DeviceFault}
+use Rattle.ddcmp_session.specs.declared.devices.DeviceFault.TheVariants.{Input}
 use Rattle.ddcmp_io.specs.declared.transfer.Transfer.TheVariants.{Bytes}
 use Rattle.ddcmp_session.specs.Session.{SessionView, form_of}
 use Rattle.ddcmp_session.specs.Calls.{Closed, Delivered, OutputTook, SessionStep, SessionHistory}
@@ -27,7 +27,7 @@ use Rattle.ddcmp_session.proofs.GoingLaws.{end-is, same-at, same-now}
 
 -- ---- nothing was delivered
 
-pub drains-idle : {s s' : SessionView} {k k' : Option Traffic} → (faults : List Fault)
+pub drains-idle : {s s' : SessionView} {k k' : Option Traffic} → (faults : List DeviceFault)
     → s' ≡ s → ((t : Traffic) → k ≡ Some t
     → k' ≡ Some (record t { faults = t.faults ++ faults }))
     → Drains s k s' k'
@@ -59,7 +59,7 @@ drains-still change becomes nothing =
     ∙ ap (λ x. Some x) (nothing t)
     ∙ ap (λ xs. Some (record t { faults = xs })) (sym (append-nil t.faults)))
 
-pub drains-fault : {s : SessionView} {k k' : Option Traffic} → (fault : Fault)
+pub drains-fault : {s : SessionView} {k k' : Option Traffic} → (fault : DeviceFault)
     → Becomes k k' (after_fault fault) → Drains s k s k'
 drains-fault fault becomes = drains-idle (fault ∷ []) refl becomes
 
@@ -167,7 +167,7 @@ drains-then {a} {b} {c} {k0} {k1} {k2} p q =
 
 -- ---- what was reported before is reported still
 
-still-reported : (fault : Fault) (bytes : List ℕ) (faults : List Fault) (t : Traffic)
+still-reported : (fault : DeviceFault) (bytes : List ℕ) (faults : List DeviceFault) (t : Traffic)
     → HasReported fault t → HasReported fault (after_taken_by bytes faults t)
 still-reported fault bytes faults t r = (
   r.0,
@@ -176,7 +176,7 @@ still-reported fault bytes faults t r = (
 )
 
 -- Devices that were known have reported it, whatever the output took since.
-reported-then : {s s' : SessionView} {k k' : Option Traffic} {fault : Fault} (t now : Traffic)
+reported-then : {s s' : SessionView} {k k' : Option Traffic} {fault : DeviceFault} (t now : Traffic)
     → Drains s k s' k' → k ≡ Some t → k' ≡ Some now → HasReported fault t
     → HasReported fault now
 reported-then {s} {s'} {k} {k'} {fault} t now drains is known r =
@@ -224,7 +224,7 @@ ended-agrees held h t old new is stays a =
 
 -- a fault that was reported after the last lines were written
 pub reports-ended : {held : BuffersView} {s0 s1 s2 : SessionView} {k0 k1 k2 : Option Traffic}
-    {fault : Fault} → GoesOn held s0 k0 held s1 k1 → s2 ≡ record s1 { output = s2.output }
+    {fault : DeviceFault} → GoesOn held s0 k0 held s1 k1 → s2 ≡ record s1 { output = s2.output }
     → Reports held s2 k1 k2 fault → Reports held s0 k0 k2 fault
 reports-ended {held} {s0} {s1} {s2} goes stays reports = λ h t now is was a known.
     let g = goes h t is was a in
@@ -267,7 +267,7 @@ ran-to-end {ran} {finished} {closed = closed} {k1 = k1} is ends finishes drains 
 }
 
 module _ {w v : Bool} {held new_held : BuffersView} {old closed new : SessionView}
-    {k0 k1 k2 : Option Traffic} {fault : Fault} (ends : Ends w held old k0 new_held closed k1)
+    {k0 k1 k2 : Option Traffic} {fault : DeviceFault} (ends : Ends w held old k0 new_held closed k1)
     (finishes : Finishes v closed k1 new k2) where
   -- a fault of the run
   reports-run : ReportsOver held old k0 k1 fault → ReportsOver held old k0 k2 fault

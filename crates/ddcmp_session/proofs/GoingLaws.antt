@@ -13,11 +13,11 @@ use Rattle.ddcmp_window.specs.Store.{first_message}
 use Rattle.ddcmp_session.specs.Text.{Wrote, mail_text}
 use Rattle.ddcmp_session.proofs.FrameLaws.{PutsFrames, frames-line}
 use Rattle.ddcmp_io.specs.declared.transfer.Down.{Down}
-use Rattle.ddcmp_session.specs.declared.devices.Fault.{Fault}
+use Rattle.ddcmp_session.specs.declared.devices.DeviceFault.{DeviceFault}
 use Rattle.ddcmp_io.specs.declared.transfer.Transfer.{Transfer}
 use Rattle.ddcmp_io.specs.declared.transfer.Transfer.TheVariants.{Bytes, Nothing, Interrupted}
 use Rattle.ddcmp_io.specs.declared.transfer.Transfer.TheVariants.{Ended}
-use Rattle.ddcmp_session.specs.declared.devices.Fault.TheVariants.{Line, Input}
+use Rattle.ddcmp_session.specs.declared.devices.DeviceFault.TheVariants.{Line, Input}
 use Rattle.ddcmp_session.specs.Session.{SessionView, form_of}
 use Rattle.ddcmp_session.specs.Session.{IsFilled, after_timeout}
 use Rattle.ddcmp_session.specs.Calls.{SessionCall}
@@ -241,7 +241,7 @@ timed-goes {held} {known} now old new does =
 
 -- ---- faults
 
-still : (fault f : Fault) (t : Traffic) → HasReported fault t
+still : (fault f : DeviceFault) (t : Traffic) → HasReported fault t
     → HasReported fault (after_fault f t)
 still fault f t r = (
   r.0,
@@ -249,11 +249,11 @@ still fault f t r = (
   ap (λ xs. xs ++ f ∷ []) r.2 ∙ append_assoc r.0 (fault ∷ r.1) (f ∷ []),
 )
 
-newest : (fault : Fault) (t : Traffic) → HasReported fault (after_fault fault t)
+newest : (fault : DeviceFault) (t : Traffic) → HasReported fault (after_fault fault t)
 newest fault t = (t.faults, [], refl)
 
 -- a device reported a fault, and moved nothing
-pub faulted : {held : BuffersView} {s : SessionView} {k k' : Option Traffic} (fault : Fault)
+pub faulted : {held : BuffersView} {s : SessionView} {k k' : Option Traffic} (fault : DeviceFault)
     → Becomes k k' (after_fault fault) → GoesOn held s k held s k'
 faulted {held} {s} {k} {k'} fault becomes = λ h t is was a. (
   after_fault fault t,
@@ -308,7 +308,7 @@ pub same-now : {x y : Traffic} → Some x ≡ Some y → x ≡ y
 same-now e = cc
 
 -- what was reported just now
-pub reported : {held : BuffersView} {s : SessionView} {k k' : Option Traffic} (fault : Fault)
+pub reported : {held : BuffersView} {s : SessionView} {k k' : Option Traffic} (fault : DeviceFault)
     → Becomes k k' (after_fault fault) → Reports held s k k' fault
 reported fault becomes = λ h t now is was a known.
     subst (HasReported fault) (same-now (sym (becomes t was) ∙ known)) (newest fault t)
@@ -341,7 +341,7 @@ line-was-down why down becomes = λ h t now is was a known.
 
 -- what is reported after a session went on
 pub reports-then : {h0 h1 : BuffersView} {s0 s1 : SessionView} {k0 k1 k2 : Option Traffic}
-    {fault : Fault} → GoesOn h0 s0 k0 h1 s1 k1 → Reports h1 s1 k1 k2 fault
+    {fault : DeviceFault} → GoesOn h0 s0 k0 h1 s1 k1 → Reports h1 s1 k1 k2 fault
     → Reports h0 s0 k0 k2 fault
 reports-then p r = λ h t now is was a known.
     let g = p h t is was a in
@@ -367,8 +367,8 @@ neither true b e = cc
 neither false b e = (refl, e)
 
 -- an error that `?` has passed on
-pub passed-on : {X : Type 0} {r : Result Bool Fault} {v fault : Fault}
+pub passed-on : {X : Type 0} {r : Result Bool DeviceFault} {v fault : DeviceFault}
     → IsErrAnd r (λ w. w ≡ v) → r ≡ Err fault
-    → ◌≡◌ {A = Result X Fault} (Err v) (Err fault)
+    → ◌≡◌ {A = Result X DeviceFault} (Err v) (Err fault)
 passed-on {X} {r} {v} {fault} it is =
     let same : fault ≡ v = subst (λ x. IsErrAnd x (λ w. w ≡ v)) is it in ap (λ x. Err x) (sym same)

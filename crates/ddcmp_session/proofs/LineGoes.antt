@@ -9,7 +9,7 @@ use Rattle.ddcmp_station.specs.Linking.{after_sent}
 use Rattle.ddcmp_io.specs.declared.transfer.Transfer.{Transfer}
 use Rattle.ddcmp_io.specs.declared.transfer.Transfer.TheVariants.{Bytes, Nothing, Interrupted}
 use Rattle.ddcmp_io.specs.declared.transfer.Transfer.TheVariants.{Ended}
-use Rattle.ddcmp_session.specs.declared.devices.Fault.TheVariants.{Line}
+use Rattle.ddcmp_session.specs.declared.devices.DeviceFault.TheVariants.{Line}
 use Rattle.ddcmp_session.specs.Session.{SessionView, form_of}
 use Rattle.ddcmp_session.specs.Calls.{Received, LineTook}
 use Rattle.ddcmp_session.specs.Calls.{OutputTook, HasReceived}

@@ -18,7 +18,7 @@ use Rattle.ddcmp_session.specs.Lines.{KeepsOpen, MayEndWell, ReadyIf, ReportsOve
 use Rattle.ddcmp_session.specs.Lines.{line_begun, none_received}
 use Rattle.ddcmp_session.specs.Timing.{PassesTime, after_failure, after_line}
 use Rattle.ddcmp_session.specs.declared.buffers.lines.Stop.TheVariants.{the_data, Device}
-use Rattle.ddcmp_session.specs.declared.devices.Fault.{Fault}
+use Rattle.ddcmp_session.specs.declared.devices.DeviceFault.{DeviceFault}
 use Rattle.ddcmp_session.proofs.GoingLaws.{end-is, quiet-agrees, stays}
 
 -- ---- over the line that there is
@@ -305,14 +305,14 @@ pub none-over : {R : Type 0} {held : BuffersView} {s s' : SessionView} {k k' : O
 none-over same known = goes-over (stays same known)
 
 pub reports-over : {h0 h1 : BuffersView} {s0 s1 : SessionView} {k0 k1 k2 : Option Traffic}
-    {fault : Fault} → GoesOver h0 s0 k0 h1 s1 k1 → Reports h1 s1 k1 k2 fault
+    {fault : DeviceFault} → GoesOver h0 s0 k0 h1 s1 k1 → Reports h1 s1 k1 k2 fault
     → ReportsOver h0 s0 k0 k2 fault
 reports-over p q = λ c t now is was agrees at.
     let a = p c t is was agrees in
     q (after_all a.2.steps c).history a.0 now a.2.session a.1 a.2.agrees at
 
 pub reports-later : {h0 h1 : BuffersView} {s0 s1 : SessionView} {k0 k1 k2 : Option Traffic}
-    {fault : Fault} → GoesOver h0 s0 k0 h1 s1 k1 → ReportsOver h1 s1 k1 k2 fault
+    {fault : DeviceFault} → GoesOver h0 s0 k0 h1 s1 k1 → ReportsOver h1 s1 k1 k2 fault
     → ReportsOver h0 s0 k0 k2 fault
 reports-later p q = λ c t now is was agrees at.
     let a = p c t is was agrees in
@@ -370,23 +370,24 @@ not-open shut e = cc
 pub refused : {R : Type 0} {r : R} → ◌≡◌ {A = Result Bool R} (Err r) (Ok true) → ⊥
 refused e = cc
 
-pub same-fault : {A B R : Type 0} {f f' : Fault}
+pub same-fault : {A B R : Type 0} {f f' : DeviceFault}
     → ◌≡◌ {A = Result A (the_data R)} (Err (Device f)) (Err (Device f'))
-    → ◌≡◌ {A = Result B Fault} (Err f) (Err f')
+    → ◌≡◌ {A = Result B DeviceFault} (Err f) (Err f')
 same-fault e = cc
 
 pub same-err : {A B E : Type 0} {x y : E} → ◌≡◌ {A = Result A E} (Err x) (Err y)
     → ◌≡◌ {A = Result B E} (Err x) (Err y)
 same-err e = cc
 
-pub reports-at : {h : BuffersView} {s : SessionView} {k0 k1 k2 : Option Traffic} {fault : Fault}
+pub reports-at : {h : BuffersView} {s : SessionView} {k0 k1 k2 : Option Traffic}
+    {fault : DeviceFault}
     → k2 ≡ k1 → ReportsOver h s k0 k1 fault → ReportsOver h s k0 k2 fault
 reports-at {h} {s} {k0} {k1} {k2} {fault} same reports =
     subst (λ k. ReportsOver h s k0 k fault) (sym same) reports
 
 -- the fault is that of the run, or one that came after it
 pub reports-by : {P : Type 0} {h0 h1 : BuffersView} {s0 s1 : SessionView}
-    {k0 k1 k2 : Option Traffic} {fault : Fault} → GoesOver h0 s0 k0 h1 s1 k1
+    {k0 k1 k2 : Option Traffic} {fault : DeviceFault} → GoesOver h0 s0 k0 h1 s1 k1
     → (P → ReportsOver h0 s0 k0 k1 fault) → (P × (k2 ≡ k1)) ⊎ Reports h1 s1 k1 k2 fault
     → ReportsOver h0 s0 k0 k2 fault
 reports-by over ran (inl same) = reports-at same.1 (ran same.0)

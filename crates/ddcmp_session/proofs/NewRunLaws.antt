@@ -3,7 +3,7 @@ use Rattle.std.proofs.Common.{◌≡◌, ◌∙◌, ap, sym, subst, Bool, [], Op
 use Rattle.std.specs.Prelude.{Result, Ok, Err, if◌then◌else◌}
 use Rattle.ddcmp_frame.specs.Reader.{StandsFor}
 use Rattle.ddcmp_session.specs.declared.buffers.lines.Stop.TheVariants.{the_data as Stop}
-use Rattle.ddcmp_session.specs.declared.devices.Fault.{Fault}
+use Rattle.ddcmp_session.specs.declared.devices.DeviceFault.{DeviceFault}
 use Rattle.ddcmp_session.specs.declared.link.LinkFault.TheVariants.{the_data as LinkFault, Stopped}
 use Rattle.ddcmp_session.specs.declared.link.LinkOutcome.{LinkOutcome}
 use Rattle.ddcmp_session.specs.declared.link.LinkOutcome.TheVariants.{Delivered, SomeRefused}
@@ -32,7 +32,7 @@ runs-new {well} {options} {kind} {held} {new_held} {s} {last} {before} {after} n
     }
 
 pub reports-new : {options : Options} {kind : LineKind} {held : BuffersView} {s : SessionView}
-    {before after : Option Traffic} {fault : Fault}
+    {before after : Option Traffic} {fault : DeviceFault}
     → held ≡ nothing_read → s ≡ session_made options kind s.link.station.line
     → StandsFor s.link.station.line [] → ReportsOver held s before after fault
     → ReportsNew options kind before after fault

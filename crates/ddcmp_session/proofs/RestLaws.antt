@@ -2,15 +2,15 @@
 use Rattle.std.proofs.Common.{◌≡◌, ◌∙◌, ◌⊎◌, ap, sym, subst, Bool, false, []}
 use Rattle.std.proofs.Common.{Result, Ok}
 use Rattle.std.specs.Prelude.{◌||◌}
-use Rattle.ddcmp_session.specs.declared.devices.Fault.{Fault}
+use Rattle.ddcmp_session.specs.declared.devices.DeviceFault.{DeviceFault}
 use Rattle.ddcmp_session.specs.Session.{SessionView, IsFilled, wants_input, wants_line}
 use Rattle.ddcmp_session.specs.Devices.{BuffersView, IsIdle, HoldsMail}
 use Rattle.ddcmp_session.proofs.GoingLaws.{neither}
 
-pub ok-false : (b : Bool) → ◌≡◌ {A = Result Bool Fault} (Ok b) (Ok false) → b ≡ false
+pub ok-false : (b : Bool) → ◌≡◌ {A = Result Bool DeviceFault} (Ok b) (Ok false) → b ≡ false
 ok-false b e = cc
 
-pub as-ok : {b : Bool} → b ≡ false → ◌≡◌ {A = Result Bool Fault} (Ok b) (Ok false)
+pub as-ok : {b : Bool} → b ≡ false → ◌≡◌ {A = Result Bool DeviceFault} (Ok b) (Ok false)
 as-ok e = ap (λ x. Ok x) e
 
 -- none of seven moved anything
@@ -23,7 +23,7 @@ pub record None (a b c d e f g : Bool) : Type 0 where
   pub sixth : f ≡ false
 
 pub none : (a b c d e f g : Bool)
-    → ◌≡◌ {A = Result Bool Fault} (Ok ((((((a || b) || c) || d) || e) || f) || g)) (Ok false)
+    → ◌≡◌ {A = Result Bool DeviceFault} (Ok ((((((a || b) || c) || d) || e) || f) || g)) (Ok false)
     → None a b c d e f g
 none a b c d e f g all =
     let n = neither (((((a || b) || c) || d) || e) || f) g (ok-false _ all) in

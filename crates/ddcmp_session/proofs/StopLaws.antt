@@ -8,9 +8,9 @@ use Rattle.ddcmp_io.specs.declared.device.Got.{Got}
 use Rattle.ddcmp_io.specs.declared.device.Got.TheVariants as got
 use Rattle.ddcmp_session.specs.declared.buffers.lines.Stop.TheVariants.{the_data, Device, Left}
 use Rattle.ddcmp_session.specs.declared.buffers.lines.Stop.TheVariants.{NotOpened, Unread}
-use Rattle.ddcmp_session.specs.declared.devices.Fault.{Fault}
-use Rattle.ddcmp_session.specs.declared.devices.Fault.TheVariants.{Input}
-use Rattle.ddcmp_session.specs.declared.devices.Fault.TheVariants as fault
+use Rattle.ddcmp_session.specs.declared.devices.DeviceFault.{DeviceFault}
+use Rattle.ddcmp_session.specs.declared.devices.DeviceFault.TheVariants.{Input}
+use Rattle.ddcmp_session.specs.declared.devices.DeviceFault.TheVariants as fault
 use Rattle.ddcmp_session.specs.declared.session.EndReason.TheVariants as end_of
 use Rattle.ddcmp_session.specs.Devices.{Becomes, BuffersView, HasReported, KeepsFaults, Traffic}
 use Rattle.ddcmp_session.specs.Devices.{after_fault, after_read, after_wait}
@@ -78,7 +78,7 @@ keeps-then p q = λ t is.
     let a = p t is in
     let b = q a.0 a.1 in (b.0, b.1, λ f has. b.2 f (a.2 f has))
 
-kept : (f : Fault) (fault : Fault) (t : Traffic) → HasReported f t
+kept : (f : DeviceFault) (fault : DeviceFault) (t : Traffic) → HasReported f t
     → HasReported f (after_fault fault t)
 kept f fault t has = (
   has.0,
@@ -86,7 +86,7 @@ kept f fault t has = (
   ap (λ xs. xs ++ fault ∷ []) has.2 ∙ append_assoc has.0 (f ∷ has.1) (fault ∷ []),
 )
 
-pub keeps-fault : {k k' : Option Traffic} (fault : Fault) → Becomes k k' (after_fault fault)
+pub keeps-fault : {k k' : Option Traffic} (fault : DeviceFault) → Becomes k k' (after_fault fault)
     → KeepsFaults k k'
 keeps-fault fault becomes = λ t is.
     (after_fault fault t, becomes t is, λ f has. kept f fault t has)
@@ -108,7 +108,8 @@ keeps-read got.Failed space becomes = keeps-fault Input becomes
 some-is : {t t' : Traffic} → ◌≡◌ {A = Option Traffic} (Some t) (Some t') → t ≡ t'
 some-is e = cc
 
-reports-kept : {h0 h1 : BuffersView} {s0 s1 : SessionView} {k0 k1 k2 : Option Traffic} {f : Fault}
+reports-kept : {h0 h1 : BuffersView} {s0 s1 : SessionView} {k0 k1 k2 : Option Traffic}
+    {f : DeviceFault}
     → GoesOver h0 s0 k0 h1 s1 k1 → KeepsFaults k1 k2 → ReportsOver h0 s0 k0 k1 f
     → ReportsOver h0 s0 k0 k2 f
 reports-kept {h0} {h1} {s0} {s1} {k0} {k1} {k2} {f} over keeps reports = λ c t now is was agrees at.
@@ -161,22 +162,22 @@ module _ {R : Type 0} {ran : Result (Unit {0}) (the_data R)} {h0 h1 : BuffersVie
     time = λ e. time (judges.time e);
   }
 
-not-left : {R : Type 0} {f : Fault}
+not-left : {R : Type 0} {f : DeviceFault}
     → ◌≡◌ {A = Result (Unit {0}) (the_data R)} (Err (Device f)) (Err Left) → ⊥
 not-left e = cc
 
-not-unread : {R : Type 0} {f : Fault}
+not-unread : {R : Type 0} {f : DeviceFault}
     → ◌≡◌ {A = Result (Unit {0}) (the_data R)} (Err (Device f)) (Err Unread) → ⊥
 not-unread e = cc
 
-not-shut : {R : Type 0} {f : Fault} {refusal : R}
+not-shut : {R : Type 0} {f : DeviceFault} {refusal : R}
     → ◌≡◌ {A = Result (Unit {0}) (the_data R)} (Err (Device f)) (Err (NotOpened refusal)) → ⊥
 not-shut e = cc
 
 -- a run that ended as its lines did, or by a fault after lines that ended well
 pub to-end : {R : Type 0} {ran result : Result (Unit {0}) (the_data R)} {held : BuffersView}
     {old s : SessionView} {k0 k1 : Option Traffic}
-    → (result ≡ ran) ⊎ ((f : Fault) × (ran ≡ Ok tt) × (result ≡ Err (Device f)))
+    → (result ≡ ran) ⊎ ((f : DeviceFault) × (ran ≡ Ok tt) × (result ≡ Err (Device f)))
     → Stops ran held old k0 s k1 → StopsToEnd result held old k0 s k1
 to-end (inl same) ran = record {
   well = λ e. ran.well (sym same ∙ e);

@@ -8,8 +8,8 @@ use Rattle.ddcmp_io.specs.declared.device.Got.{Got}
 use Rattle.ddcmp_io.specs.declared.device.Got.TheVariants as got
 use Rattle.ddcmp_io.specs.Transfers.{count_moved}
 use Rattle.ddcmp_io.specs.declared.transfer.Down.{Down}
-use Rattle.ddcmp_session.specs.declared.devices.Fault.{Fault}
-use Rattle.ddcmp_session.specs.declared.devices.Fault.TheVariants.{Line, Input, Output}
+use Rattle.ddcmp_session.specs.declared.devices.DeviceFault.{DeviceFault}
+use Rattle.ddcmp_session.specs.declared.devices.DeviceFault.TheVariants.{Line, Input, Output}
 use Rattle.ddcmp_io.specs.declared.transfer.Transfer.{Transfer}
 use Rattle.ddcmp_io.specs.declared.transfer.Wanted.{Wanted}
 use Rattle.ddcmp_io.specs.declared.transfer.Transfer.TheVariants.{Ended}
@@ -29,21 +29,21 @@ pub record Traffic : Type 0 where
   pub came : List ℕ
   pub gone : List ℕ
   pub written : List ℕ
-  pub faults : List Fault
+  pub faults : List DeviceFault
 
-abbrev pub HasReported : Fault → Traffic → Type 0
-HasReported fault t = (before after : List Fault) × (t.faults ≡ before ++ fault ∷ after)
+abbrev pub HasReported : DeviceFault → Traffic → Type 0
+HasReported fault t = (before after : List DeviceFault) × (t.faults ≡ before ++ fault ∷ after)
 
 -- Every fault that was reported before is still reported afterwards.
 abbrev pub KeepsFaults : Option Traffic → Option Traffic → Type 0
 KeepsFaults old new = (before : Traffic) → old ≡ Some before
     → (after : Traffic) × (new ≡ Some after)
-    × ((fault : Fault) → HasReported fault before → HasReported fault after)
+    × ((fault : DeviceFault) → HasReported fault before → HasReported fault after)
 
 -- ---- what a call of a device adds to that
 
 -- a fault was reported
-abbrev pub after_fault : Fault → Traffic → Traffic
+abbrev pub after_fault : DeviceFault → Traffic → Traffic
 after_fault fault t = record t { faults = t.faults ++ fault ∷ [] }
 
 -- how many bytes were read
@@ -149,7 +149,8 @@ GoesOn held old before new_held new after =
 
 -- If session and devices agreed before, some device has reported this fault, in this call or
 -- earlier.
-abbrev pub Reports : BuffersView → SessionView → Option Traffic → Option Traffic → Fault → Type 0
+abbrev pub Reports : BuffersView → SessionView → Option Traffic → Option Traffic → DeviceFault
+    → Type 0
 Reports held old before after fault = (h : SessionHistory) (t now : Traffic)
     → h.session ≡ old → before ≡ Some t → Agrees held h t → after ≡ Some now
     → HasReported fault now

@@ -3,7 +3,7 @@ use Rattle.std.specs.Prelude.{◌≡◌, ◌≤◌, ⊤, ℕ, Bool, true, false,
 use Rattle.std.specs.Prelude.{Option, None, Some}
 use Rattle.ddcmp_io.specs.Written.{HandsOver}
 use Rattle.ddcmp_window.specs.Store.{first_message}
-use Rattle.ddcmp_session.specs.declared.devices.Fault.{Fault}
+use Rattle.ddcmp_session.specs.declared.devices.DeviceFault.{DeviceFault}
 use Rattle.ddcmp_streams.specs.declared.messages.MessageForm.TheVariants.{Digits, Binary}
 use Rattle.ddcmp_session.specs.Session.{SessionView, form_of, room_for_mail}
 use Rattle.ddcmp_session.specs.Calls.{SessionCall, Delivered, OutputTook, SessionDoes}
@@ -34,7 +34,7 @@ taken_in [] s = []
 taken_in (step ∷ rest) s = written_in step.call s ++ taken_in rest step.session
 
 -- The output took these bytes, and these faults were reported.
-abbrev pub after_taken_by : List ℕ → List Fault → Traffic → Traffic
+abbrev pub after_taken_by : List ℕ → List DeviceFault → Traffic → Traffic
 after_taken_by bytes faults t =
     record t { written = t.written ++ bytes; faults = t.faults ++ faults }
 
@@ -44,7 +44,7 @@ pub record Drains (old : SessionView) (before : Option Traffic) (new : SessionVi
     (after : Option Traffic) : Type 0 where
   pub steps : List SessionStep
   pub calls : AreDeliveries steps old new
-  pub traffic : (t : Traffic) → before ≡ Some t → (faults : List Fault)
+  pub traffic : (t : Traffic) → before ≡ Some t → (faults : List DeviceFault)
       × (after ≡ Some (after_taken_by (taken_in steps old) faults t))
 
 -- an empty output has all of its room

@@ -6,7 +6,7 @@ use Rattle.ddcmp_session.specs.Calls.{SessionCall, SessionHistory, SessionStep, 
 use Rattle.ddcmp_session.specs.Calls.{Connected, after_session_step}
 use Rattle.ddcmp_session.specs.Connections.{Connection, AreDone, after_all, after_step}
 use Rattle.ddcmp_session.specs.Devices.{Agrees, BuffersView, HasReported, Traffic}
-use Rattle.ddcmp_session.specs.declared.devices.Fault.{Fault}
+use Rattle.ddcmp_session.specs.declared.devices.DeviceFault.{DeviceFault}
 
 -- a line was opened: its traffic restarts empty
 abbrev pub line_begun : Traffic → Traffic
@@ -72,7 +72,7 @@ abbrev pub StaysOver : BuffersView → SessionView → Option Traffic
 StaysOver held old before new_held new after = GoesIf ⊤ held old before new_held new after
 
 -- Some device has reported this fault, over some line.
-abbrev pub ReportsOver : BuffersView → SessionView → Option Traffic → Option Traffic → Fault
+abbrev pub ReportsOver : BuffersView → SessionView → Option Traffic → Option Traffic → DeviceFault
     → Type 0
 ReportsOver held old before after fault = (c : Connection) (t now : Traffic)
     → c.history.session ≡ old → before ≡ Some t → Agrees held c.history t → after ≡ Some now

@@ -1,7 +1,7 @@
 -- A new session, and its run over devices to its end.
 use Rattle.std.specs.Prelude.{Bool, [], Option, if◌then◌else◌}
 use Rattle.ddcmp_frame.specs.Reader.{ReaderView, StandsFor}
-use Rattle.ddcmp_session.specs.declared.devices.Fault.{Fault}
+use Rattle.ddcmp_session.specs.declared.devices.DeviceFault.{DeviceFault}
 use Rattle.ddcmp_session.specs.declared.link.LinkOutcome.{LinkOutcome}
 use Rattle.ddcmp_session.specs.declared.link.LinkOutcome.TheVariants.{Delivered, SomeRefused}
 use Rattle.ddcmp_io.specs.declared.line_kind.LineKind.{LineKind}
@@ -26,7 +26,7 @@ pub record RunsNew (is_well : Bool) (options : Options) (kind : LineKind) (befor
 -- A session was made with these options, and some device has reported this fault, over some line of
 -- its run.
 pub record ReportsNew (options : Options) (kind : LineKind) (before after : Option Traffic)
-    (fault : Fault) : Type 0 where
+    (fault : DeviceFault) : Type 0 where
   pub line : ReaderView
   pub clear : StandsFor line []
   pub reports : ReportsOver nothing_read (session_made options kind line) before after fault

@@ -3,7 +3,7 @@ use Rattle.std.specs.Prelude.{◌≡◌, ◌≢◌, ◌⊎◌, ℕ, false, [], O
 use Rattle.ddcmp_session.specs.declared.buffers.lines.Stop.TheVariants.{the_data, Device, Left}
 use Rattle.ddcmp_session.specs.declared.buffers.lines.Stop.TheVariants.{Lost, NotOpened, Unread}
 use Rattle.ddcmp_io.specs.declared.transfer.Down.{Down}
-use Rattle.ddcmp_session.specs.declared.devices.Fault.TheVariants as fault
+use Rattle.ddcmp_session.specs.declared.devices.DeviceFault.TheVariants as fault
 use Rattle.ddcmp_session.specs.declared.session.EndReason.TheVariants as end_of
 use Rattle.ddcmp_session.specs.Devices.{BuffersView, Traffic}
 use Rattle.ddcmp_session.specs.Lines.{ReportsOver}

@@ -98,7 +98,7 @@ pub trait Devices {
 
 /// The reason why a session can't continue over its devices.
 #[derive(Clone, Copy, PartialEq, Eq)]
-pub enum Fault {
+pub enum DeviceFault {
     /// The line has ended or failed.
     Line(Down),
     /// The input failed, or a wait failed.

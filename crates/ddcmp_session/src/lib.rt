@@ -14,6 +14,6 @@ mod text;
 pub use buffers::{Buffers, Stop, drain_errors, drain_output};
 pub use ddcmp_io::LineKind;
 pub use ddcmp_streams::{EVENT_ROOM, MessageForm, Options};
-pub use devices::{Devices, Down, Fault, Transfer, Wanted};
+pub use devices::{DeviceFault, Devices, Down, Transfer, Wanted};
 pub use link::{LinkFault, LinkOutcome, run_link};
 pub use session::{EndReason, Session};

@@ -5,11 +5,11 @@ ghost use Rattle.ddcmp_proto.specs.Config.{first_refusal};
 ghost use Rattle.ddcmp_proto.specs.declared.config.ConfigRefusal.{ConfigRefusal as Refusal};
 ghost use Rattle.ddcmp_session.specs.Session.{SessionView, session_made};
 ghost use Rattle.ddcmp_session.specs.NewRun.{ReportsNew, RunsNew, served_of};
-ghost use Rattle.ddcmp_session.specs.declared.devices.Fault.{Fault as FaultValue};
+ghost use Rattle.ddcmp_session.specs.declared.devices.DeviceFault.{DeviceFault as FaultValue};
 ghost use Rattle.ddcmp_session.specs.declared.link.LinkOutcome.{LinkOutcome as LinkOutcomeValue};
 
 use crate::buffers::{Buffers, Stop};
-use crate::devices::{Devices, Fault};
+use crate::devices::{DeviceFault, Devices};
 use crate::session::Session;
 use ddcmp_io::LineKind;
 use ddcmp_station::ConfigRefusal;
@@ -62,7 +62,7 @@ pub fn run_link<D: Devices>(
     ensures unread { result ≡ Err (LinkFault.Stopped Stop.Unread) → (last : SessionView)
         × RunsNew false options kind (D.traffic devices.old) last (D.traffic devices.new)
         × (last.course.lost ≡ 0) }
-    ensures reports { (fault : FaultValue) → fault ≢ Fault.Time
+    ensures reports { (fault : FaultValue) → fault ≢ DeviceFault.Time
         → result ≡ Err (LinkFault.Stopped (Stop.Device fault))
         → ReportsNew options kind (D.traffic devices.old) (D.traffic devices.new) fault }
 {

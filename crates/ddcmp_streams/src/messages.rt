@@ -7,7 +7,7 @@ ghost use Rattle.ddcmp_streams.specs.Messages.{after_last, entry_of_last, has_la
 ghost use Rattle.ddcmp_streams.specs.Messages.{is_question};
 ghost use Rattle.ddcmp_streams.specs.Messages.{line_number};
 
-use ddcmp_input::{Entry, HexLines, Lengths, Pushed};
+use ddcmp_input::{Entry, HexLines, Lengths, PushedEntry};
 use std::alloc::{AllocError, Global};
 
 /// How messages are written on standard input and output.
@@ -57,7 +57,7 @@ impl Messages {
     }
 
     /// Handles bytes of the input, up to the first that completes a message or a part that is none.
-    pub fn push(&mut self, bytes: &[u8]) -> Pushed
+    pub fn push(&mut self, bytes: &[u8]) -> PushedEntry
         ensures used { result.used ≤ length bytes.now }
         ensures first { (n : ℕ) (entry : Entry) → result.entry ≡ Some entry → result.used ≡ n + 1
             → entries_of_input (take n bytes.now) self.old ≡ [] }

@@ -3,8 +3,8 @@ ghost use Rattle.std.specs.Prelude.{◌≡◌, ◌≤◌, length, take};
 ghost use Rattle.ddcmp_io.specs.Queue.{after_pushed};
 
 use crate::sessions::append;
-use ddcmp_bridge::{Bridge, BridgeStop, Counts, Fate, Faults, Lines, Needs, Way};
-use ddcmp_io::ByteQueue;
+use ddcmp_bridge::{Bridge, BridgeStop, Counts, Fate, Faults, LinePair, Needs};
+use ddcmp_io::{ByteQueue, End};
 use std::process::Abort;
 
 /// The bytes that each line returns, and all that was moved so far. No line is ever down.
@@ -41,7 +41,7 @@ fn take_some(bytes: &[u8], taken: &mut ByteQueue) -> usize
     n
 }
 
-impl Lines for Joined {
+impl LinePair for Joined {
     ghost use Rattle.std.specs.Prelude.{Some, false};
     ghost use Rattle.ddcmp_bridge.specs.Joining.{Passage, Traffic};
 
@@ -50,25 +50,25 @@ impl Lines for Joined {
       back = record { came = l.back_came.waiting; gone = l.back_gone.waiting };
     }) };
 
-    ghost down = { λ l way. false };
+    ghost down = { λ l from. false };
 
     ghost moment = { λ l. l.moment };
 
-    fn read(&mut self, way: Way, space: &mut [u8]) -> Option<usize> {
-        match way {
-            Way::There => Some(give(self.first.as_slice(), &mut self.there_came, space)),
-            Way::Back => Some(give(self.second.as_slice(), &mut self.back_came, space)),
+    fn read(&mut self, from: End, space: &mut [u8]) -> Option<usize> {
+        match from {
+            End::A => Some(give(self.first.as_slice(), &mut self.there_came, space)),
+            End::B => Some(give(self.second.as_slice(), &mut self.back_came, space)),
         }
     }
 
-    fn write(&mut self, way: Way, bytes: &[u8]) -> Option<usize> {
-        match way {
-            Way::There => Some(take_some(bytes, &mut self.there_gone)),
-            Way::Back => Some(take_some(bytes, &mut self.back_gone)),
+    fn write(&mut self, from: End, bytes: &[u8]) -> Option<usize> {
+        match from {
+            End::A => Some(take_some(bytes, &mut self.there_gone)),
+            End::B => Some(take_some(bytes, &mut self.back_gone)),
         }
     }
 
-    fn is_down(&self, _way: Way) -> bool {
+    fn is_down(&self, _from: End) -> bool {
         false
     }
 
@@ -76,7 +76,7 @@ impl Lines for Joined {
         false
     }
 
-    fn log(&mut self, _way: Way, _now: u64, _bytes: &[u8], _fate: Option<Fate>) {}
+    fn log(&mut self, _from: End, _now: u64, _bytes: &[u8], _fate: Option<Fate>) {}
 
     fn wait(&mut self, _there: Needs, _back: Needs, _most_ms: u64) -> bool {
         true
@@ -148,6 +148,6 @@ fn good_frames_come_to_the_other_line(rt: HostRuntime) {
     assert!(rt; lines.there_gone.waiting() == GOOD);
     assert!(rt; lines.back_came.waiting() == BACK);
     assert!(rt; lines.back_gone.waiting() == BACK.get(..8).unwrap_or(&[]));
-    assert!(rt; bridge.counts(Way::There) == counts(2, 14, 1));
-    assert!(rt; bridge.counts(Way::Back) == counts(1, 3, 0));
+    assert!(rt; bridge.counts(End::A) == counts(2, 14, 1));
+    assert!(rt; bridge.counts(End::B) == counts(1, 3, 0));
 }

@@ -1,14 +1,14 @@
 -- How far a script has been played.
 use Rattle.std.specs.Prelude.{◌≡◌, ℕ, ◌+◌, Bool, false, List, [], ◌++◌, length, Option, Some}
 use Rattle.std.specs.Prelude.{Result, Ok, Err}
-use Rattle.ddcmp_pair.specs.Carriages.{Carriage}
+use Rattle.ddcmp_io.specs.Carriages.{Carriage}
 use Rattle.ddcmp_pair.specs.Run.{PairState}
 use Rattle.ddcmp_line.specs.declared.player.Player.{Player}
 use Rattle.ddcmp_io.specs.Written.{Known, Output, HandsOver}
 use Rattle.ddcmp_line.specs.declared.command.ParsedLine.TheVariants as reading
-use Rattle.ddcmp_line.specs.declared.performer.Stop.{Stop}
-use Rattle.ddcmp_line.specs.declared.performer.Stop.TheVariants.{NoCommand, NotHex, Write}
-use Rattle.ddcmp_line.specs.declared.performer.Stop.TheVariants.{Memory, Carrier}
+use Rattle.ddcmp_line.specs.declared.performer.Undone.{Undone}
+use Rattle.ddcmp_line.specs.declared.performer.Undone.TheVariants.{NoCommand, NotHex, Write}
+use Rattle.ddcmp_line.specs.declared.performer.Undone.TheVariants.{Memory, Carrier}
 use Rattle.ddcmp_line.specs.ScriptWords.{lines_of}
 use Rattle.ddcmp_line.specs.Script.{Between, DoneLine}
 use Rattle.ddcmp_line.specs.ScriptEnds.{Around, around, HasNoLf, Begins, Did, StoppedAt, Broken}
@@ -62,7 +62,7 @@ IsPlaying input left player way =
     (rest : List ℕ) × (left ≡ Some rest) × HasDone input rest player way
 
 -- why a line wasn't done, after `number` lines that were
-abbrev pub Stops : List ℕ → ℕ → Course → Stop → Type 0
+abbrev pub Stops : List ℕ → ℕ → Course → Undone → Type 0
 Stops input number way NoCommand =
     StoppedAt (λ r. r ≡ reading.NoCommand) (number + 1) input way.around (HandedOver way)
 Stops input number way NotHex =
@@ -73,7 +73,7 @@ Stops input number way Carrier =
     StoppedAt AsksCarrier (number + 1) input way.around (HandedOver way)
 
 -- the bytes before `rest` were played, or why not
-abbrev pub PlaysOn : List ℕ → List ℕ → PlayerView → Course → Result (Unit {0}) Stop → Type 0
+abbrev pub PlaysOn : List ℕ → List ℕ → PlayerView → Course → Result (Unit {0}) Undone → Type 0
 PlaysOn input rest player way (Ok u) = HasDone input rest player way
 PlaysOn input rest player way (Err stop) = Stops input player.number way stop
 
@@ -93,7 +93,7 @@ moment player output pair told = record {
 }
 
 -- a chunk of an input was played, or why not
-abbrev pub Takes : List ℕ → Bool → Moment → Moment → Result (Unit {0}) Stop → Type 0
+abbrev pub Takes : List ℕ → Bool → Moment → Moment → Result (Unit {0}) Undone → Type 0
 Takes piece is_direct old new result =
     (input rest : List ℕ) (p : PairState) (d : Bool) (log : Option (List Carriage))
     (start : Output) → is_direct ≡ d
@@ -103,6 +103,6 @@ Takes piece is_direct old new result =
     result
 
 -- the same for the last line
-abbrev pub PlaysOut : List ℕ → ℕ → Course → Result (Unit {0}) Stop → Type 0
+abbrev pub PlaysOut : List ℕ → ℕ → Course → Result (Unit {0}) Undone → Type 0
 PlaysOut input number way (Ok u) = HasDoneAll input way
 PlaysOut input number way (Err stop) = Stops input number way stop

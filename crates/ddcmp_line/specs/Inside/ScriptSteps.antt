@@ -3,16 +3,16 @@ use Rattle.std.specs.Prelude.{◌≡◌, ◌⊎◌, ◌↔◌, ℕ, Bool, false,
 use Rattle.std.specs.Prelude.{Err}
 use Rattle.ddcmp_io.specs.Device.{Logs}
 use Rattle.ddcmp_io.specs.Written.{Output, HandsOver}
-use Rattle.ddcmp_pair.specs.declared.event.End.{End}
+use Rattle.ddcmp_io.specs.declared.carrier.End.{End}
 use Rattle.ddcmp_line.specs.declared.command.ScriptCommand.TheVariants.{Carry}
 use Rattle.ddcmp_line.specs.declared.command.ParsedLine.{ParsedLine}
 use Rattle.ddcmp_line.specs.declared.command.ParsedLine.TheVariants as reading
-use Rattle.ddcmp_line.specs.declared.performer.Stop.{Stop}
-use Rattle.ddcmp_line.specs.declared.performer.Stop.TheVariants.{NoCommand, NotHex, Write}
-use Rattle.ddcmp_line.specs.declared.performer.Stop.TheVariants.{Memory, Carrier}
+use Rattle.ddcmp_line.specs.declared.performer.Undone.{Undone}
+use Rattle.ddcmp_line.specs.declared.performer.Undone.TheVariants.{NoCommand, NotHex, Write}
+use Rattle.ddcmp_line.specs.declared.performer.Undone.TheVariants.{Memory, Carrier}
 use Rattle.ddcmp_pair.specs.Run.{PairState}
 use Rattle.ddcmp_pair.specs.Settle.{WantsMemory}
-use Rattle.ddcmp_pair.specs.Carriages.{Carriage}
+use Rattle.ddcmp_io.specs.Carriages.{Carriage}
 use Rattle.ddcmp_line.specs.Script.{events_by, Between, Scene, Effect, Carries, after_outcome}
 use Rattle.ddcmp_line.specs.Script.{scene_after, text_of, carriages_by}
 
@@ -39,13 +39,13 @@ IsUntouched is_direct log log_after old new =
     (new.pair ≡ old.pair) × Carries is_direct log log_after []
 
 -- an allocation failure stops a line
-abbrev pub stopped_of : {E : Type 0} → Result (Unit {0}) E → Result (Unit {0}) Stop
+abbrev pub stopped_of : {E : Type 0} → Result (Unit {0}) E → Result (Unit {0}) Undone
 stopped_of (Ok u) = Ok u
 stopped_of (Err m) = Err Memory
 
 -- the effect of a line, for each result
 abbrev pub LineEnds : Bool → Option (List Carriage) → Option (List Carriage) → ParsedLine → Scene
-    → Scene → Output → Output → Result (Unit {0}) Stop → Type 0
+    → Scene → Output → Output → Result (Unit {0}) Undone → Type 0
 LineEnds is_direct log log_after r old new before after (Ok u) =
     (came : List ℕ) × (r ≡ reading.NoCommand → ⊥) × (r ≡ reading.NotHex → ⊥)
     × (new ≡ scene_after r came old) × HandsOver before after (text_of r came old)
@@ -65,7 +65,7 @@ LineEnds is_direct log log_after r old new before after (Err Memory) =
 
 -- What a result implies for the sink and the carrier: Err Write, that a write failed; Err Carrier,
 -- that the carrier did, after all buffered text was written.
-pub record TellsDevices (output : Output) (is_down : Bool) (result : Result (Unit {0}) Stop)
+pub record TellsDevices (output : Output) (is_down : Bool) (result : Result (Unit {0}) Undone)
     : Type 0 where
   pub write : result ≡ Err Write → IsTrue output.broken
   pub one : result ≡ Err Carrier → (output.broken ≡ false) × (output.waiting ≡ [])

@@ -1,5 +1,5 @@
 //! Messages of an input, in lines and in binary, pushed in one chunk and byte by byte.
-use ddcmp_input::{Entry, HexLines, Lengths, Pushed};
+use ddcmp_input::{Entry, HexLines, Lengths, PushedEntry};
 use std::process::Abort;
 
 fn lines(rt: &(impl Abort + AllocGlobal)) -> HexLines {
@@ -57,7 +57,7 @@ fn lines_are_counted(rt: HostRuntime) {
     let first = lines.push_all(b"\n616263\nx\n62");
     assert!(&rt;
         first
-            == Pushed {
+            == PushedEntry {
                 used: 8,
                 entry: Some(Entry::Message)
             }
@@ -67,7 +67,7 @@ fn lines_are_counted(rt: HostRuntime) {
     let second = lines.push_all(b"x\n62");
     assert!(&rt;
         second
-            == Pushed {
+            == PushedEntry {
                 used: 2,
                 entry: Some(Entry::NotHexadecimal)
             }
@@ -84,7 +84,7 @@ fn messages_after_lengths(rt: HostRuntime) {
     let first = lengths.push_all(b"\x00\x03abc\x00\x00");
     assert!(&rt;
         first
-            == Pushed {
+            == PushedEntry {
                 used: 5,
                 entry: Some(Entry::Message)
             }
@@ -94,7 +94,7 @@ fn messages_after_lengths(rt: HostRuntime) {
     assert!(&rt; !lengths.is_unfinished());
     let long = lengths.push_all(b"\x00\x04abcd\x00\x01z");
     assert!(&rt;
-        long == Pushed {
+        long == PushedEntry {
             used: 2,
             entry: Some(Entry::TooLong)
         }
@@ -103,7 +103,7 @@ fn messages_after_lengths(rt: HostRuntime) {
     let passed = lengths.push_all(b"abcd\x00\x01z");
     assert!(&rt;
         passed
-            == Pushed {
+            == PushedEntry {
                 used: 7,
                 entry: Some(Entry::Message)
             }

@@ -2,12 +2,12 @@
 ghost use Rattle.std.specs.Prelude.{◌≡◌, ◌≢◌, ◌&&◌, ◌⊎◌, Err, Ok, is_ok};
 ghost use Rattle.ddcmp_session.specs.Devices.{BuffersView, GoesOn, Reports};
 ghost use Rattle.ddcmp_session.specs.Finishing.{Drains, Finishes, IsDrained};
-ghost use Rattle.ddcmp_session.specs.declared.devices.Fault.{Fault as FaultValue};
+ghost use Rattle.ddcmp_session.specs.declared.devices.DeviceFault.{DeviceFault as FaultValue};
 
 use crate::buffers::Buffers;
 use crate::buffers::lines::Stop;
 use crate::buffers::runner::{END_MS, drain_errors, drain_output};
-use crate::devices::{Devices, Fault};
+use crate::devices::{DeviceFault, Devices};
 use crate::session::Session;
 
 impl Buffers {
@@ -15,7 +15,7 @@ impl Buffers {
     ghost use Rattle.ddcmp_session.specs.Finishing.{RunsToEnd};
     ghost use Rattle.ddcmp_session.specs.Lines.{ReportsOver};
     ghost use Rattle.ddcmp_session.specs.Stopping.{StopsToEnd};
-    ghost use Rattle.ddcmp_session.specs.declared.devices.Fault.{Fault as FaultValue};
+    ghost use Rattle.ddcmp_session.specs.declared.devices.DeviceFault.{DeviceFault as FaultValue};
 
     /// Runs a new session as `run_lines` does, and then writes all received messages and the last
     /// lines. It ends well only if nothing is lost and all output was written.
@@ -37,7 +37,7 @@ impl Buffers {
         ensures left { result ≡ Err Stop.Left → session.new.state.course.has_run ≡ false }
         ensures unread { result ≡ Err Stop.Unread
             → (self.new.is_over ≡ false) × (session.new.state.course.lost ≡ 0) }
-        ensures reports { (fault : FaultValue) → fault ≢ Fault.Time
+        ensures reports { (fault : FaultValue) → fault ≢ DeviceFault.Time
             → result ≡ Err (Stop.Device fault) → ReportsOver self.old session.old.state
             (D.traffic devices.old) (D.traffic devices.new) fault }
     {
@@ -49,7 +49,10 @@ impl Buffers {
 }
 
 /// Returns the result of a run: that of its lines, and if that is `Ok` that of its output.
-fn outcome<R: Copy>(ran: Result<(), Stop<R>>, finished: Result<(), Fault>) -> Result<(), Stop<R>>
+fn outcome<R: Copy>(
+    ran: Result<(), Stop<R>>,
+    finished: Result<(), DeviceFault>,
+) -> Result<(), Stop<R>>
     ensures well { is_ok result ≡ is_ok ran && is_ok finished }
     ensures whole { result ≡ Ok tt → (ran ≡ Ok tt) × (finished ≡ Ok tt) }
     ensures fault { (fault : FaultValue) → result ≡ Err (Stop.Device fault)
@@ -71,11 +74,11 @@ fn outcome<R: Copy>(ran: Result<(), Stop<R>>, finished: Result<(), Fault>) -> Re
 }
 
 /// Writes all received messages, and then the last lines.
-fn finish<D: Devices>(session: &mut Session, devices: &mut D) -> Result<(), Fault>
+fn finish<D: Devices>(session: &mut Session, devices: &mut D) -> Result<(), DeviceFault>
     ensures finishes { Finishes (is_ok result) session.old.state (D.traffic devices.old)
         session.new.state (D.traffic devices.new) }
     ensures reports { (held : BuffersView) (fault : FaultValue) → result ≡ Err fault
-        → fault ≢ Fault.Time
+        → fault ≢ DeviceFault.Time
         → Reports held session.old.state (D.traffic devices.old) (D.traffic devices.new) fault }
     ensures course { session.new.state.course ≡ session.old.state.course }
     ensures log { session.new.log ≡ record session.old.log {
@@ -92,13 +95,13 @@ fn finish<D: Devices>(session: &mut Session, devices: &mut D) -> Result<(), Faul
 }
 
 /// Writes all received messages, and reports it if they are lost since the output isn't read.
-fn deliver_rest<D: Devices>(session: &mut Session, devices: &mut D) -> Result<(), Fault>
+fn deliver_rest<D: Devices>(session: &mut Session, devices: &mut D) -> Result<(), DeviceFault>
     ensures drains { Drains session.old.state (D.traffic devices.old)
         session.new.state (D.traffic devices.new) }
     ensures on { (held : BuffersView) → GoesOn held session.old.state (D.traffic devices.old)
         held session.new.state (D.traffic devices.new) }
     ensures reports { (held : BuffersView) (fault : FaultValue) → result ≡ Err fault
-        → fault ≢ Fault.Time
+        → fault ≢ DeviceFault.Time
         → Reports held session.old.state (D.traffic devices.old) (D.traffic devices.new) fault }
     ensures course { session.new.state.course ≡ session.old.state.course }
     ensures log { session.new.log ≡ record session.old.log {
@@ -109,7 +112,7 @@ fn deliver_rest<D: Devices>(session: &mut Session, devices: &mut D) -> Result<()
 {
     let drained = drain_output(session, devices);
     session.finish();
-    if drained == Err(Fault::Time) {
+    if drained == Err(DeviceFault::Time) {
         session.report_unread();
     }
     drained

@@ -4,10 +4,10 @@ ghost use Rattle.std.specs.Prelude.{◌≡◌, ◌≢◌, Err, Ok, Option, false
 ghost use Rattle.ddcmp_session.specs.Devices.{BuffersView, GoesOn, HoldsMail, OnlyDelivers};
 ghost use Rattle.ddcmp_session.specs.Devices.{Reports, Traffic};
 ghost use Rattle.ddcmp_session.specs.Finishing.{Drains, HasRoomIfEmpty};
-ghost use Rattle.ddcmp_session.specs.declared.devices.Fault.{Fault as FaultValue};
+ghost use Rattle.ddcmp_session.specs.declared.devices.DeviceFault.{DeviceFault as FaultValue};
 
 use crate::buffers::Buffers;
-use crate::devices::{Devices, Fault, Transfer, Wanted};
+use crate::devices::{DeviceFault, Devices, Transfer, Wanted};
 use crate::session::{EndReason, Session};
 use ddcmp_io::Got;
 
@@ -44,7 +44,7 @@ impl Buffers {
     ghost use Rattle.ddcmp_session.specs.Devices.{GoesOn, HoldsMail, KeepsFaults, Reports, Rests};
     ghost use Rattle.ddcmp_session.specs.Devices.{IsIdle, Traffic};
     ghost use Rattle.ddcmp_io.specs.declared.transfer.Down.{Down as DownValue};
-    ghost use Rattle.ddcmp_session.specs.declared.devices.Fault.{Fault as FaultValue};
+    ghost use Rattle.ddcmp_session.specs.declared.devices.DeviceFault.{DeviceFault as FaultValue};
 
     /// Moves what can be moved, without waiting, and returns whether there was anything; if not, it
     /// is time to wait.
@@ -52,14 +52,14 @@ impl Buffers {
         &mut self,
         session: &mut Session,
         devices: &mut D,
-    ) -> Result<bool, Fault>
+    ) -> Result<bool, DeviceFault>
         ensures on { GoesOn self.old session.old.state (D.traffic devices.old)
             self.new session.new.state (D.traffic devices.new) }
         ensures reports { (fault : FaultValue) → result ≡ Err fault
             → Reports self.old session.old.state (D.traffic devices.old)
             (D.traffic devices.new) fault }
         ensures rests { result ≡ Ok false → Rests self.new session.new.state }
-        ensures untimed { result ≢ Err Fault.Time }
+        ensures untimed { result ≢ Err DeviceFault.Time }
     {
         match self.move_all(session, devices) {
             Ok(false) => {}
@@ -77,14 +77,14 @@ impl Buffers {
         &mut self,
         session: &mut Session,
         devices: &mut D,
-    ) -> Result<bool, Fault>
+    ) -> Result<bool, DeviceFault>
         ensures on { GoesOn self.old session.old.state (D.traffic devices.old)
             self.new session.new.state (D.traffic devices.new) }
         ensures reports { (fault : FaultValue) → result ≡ Err fault
             → Reports self.old session.old.state (D.traffic devices.old)
             (D.traffic devices.new) fault }
         ensures rests { result ≡ Ok false → IsIdle self.new session.new.state }
-        ensures untimed { result ≢ Err Fault.Time }
+        ensures untimed { result ≢ Err DeviceFault.Time }
     {
         // An acknowledgement is written before the line is read to its end.
         session.fill();
@@ -99,14 +99,18 @@ impl Buffers {
     }
 
     /// Reads the input, if a message is wanted.
-    fn read_input<D: Devices>(&mut self, session: &Session, devices: &mut D) -> Result<bool, Fault>
+    fn read_input<D: Devices>(
+        &mut self,
+        session: &Session,
+        devices: &mut D,
+    ) -> Result<bool, DeviceFault>
         ensures on { GoesOn self.old session.now.state (D.traffic devices.old)
             self.new session.now.state (D.traffic devices.new) }
         ensures reports { (fault : FaultValue) → result ≡ Err fault
             → Reports self.old session.now.state (D.traffic devices.old)
             (D.traffic devices.new) fault }
         ensures idle { result ≡ Ok false → self.new ≡ self.old }
-        ensures untimed { result ≢ Err Fault.Time }
+        ensures untimed { result ≢ Err DeviceFault.Time }
     {
         if !self.wants_input(session) {
             return Ok(false);
@@ -115,7 +119,7 @@ impl Buffers {
     }
 
     /// Reads more of the input, if it has bytes or has ended and there is room.
-    fn read_now<D: Devices>(&mut self, devices: &mut D) -> Result<bool, Fault>
+    fn read_now<D: Devices>(&mut self, devices: &mut D) -> Result<bool, DeviceFault>
         requires goes_on { self.old.is_over ≡ false }
         ensures on { (session : SessionView) → GoesOn self.old session (D.traffic devices.old)
             self.new session (D.traffic devices.new) }
@@ -123,12 +127,12 @@ impl Buffers {
             → Reports self.old session (D.traffic devices.old) (D.traffic devices.new) fault }
         ensures idle { result ≡ Ok false → self.new ≡ self.old }
         ensures keeps { KeepsFaults (D.traffic devices.old) (D.traffic devices.new) }
-        ensures untimed { result ≢ Err Fault.Time }
+        ensures untimed { result ≢ Err DeviceFault.Time }
     {
         match self.input.read_input(devices) {
             Got::Bytes(n) => self.input_is_over = n == 0,
             Got::Idle => return Ok(false),
-            Got::Failed => return Err(Fault::Input),
+            Got::Failed => return Err(DeviceFault::Input),
         }
         Ok(true)
     }
@@ -139,7 +143,7 @@ impl Buffers {
         &mut self,
         session: &mut Session,
         devices: &mut D,
-    ) -> Result<bool, Fault>
+    ) -> Result<bool, DeviceFault>
         ensures on { GoesOn self.old session.old.state (D.traffic devices.old)
             self.new session.new.state (D.traffic devices.new) }
         ensures reports { (fault : FaultValue) → result ≡ Err fault
@@ -150,7 +154,7 @@ impl Buffers {
             → (self.new.input ≡ []) ⊎ (wants_input session.new.state ≡ false) }
         ensures told { result ≡ Ok false
             → (self.new.is_over ≡ false) ⊎ (wants_input session.new.state ≡ false) }
-        ensures untimed { result ≢ Err Fault.Time }
+        ensures untimed { result ≢ Err DeviceFault.Time }
     {
         let moved = self.pass_parts(session);
         if !session.wants_input() {
@@ -161,7 +165,7 @@ impl Buffers {
             return if devices.wait(wanted, 0) {
                 Ok(true)
             } else {
-                Err(Fault::Input)
+                Err(DeviceFault::Input)
             };
         }
         if self.input_is_over {
@@ -191,19 +195,19 @@ impl Buffers {
 
     /// Reads once what the input has now, if there is room after what is left of it: for its end,
     /// or so that messages that won't be sent are counted as lost.
-    pub fn read_the_rest<D: Devices>(&mut self, devices: &mut D) -> Result<(), Fault>
+    pub fn read_the_rest<D: Devices>(&mut self, devices: &mut D) -> Result<(), DeviceFault>
         ensures on { (session : SessionView) → GoesOn self.old session (D.traffic devices.old)
             self.new session (D.traffic devices.new) }
         ensures reports { (session : SessionView) (fault : FaultValue) → result ≡ Err fault
             → Reports self.old session (D.traffic devices.old) (D.traffic devices.new) fault }
         ensures keeps { KeepsFaults (D.traffic devices.old) (D.traffic devices.new) }
-        ensures untimed { result ≢ Err Fault.Time }
+        ensures untimed { result ≢ Err DeviceFault.Time }
     {
         if self.input_is_over {
             return Ok(());
         }
         if !devices.wait(Wanted::INPUT, 0) {
-            return Err(Fault::Input);
+            return Err(DeviceFault::Input);
         }
         match self.read_now(devices) {
             Ok(_moved) => Ok(()),
@@ -235,7 +239,7 @@ impl Buffers {
         &mut self,
         session: &mut Session,
         devices: &mut D,
-    ) -> Result<bool, Fault>
+    ) -> Result<bool, DeviceFault>
         ensures on { GoesOn self.old session.old.state (D.traffic devices.old)
             self.new session.new.state (D.traffic devices.new) }
         ensures reports { (fault : FaultValue) → result ≡ Err fault
@@ -247,7 +251,7 @@ impl Buffers {
           errors = session.new.log.errors;
           trace = session.new.log.trace;
         } }
-        ensures untimed { result ≢ Err Fault.Time }
+        ensures untimed { result ≢ Err DeviceFault.Time }
     {
         if !self.wants_line(session) || !devices.may_read_line() {
             return Ok(false);
@@ -260,39 +264,44 @@ impl Buffers {
     /// Returns the fault of a failed write to the line, once there is nothing to read from it
     /// either: a device may never report that otherwise. Returns whether the line can be read by
     /// now.
-    fn end_if_down<D: Devices>(&self, session: &Session, devices: &mut D) -> Result<bool, Fault>
+    fn end_if_down<D: Devices>(
+        &self,
+        session: &Session,
+        devices: &mut D,
+    ) -> Result<bool, DeviceFault>
         ensures on { GoesOn self.now session.now.state (D.traffic devices.old)
             self.now session.now.state (D.traffic devices.new) }
         ensures reports { (fault : FaultValue) → result ≡ Err fault
             → Reports self.now session.now.state (D.traffic devices.old)
             (D.traffic devices.new) fault }
         ensures up { result ≡ Ok false → self.now.down ≡ None }
-        ensures untimed { result ≢ Err Fault.Time }
+        ensures untimed { result ≢ Err DeviceFault.Time }
     {
         match self.down {
             None => Ok(false),
-            Some(_) if !devices.wait(self.wanted(session), 0) => Err(Fault::Input),
+            Some(_) if !devices.wait(self.wanted(session), 0) => Err(DeviceFault::Input),
             Some(_) if devices.may_read_line() => Ok(true),
-            Some(why) => Err(Fault::Line(why)),
+            Some(why) => Err(DeviceFault::Line(why)),
         }
     }
 
     /// Returns whether a read of the line returned anything. The line is read to its end before the
     /// fault of a write is reported.
-    fn after_read(&self, got: Transfer) -> Result<bool, Fault>
+    fn after_read(&self, got: Transfer) -> Result<bool, DeviceFault>
         ensures idle { result ≡ Ok false → got ≡ Transfer.Nothing }
         ensures fault { (fault : FaultValue) → result ≡ Err fault → (why : DownValue)
-            × (fault ≡ Fault.Line why) × ((self.now.down ≡ Some why) ⊎ (got ≡ Transfer.Ended why)) }
+            × (fault ≡ DeviceFault.Line why)
+            × ((self.now.down ≡ Some why) ⊎ (got ≡ Transfer.Ended why)) }
     {
         match got {
             Transfer::Bytes(_) | Transfer::Interrupted => Ok(true),
             Transfer::Nothing => match self.down {
-                Some(why) => Err(Fault::Line(why)),
+                Some(why) => Err(DeviceFault::Line(why)),
                 None => Ok(false),
             },
             Transfer::Ended(why) => match self.down {
-                Some(first) => Err(Fault::Line(first)),
-                None => Err(Fault::Line(why)),
+                Some(first) => Err(DeviceFault::Line(first)),
+                None => Err(DeviceFault::Line(why)),
             },
         }
     }
@@ -330,7 +339,7 @@ impl Buffers {
 pub(super) fn write_output<D: Devices>(
     session: &mut Session,
     devices: &mut D,
-) -> Result<bool, Fault>
+) -> Result<bool, DeviceFault>
     ensures on { (held : BuffersView) → GoesOn held session.old.state (D.traffic devices.old)
         held session.new.state (D.traffic devices.new) }
     ensures reports { (held : BuffersView) (fault : FaultValue) → result ≡ Err fault
@@ -341,7 +350,7 @@ pub(super) fn write_output<D: Devices>(
     ensures output { session.new.state
         ≡ record session.old.state { output = session.new.state.output } }
     ensures log { session.new.log ≡ session.old.log }
-    ensures untimed { result ≢ Err Fault.Time }
+    ensures untimed { result ≢ Err DeviceFault.Time }
 {
     if session.to_output().is_empty() {
         return Ok(false);
@@ -350,7 +359,7 @@ pub(super) fn write_output<D: Devices>(
         Transfer::Bytes(n) => session.output_took(n),
         Transfer::Nothing => return Ok(false),
         Transfer::Interrupted => {}
-        Transfer::Ended(_) => return Err(Fault::Output),
+        Transfer::Ended(_) => return Err(DeviceFault::Output),
     }
     Ok(true)
 }

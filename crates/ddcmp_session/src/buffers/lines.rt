@@ -4,12 +4,12 @@ ghost use Rattle.ddcmp_session.specs.Devices.{BuffersView, Traffic};
 ghost use Rattle.ddcmp_session.specs.Lines.{IsReady, ReportsOver, StaysOver};
 ghost use Rattle.ddcmp_session.specs.Stopping.{Judges};
 ghost use Rattle.ddcmp_session.specs.Timing.{end};
-ghost use Rattle.ddcmp_session.specs.declared.devices.Fault.{Fault as FaultValue};
+ghost use Rattle.ddcmp_session.specs.declared.devices.DeviceFault.{DeviceFault as FaultValue};
 
 use crate::buffers::Buffers;
 use crate::buffers::flow::write_errors;
 use crate::buffers::runner::leave_line;
-use crate::devices::{Devices, Fault, Wanted};
+use crate::devices::{DeviceFault, Devices, Wanted};
 use crate::session::{EndReason, Session};
 
 /// The reason why a run ended before all was delivered.
@@ -18,7 +18,7 @@ pub enum Stop<R> {
     /// The line couldn't be opened, for this reason.
     NotOpened(R),
     /// A device failed, or a time limit was reached.
-    Device(Fault),
+    Device(DeviceFault),
     /// The line was left, and isn't opened again; the station has run over no line.
     Left,
     /// The number of messages that were read and never acknowledged.
@@ -38,7 +38,7 @@ impl Buffers {
     ghost use Rattle.ddcmp_session.specs.Stopping.{HasNotStarted, IfNotOpened, IsLeft};
     ghost use Rattle.ddcmp_session.specs.Stopping.{IsTimeOver, Judges, LeavesLine, Stops};
     ghost use Rattle.ddcmp_session.specs.Timing.{end};
-    ghost use Rattle.ddcmp_session.specs.declared.devices.Fault.{Fault as FaultValue};
+    ghost use Rattle.ddcmp_session.specs.declared.devices.DeviceFault.{DeviceFault as FaultValue};
 
     /// Runs a new session over one line after the other, until nothing of the input is left or a
     /// line ends for good, and closes it: messages that were read and aren't acknowledged are lost
@@ -60,7 +60,7 @@ impl Buffers {
         ensures left { result ≡ Err Stop.Left → session.new.state.course.has_run ≡ false }
         ensures unread { result ≡ Err Stop.Unread
             → (self.new.is_over ≡ false) × (session.new.state.course.lost ≡ 0) }
-        ensures reports { (fault : FaultValue) → fault ≢ Fault.Time
+        ensures reports { (fault : FaultValue) → fault ≢ DeviceFault.Time
             → result ≡ Err (Stop.Device fault) → ReportsOver self.old session.old.state
             (D.traffic devices.old) (D.traffic devices.new) fault }
     {
@@ -78,7 +78,7 @@ impl Buffers {
     ) -> Result<(), Stop<D::Refusal>>
         ensures over { GoesOver self.old session.old.state (D.traffic devices.old)
             self.new session.new.state (D.traffic devices.new) }
-        ensures reports { (fault : FaultValue) → fault ≢ Fault.Time
+        ensures reports { (fault : FaultValue) → fault ≢ DeviceFault.Time
             → result ≡ Err (Stop.Device fault) → ReportsOver self.old session.old.state
             (D.traffic devices.old) (D.traffic devices.new) fault }
         ensures well { result ≡ Ok tt → MayEndWell session.new.state }
@@ -86,7 +86,7 @@ impl Buffers {
         ensures left { result ≡ Err Stop.Left → IsLeft self.old session.old.state
             (D.traffic devices.old) session.new.state (D.traffic devices.new) }
         ensures shut { IfNotOpened result (session.new.state.options.again ≡ false) }
-        ensures time { result ≡ Err (Stop.Device Fault.Time) → IsTimeOver session.new.state }
+        ensures time { result ≡ Err (Stop.Device DeviceFault.Time) → IsTimeOver session.new.state }
         ensures unjudged { (count : ℕ) → result ≢ Err (Stop.Lost count) }
         ensures read { result ≢ Err Stop.Unread }
     {
@@ -104,7 +104,7 @@ impl Buffers {
             }
         }
         pass_run(session);
-        Err(Stop::Device(Fault::Time))
+        Err(Stop::Device(DeviceFault::Time))
     }
 
     /// Runs a session over a line; returns whether all is done, or the line was left.
@@ -115,7 +115,7 @@ impl Buffers {
     ) -> Result<bool, Stop<D::Refusal>>
         ensures over { GoesOver self.old session.old.state (D.traffic devices.old)
             self.new session.new.state (D.traffic devices.new) }
-        ensures reports { (fault : FaultValue) → fault ≢ Fault.Time
+        ensures reports { (fault : FaultValue) → fault ≢ DeviceFault.Time
             → result ≡ Err (Stop.Device fault) → ReportsOver self.old session.old.state
             (D.traffic devices.old) (D.traffic devices.new) fault }
         ensures well { result ≡ Ok true → MayEndWell session.new.state }
@@ -124,7 +124,7 @@ impl Buffers {
             (D.traffic devices.old) session.new.state (D.traffic devices.new) }
         ensures left { result ≡ Err Stop.Left → HasNotStarted session.new.state }
         ensures shut { IfNotOpened result (session.new.state.options.again ≡ false) }
-        ensures time { result ≡ Err (Stop.Device Fault.Time) → IsTimeOver session.new.state }
+        ensures time { result ≡ Err (Stop.Device DeviceFault.Time) → IsTimeOver session.new.state }
         ensures unjudged { (count : ℕ) → result ≢ Err (Stop.Lost count) }
         ensures read { result ≢ Err Stop.Unread }
     {
@@ -136,8 +136,8 @@ impl Buffers {
         match self.run(session, devices) {
             Ok(EndReason::Done) => Ok(true),
             Ok(EndReason::Restarted | EndReason::GivenUp) => Ok(false),
-            Ok(EndReason::Time) => Err(Stop::Device(Fault::Time)),
-            Err(Fault::Line(why)) => {
+            Ok(EndReason::Time) => Err(Stop::Device(DeviceFault::Time)),
+            Err(DeviceFault::Line(why)) => {
                 session.report_down(why);
                 Ok(false)
             }
@@ -155,13 +155,13 @@ impl Buffers {
     ) -> Result<bool, Stop<D::Refusal>>
         ensures over { GoesOver self.old session.old.state (D.traffic devices.old)
             self.new session.new.state (D.traffic devices.new) }
-        ensures reports { (fault : FaultValue) → fault ≢ Fault.Time
+        ensures reports { (fault : FaultValue) → fault ≢ DeviceFault.Time
             → result ≡ Err (Stop.Device fault) → ReportsOver self.old session.old.state
             (D.traffic devices.old) (D.traffic devices.new) fault }
         ensures ended { result ≡ Ok false → end session.new.state ≡ Some EndReason.Done }
         ensures left { result ≡ Err Stop.Left → HasNotStarted session.new.state }
         ensures shut { IfNotOpened result (session.new.state.options.again ≡ false) }
-        ensures time { result ≡ Err (Stop.Device Fault.Time) → IsTimeOver session.new.state }
+        ensures time { result ≡ Err (Stop.Device DeviceFault.Time) → IsTimeOver session.new.state }
         ensures unjudged { (count : ℕ) → result ≢ Err (Stop.Lost count) }
         ensures read { result ≢ Err Stop.Unread }
     {
@@ -173,7 +173,7 @@ impl Buffers {
             let now = devices.now();
             session.pass_time(now);
             match session.end() {
-                Some(EndReason::Time) => return Err(Stop::Device(Fault::Time)),
+                Some(EndReason::Time) => return Err(Stop::Device(DeviceFault::Time)),
                 Some(EndReason::Done) => return Ok(false),
                 _ => {}
             }
@@ -185,11 +185,11 @@ impl Buffers {
             // No other wait comes between: it would take the report that the line can be opened.
             write_errors(session, devices);
             if !self.wait_between_lines(session, devices, now) {
-                return Err(Stop::Device(Fault::Input));
+                return Err(Stop::Device(DeviceFault::Input));
             }
         }
         pass_run(session);
-        Err(Stop::Device(Fault::Time))
+        Err(Stop::Device(DeviceFault::Time))
     }
 
     /// Opens a line once it is time to, and returns whether the session was connected to it.
@@ -230,14 +230,14 @@ impl Buffers {
         &mut self,
         session: &mut Session,
         devices: &mut D,
-    ) -> Result<(), Fault>
+    ) -> Result<(), DeviceFault>
         ensures on { GoesOn self.old session.old.state (D.traffic devices.old)
             self.new session.new.state (D.traffic devices.new) }
         ensures ready { IsReady session.old.state → IsReady session.new.state }
         ensures reports { (fault : FaultValue) → result ≡ Err fault
             → Reports self.old session.old.state (D.traffic devices.old)
             (D.traffic devices.new) fault }
-        ensures untimed { result ≢ Err Fault.Time }
+        ensures untimed { result ≢ Err DeviceFault.Time }
     {
         if !self.awaits_end(session) {
             return Ok(());
@@ -307,7 +307,7 @@ impl Buffers {
         ensures left { result ≡ Err Stop.Left → session.new.state.course.has_run ≡ false }
         ensures unread { result ≡ Err Stop.Unread
             → (self.new.is_over ≡ false) × (session.new.state.course.lost ≡ 0) }
-        ensures reports { (fault : FaultValue) → fault ≢ Fault.Time
+        ensures reports { (fault : FaultValue) → fault ≢ DeviceFault.Time
             → result ≡ Err (Stop.Device fault)
             → ((ran ≡ result) × (D.traffic devices.new ≡ D.traffic devices.old))
             ⊎ Reports self.old session.old.state (D.traffic devices.old)
@@ -324,14 +324,14 @@ impl Buffers {
     }
 
     /// Reads what the input has now, if it is to be read.
-    fn read_if<D: Devices>(&mut self, devices: &mut D, reads: bool) -> Result<(), Fault>
+    fn read_if<D: Devices>(&mut self, devices: &mut D, reads: bool) -> Result<(), DeviceFault>
         ensures on { (session : SessionView) → GoesOn self.old session (D.traffic devices.old)
             self.new session (D.traffic devices.new) }
         ensures reports { (session : SessionView) (fault : FaultValue) → result ≡ Err fault
             → Reports self.old session (D.traffic devices.old) (D.traffic devices.new) fault }
         ensures stays { reads ≡ false → D.traffic devices.new ≡ D.traffic devices.old }
         ensures keeps { KeepsFaults (D.traffic devices.old) (D.traffic devices.new) }
-        ensures untimed { result ≢ Err Fault.Time }
+        ensures untimed { result ≢ Err DeviceFault.Time }
     {
         if reads {
             self.read_the_rest(devices)
@@ -343,13 +343,13 @@ impl Buffers {
 
 /// Returns whether the lines ended in a way in which all may be delivered nevertheless.
 fn is_over<R>(ran: &Result<(), Stop<R>>) -> bool
-    ensures device { (fault : FaultValue) → fault ≢ Fault.Time
+    ensures device { (fault : FaultValue) → fault ≢ DeviceFault.Time
         → ran.now ≡ Err (Stop.Device fault) → result ≡ false }
     ensures left { ran.now ≡ Err Stop.Left → result ≡ true }
     ensures over { result ≡ true
-        → (ran.now ≡ Err Stop.Left) ⊎ (ran.now ≡ Err (Stop.Device Fault.Time)) }
+        → (ran.now ≡ Err Stop.Left) ⊎ (ran.now ≡ Err (Stop.Device DeviceFault.Time)) }
 {
-    matches!(ran, Err(Stop::Left | Stop::Device(Fault::Time)))
+    matches!(ran, Err(Stop::Left | Stop::Device(DeviceFault::Time)))
 }
 
 /// Returns how a run ended, from how its lines ended, whether the station has run, the number of
@@ -383,14 +383,14 @@ fn verdict<R: Copy>(
 }
 
 /// Leaves a line that has ended, and sets the pause before the next one is opened, if there is one.
-fn leave<D: Devices>(session: &mut Session, devices: &mut D) -> Result<(), Fault>
+fn leave<D: Devices>(session: &mut Session, devices: &mut D) -> Result<(), DeviceFault>
     ensures over { (held : BuffersView) → StaysOver held session.old.state (D.traffic devices.old)
         held session.new.state (D.traffic devices.new) }
     ensures ready { result ≡ Ok tt → IsReady session.new.state }
-    ensures reports { (held : BuffersView) (fault : FaultValue) → fault ≢ Fault.Time
+    ensures reports { (held : BuffersView) (fault : FaultValue) → fault ≢ DeviceFault.Time
         → result ≡ Err fault → ReportsOver held session.old.state (D.traffic devices.old)
         (D.traffic devices.new) fault }
-    ensures time { result ≡ Err Fault.Time
+    ensures time { result ≡ Err DeviceFault.Time
         → (end session.new.state ≡ Some EndReason.Time) ⊎ (session.new.state.output.waiting ≢ []) }
 {
     match leave_line(session, devices) {
@@ -408,13 +408,13 @@ fn leave<D: Devices>(session: &mut Session, devices: &mut D) -> Result<(), Fault
 }
 
 /// Passes the time of the run, if an output timed out for which nothing is queued.
-fn note_time(session: &mut Session, fault: Fault)
+fn note_time(session: &mut Session, fault: DeviceFault)
     ensures over { (held : BuffersView) (known : Option Traffic)
         → StaysOver held session.old.state known held session.new.state known }
-    ensures time { fault ≡ Fault.Time
+    ensures time { fault ≡ DeviceFault.Time
         → (end session.new.state ≡ Some EndReason.Time) ⊎ (session.new.state.output.waiting ≢ []) }
 {
-    if fault == Fault::Time && session.to_output().is_empty() {
+    if fault == DeviceFault::Time && session.to_output().is_empty() {
         pass_run(session);
     }
 }

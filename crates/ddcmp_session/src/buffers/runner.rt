@@ -6,11 +6,11 @@ ghost use Rattle.ddcmp_session.specs.Devices.{Reports};
 ghost use Rattle.ddcmp_session.specs.Finishing.{Drains, IsDrained};
 ghost use Rattle.ddcmp_session.specs.Session.{lost_by_end};
 ghost use Rattle.ddcmp_session.specs.Lines.{IsReady, ReportsOver, StaysOver};
-ghost use Rattle.ddcmp_session.specs.declared.devices.Fault.{Fault as FaultValue};
+ghost use Rattle.ddcmp_session.specs.declared.devices.DeviceFault.{DeviceFault as FaultValue};
 
 use crate::buffers::Buffers;
 use crate::buffers::flow::{deliver_all, write_errors, write_output};
-use crate::devices::{Devices, Fault, Wanted};
+use crate::devices::{DeviceFault, Devices, Wanted};
 use crate::session::{EndReason, Session};
 
 /// After how many passes the devices are polled although something moved, so that none starves
@@ -24,7 +24,7 @@ impl Buffers {
     ghost use Rattle.std.specs.Prelude.{◌≡◌, ◌≢◌, Err, None, Ok, Some, false};
     ghost use Rattle.ddcmp_session.specs.Timing.{end};
     ghost use Rattle.ddcmp_session.specs.Devices.{Becomes, GoesOn, Reports, Rests, after_wait};
-    ghost use Rattle.ddcmp_session.specs.declared.devices.Fault.{Fault as FaultValue};
+    ghost use Rattle.ddcmp_session.specs.declared.devices.DeviceFault.{DeviceFault as FaultValue};
     ghost use Rattle.ddcmp_session.specs.declared.session.EndReason.{EndReason as EndValue};
 
     /// Runs a session over its line, until the session leaves the line or a device ends or fails.
@@ -32,14 +32,14 @@ impl Buffers {
         &mut self,
         session: &mut Session,
         devices: &mut D,
-    ) -> Result<EndReason, Fault>
+    ) -> Result<EndReason, DeviceFault>
         ensures on { GoesOn self.old session.old.state (D.traffic devices.old)
             self.new session.new.state (D.traffic devices.new) }
         ensures reports { (fault : FaultValue) → result ≡ Err fault
             → Reports self.old session.old.state (D.traffic devices.old)
             (D.traffic devices.new) fault }
         ensures ended { (why : EndValue) → result ≡ Ok why → end session.new.state ≡ Some why }
-        ensures untimed { result ≢ Err Fault.Time }
+        ensures untimed { result ≢ Err DeviceFault.Time }
     {
         for pass in 0..u64::MAX {
             let now = devices.now();
@@ -56,7 +56,7 @@ impl Buffers {
                 continue;
             }
             if !self.wait(session, devices, moved, pass % PASSES == 0) {
-                return Err(Fault::Input);
+                return Err(DeviceFault::Input);
             }
         }
         // This many passes take longer than any run.
@@ -83,10 +83,13 @@ impl Buffers {
 const LINE_END_MS: u64 = 80;
 
 /// Leaves a line that has ended: writes the messages received over it, and reports what was lost.
-pub(super) fn leave_line<D: Devices>(session: &mut Session, devices: &mut D) -> Result<(), Fault>
+pub(super) fn leave_line<D: Devices>(
+    session: &mut Session,
+    devices: &mut D,
+) -> Result<(), DeviceFault>
     ensures over { (held : BuffersView) → StaysOver held session.old.state (D.traffic devices.old)
         held session.new.state (D.traffic devices.new) }
-    ensures reports { (held : BuffersView) (fault : FaultValue) → fault ≢ Fault.Time
+    ensures reports { (held : BuffersView) (fault : FaultValue) → fault ≢ DeviceFault.Time
         → result ≡ Err fault → ReportsOver held session.old.state (D.traffic devices.old)
         (D.traffic devices.new) fault }
     ensures drained { result ≡ Ok tt → session.new.state.output.waiting ≡ [] }
@@ -144,11 +147,11 @@ pub fn drain_errors<D: Devices>(session: &mut Session, devices: &mut D, most_ms:
 
 /// Writes all received messages and what else is queued for standard output. After the end of the
 /// run it gives up once the output was blocked for `END_MS` milliseconds.
-pub fn drain_output<D: Devices>(session: &mut Session, devices: &mut D) -> Result<(), Fault>
+pub fn drain_output<D: Devices>(session: &mut Session, devices: &mut D) -> Result<(), DeviceFault>
     ensures on { (held : BuffersView) → GoesOn held session.old.state (D.traffic devices.old)
         held session.new.state (D.traffic devices.new) }
     ensures reports { (held : BuffersView) (fault : FaultValue) → result ≡ Err fault
-        → fault ≢ Fault.Time
+        → fault ≢ DeviceFault.Time
         → Reports held session.old.state (D.traffic devices.old) (D.traffic devices.new) fault }
     ensures drains { Drains session.old.state (D.traffic devices.old)
         session.new.state (D.traffic devices.new) }
@@ -177,11 +180,11 @@ pub fn drain_output<D: Devices>(session: &mut Session, devices: &mut D) -> Resul
         // Something else may end a wait, so the clock measures how long the output was blocked.
         let left = last.saturating_add(END_MS).saturating_sub(now);
         if left == 0 {
-            return Err(Fault::Time);
+            return Err(DeviceFault::Time);
         }
         if !devices.wait(Wanted::OUTPUT, left) {
-            return Err(Fault::Input);
+            return Err(DeviceFault::Input);
         }
     }
-    Err(Fault::Time)
+    Err(DeviceFault::Time)
 }

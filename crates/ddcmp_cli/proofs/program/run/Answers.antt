@@ -122,5 +122,5 @@ returns-in-Err-Memory g c = record {
   stations = search rules;
   taps = search rules;
   links = λ _. inl refl;
-  bridges = λ _. (refl, inl (tt, Keeps-refl (g.W.Sink.contents c.args.writer.now)));
+  bridges = λ _. (refl, inl (refl, Keeps-refl (g.W.Sink.contents c.args.writer.now)));
 }

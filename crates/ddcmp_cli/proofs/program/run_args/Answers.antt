@@ -50,7 +50,7 @@ returns-in_default g c = record {
     stations = search rules;
     taps = search rules;
     links = search rules;
-    bridges = λ _. (refl, inl (tt, Keeps-refl (g.W.Sink.contents c.args.writer.now)));
+    bridges = λ _. (refl, inl (refl, Keeps-refl (g.W.Sink.contents c.args.writer.now)));
   });
   no_memory = rw (c.in-Ok.is) tt;
   not_text = rw (c.in-Ok.is) tt;

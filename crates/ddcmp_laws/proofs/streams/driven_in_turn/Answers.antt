@@ -1,4 +1,4 @@
-use Rattle.ddcmp_pair.specs.declared.event.End.TheVariants.{A, B}
+use Rattle.ddcmp_io.specs.declared.carrier.End.TheVariants.{A, B}
 use Rattle.ddcmp_laws.specs.Streams.{drives_at}
 use Rattle.ddcmp_laws.proofs.Delivery.{reaches_a, reaches_b}
 use Rattle.ddcmp_laws.proofs.Streaming.{streams_honest}

@@ -10,7 +10,7 @@ use Rattle.ddcmp_frame.specs.Reading.{is_data_right, row, read, items, good_fram
 use Rattle.ddcmp_core.specs.Table.{on, notice_of, next}
 use Rattle.ddcmp_core.specs.Counting.{counters_on, counters_after_next}
 use Rattle.ddcmp_proto.specs.Bytes.{after_items, notices_of_items}
-use Rattle.ddcmp_pair.specs.declared.event.End.TheVariants.{A, B}
+use Rattle.ddcmp_io.specs.declared.carrier.End.TheVariants.{A, B}
 use Rattle.ddcmp_pair.specs.declared.event.Event.{Event}
 use Rattle.ddcmp_pair.specs.declared.event.Event.TheVariants as event
 use Rattle.ddcmp_pair.specs.Place.{first_index, place_from}

@@ -7,6 +7,6 @@ loop-trip-init g c = ends_start _ _ _ _
 
 pub loop-trip-preserved : goal.loop-trip-preserved
 loop-trip-preserved g c =
-    ends_one c.args.end c.args.fate _ _ _ _ _ _ _ c.in-Some.trip c.loop-trip.invariant
+    ends_one c.args.end c.args.trip_end _ _ _ _ _ _ _ c.in-Some.trip c.loop-trip.invariant
     c.pop.ensures.trips
     (sym c.pop.ensures.first ∙ c.in-Some.is) c.put.ensures

@@ -21,7 +21,7 @@ loop-turn-preserved g c = record {
       (goes-then (goes-same c.loop-turn.invariant.goes c.now-now.ensures.traffic)
       c.pass-moved.ensures.goes)
       (c.goes_on.ensures ∙ c.now-passed.ensures.traffic);
-  faults = λ way. c.pass-moved.ensures.faults way ∙ c.loop-turn.invariant.faults way;
+  faults = λ from. c.pass-moved.ensures.faults from ∙ c.loop-turn.invariant.faults from;
 }
 
 pub returns-then-not-goes_on-clause-goes : goal.returns-then-not-goes_on-clause-goes

@@ -7,7 +7,7 @@ use Rattle.ddcmp_io.proofs.WrittenLaws.{sends-then}
 use Rattle.ddcmp_pair.specs.declared.event.Event.TheVariants as event
 use Rattle.ddcmp_pair.specs.Run.{after_event, asks_memory}
 use Rattle.std.specs.Prelude.{codes}
-use Rattle.ddcmp_pair.specs.Carriages.{HasCarried}
+use Rattle.ddcmp_io.specs.Carriages.{HasCarried}
 use Rattle.ddcmp_line.specs.Script.{Between, part_of, frames_of, with_frames, taken_off}
 use Rattle.ddcmp_line.specs.Script.{arrival_text}
 use Rattle.ddcmp_line.proofs.Scenes.{carry-empty, carry-refused, carry-well, carry-lost, must-ask}

@@ -1,6 +1,6 @@
 use Rattle.std.proofs.Common.{◌≡◌, false, subst, rules}
 use Rattle.ddcmp_io.specs.Written.{output_of}
-use Rattle.ddcmp_line.specs.declared.performer.Stop.TheVariants.{Carrier}
+use Rattle.ddcmp_line.specs.declared.performer.Undone.TheVariants.{Carrier}
 use Rattle.ddcmp_line.specs.Inside.ScriptProgress.{Stops, course, fresh}
 use Rattle.ddcmp_line.proofs.Endings.{stops-flushed, plays-write, plays-line, plays-hex}
 use Rattle.ddcmp_line.proofs.Endings.{plays-memory, plays-carrier}

@@ -1,7 +1,7 @@
 use Rattle.std.proofs.Common.{◌≡◌, ◌+◌, ◌≤◌, ◌++◌, false, Bool, List, ℕ, Option, drop}
 use Rattle.ddcmp_io.specs.Written.{Output, output_of}
 use Rattle.ddcmp_pair.specs.Run.{PairState}
-use Rattle.ddcmp_pair.specs.Carriages.{Carriage}
+use Rattle.ddcmp_io.specs.Carriages.{Carriage}
 use Rattle.ddcmp_line.specs.ScriptEnds.{around}
 use Rattle.ddcmp_line.specs.Inside.ScriptProgress.{HasDone, course, played}
 use Rattle.ddcmp_line.proofs.player.Player.take.Given as goal

@@ -1,13 +1,14 @@
 use Rattle.std.proofs.Common.{◌∙◌, ap, sym, subst, refl}
 use Rattle.std.specs.Prelude.{◌≡◌, [], ◌∷◌, true, false, is_some}
-use Rattle.ddcmp_pair.specs.declared.event.End.{End}
+use Rattle.ddcmp_io.specs.declared.carrier.End.{End}
 use Rattle.ddcmp_pair.specs.declared.event.Event.TheVariants as event
 use Rattle.ddcmp_pair.specs.Run.{after_event, asks_memory, run}
-use Rattle.ddcmp_pair.specs.Settle.{carried, crossing, mail_events, other, WantsMemory}
+use Rattle.ddcmp_pair.specs.Settle.{carried, crossing, mail_events, WantsMemory}
 use Rattle.ddcmp_pair.proofs.Runs.{on-err, polled-some, polled-none, crossing-writes}
 use Rattle.ddcmp_pair.proofs.Runs.{crossing-idles, run-append, run-one, run-carried, crossing-polls}
 use Rattle.ddcmp_pair.proofs.Runs.{wanted-next, wanted-second, wanted-later}
 use Rattle.ddcmp_io.specs.Device.{Logs}
+use Rattle.ddcmp_io.specs.Ends.{other}
 use Rattle.ddcmp_pair.specs.Steps.{steps_of}
 use Rattle.ddcmp_pair.proofs.Watching.{saw-as, saw-next, saw-carried}
 use Rattle.ddcmp_pair.proofs.pair.Pair.cross.Goals as goal

@@ -1,5 +1,5 @@
 use Rattle.std.proofs.Common.{◌∙◌, ap, sym, subst, refl}
-use Rattle.ddcmp_pair.specs.declared.event.End.TheVariants.{A, B}
+use Rattle.ddcmp_io.specs.declared.carrier.End.TheVariants.{A, B}
 use Rattle.ddcmp_pair.specs.Run.{run}
 use Rattle.ddcmp_pair.specs.Settle.{crossing, WantsMemory}
 use Rattle.ddcmp_pair.proofs.Runs.{on-err, run-append, wanted-later}

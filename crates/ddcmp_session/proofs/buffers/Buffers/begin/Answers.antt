@@ -1,7 +1,7 @@
 use Rattle.std.proofs.Common.{◌≡◌, ◌∙◌, ap, refl, subst, Result, Ok, Err}
 use Rattle.ddcmp_session.specs.declared.buffers.lines.Stop.TheVariants.{the_data, Device}
-use Rattle.ddcmp_session.specs.declared.devices.Fault.{Fault}
-use Rattle.ddcmp_session.specs.declared.devices.Fault.TheVariants.{Input}
+use Rattle.ddcmp_session.specs.declared.devices.DeviceFault.{DeviceFault}
+use Rattle.ddcmp_session.specs.declared.devices.DeviceFault.TheVariants.{Input}
 use Rattle.ddcmp_session.specs.Devices.{Reports}
 use Rattle.ddcmp_session.proofs.GoingLaws.{reported, waited}
 use Rattle.ddcmp_session.proofs.LinesGo.{goes-over, none-over, over-then, passed-now, passes-then}
@@ -78,7 +78,7 @@ returns-then-not-wait_between_lines-clause-reports g c = λ fault untimed e.
     (g.D.Devices.traffic c.wait_between_lines.new.devices)) (same e)
     (reported Input c.if-not-wait_between_lines.ensures))))))))
   where
-    same : {A R : Type 0} {f : Fault}
+    same : {A R : Type 0} {f : DeviceFault}
         → ◌≡◌ {A = Result A (the_data R)} (Err (Device Input)) (Err (Device f)) → Input ≡ f
     same e = cc
 

@@ -1,11 +1,11 @@
 use Rattle.std.proofs.Common.{◌≡◌, ◌∙◌, ap, refl, sym, subst, Bool, Result, Err}
-use Rattle.ddcmp_session.specs.declared.devices.Fault.{Fault}
-use Rattle.ddcmp_session.specs.declared.devices.Fault.TheVariants.{Input}
+use Rattle.ddcmp_session.specs.declared.devices.DeviceFault.{DeviceFault}
+use Rattle.ddcmp_session.specs.declared.devices.DeviceFault.TheVariants.{Input}
 use Rattle.ddcmp_session.specs.Devices.{BuffersView, Reports}
 use Rattle.ddcmp_session.proofs.GoingLaws.{line-was-down, reported, stays, waited}
 use Rattle.ddcmp_session.proofs.buffers.Buffers.end_if_down.Goals as goal
 
-same : {f f' : Fault} → ◌≡◌ {A = Result Bool Fault} (Err f) (Err f') → f ≡ f'
+same : {f f' : DeviceFault} → ◌≡◌ {A = Result Bool DeviceFault} (Err f) (Err f') → f ≡ f'
 same e = cc
 
 pub returns-in-None-clause-on : goal.returns-in-None-clause-on

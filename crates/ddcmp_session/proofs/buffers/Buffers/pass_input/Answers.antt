@@ -1,6 +1,6 @@
 use Rattle.std.proofs.Common.{◌≡◌, [], true, sym, subst, Bool, Result, Err}
-use Rattle.ddcmp_session.specs.declared.devices.Fault.{Fault}
-use Rattle.ddcmp_session.specs.declared.devices.Fault.TheVariants.{Input}
+use Rattle.ddcmp_session.specs.declared.devices.DeviceFault.{DeviceFault}
+use Rattle.ddcmp_session.specs.declared.devices.DeviceFault.TheVariants.{Input}
 use Rattle.ddcmp_session.specs.Devices.{BuffersView, Reports}
 use Rattle.ddcmp_session.proofs.GoingLaws.{waited, reported, reports-then, goes-then}
 use Rattle.ddcmp_session.proofs.InputGoes.{ends, none-left, takes-wanted}
@@ -37,5 +37,5 @@ returns-else-wait-clause-reports g c = λ fault e.
     (g.D.Devices.traffic c.wait.new.self)) (same e)
     (reports-then (c.pass_parts-moved.ensures.on _) (reported Input c.if-wait.ensures))
   where
-    same : {f : Fault} → ◌≡◌ {A = Result Bool Fault} (Err Input) (Err f) → Input ≡ f
+    same : {f : DeviceFault} → ◌≡◌ {A = Result Bool DeviceFault} (Err Input) (Err f) → Input ≡ f
     same e = cc

@@ -1,7 +1,7 @@
 use Rattle.std.proofs.Common.{◌≡◌, ◌∙◌, ap, false, Bool, true, Result, Err, refl, sym}
 use Rattle.std.proofs.Common.{subst, ◌==◌, append-nil}
-use Rattle.ddcmp_session.specs.declared.devices.Fault.{Fault}
-use Rattle.ddcmp_session.specs.declared.devices.Fault.TheVariants.{Input}
+use Rattle.ddcmp_session.specs.declared.devices.DeviceFault.{DeviceFault}
+use Rattle.ddcmp_session.specs.declared.devices.DeviceFault.TheVariants.{Input}
 use Rattle.ddcmp_io.specs.declared.device.Got.TheVariants.{Bytes}
 use Rattle.ddcmp_session.specs.Devices.{BuffersView, Reports}
 use Rattle.ddcmp_session.proofs.GoingLaws.{idles, faulted, reported}
@@ -29,7 +29,7 @@ returns-in-Failed-clause-reports g c = λ session fault e.
     (g.D.Devices.traffic c.read_input.new.devices)) (same e)
     (reported Input c.in-Failed.ensures.2)
   where
-    same : {f : Fault} → ◌≡◌ {A = Result Bool Fault} (Err Input) (Err f) → Input ≡ f
+    same : {f : DeviceFault} → ◌≡◌ {A = Result Bool DeviceFault} (Err Input) (Err f) → Input ≡ f
     same e = cc
 
 pub returns-clause-on : goal.returns-clause-on

@@ -1,12 +1,12 @@
 use Rattle.std.proofs.Common.{◌≡◌, refl, subst, Result, Err}
-use Rattle.ddcmp_session.specs.declared.devices.Fault.{Fault}
-use Rattle.ddcmp_session.specs.declared.devices.Fault.TheVariants.{Input}
+use Rattle.ddcmp_session.specs.declared.devices.DeviceFault.{DeviceFault}
+use Rattle.ddcmp_session.specs.declared.devices.DeviceFault.TheVariants.{Input}
 use Rattle.ddcmp_session.specs.Devices.{Reports}
 use Rattle.ddcmp_session.proofs.GoingLaws.{stays, goes-then, waited, reported, reports-then}
 use Rattle.ddcmp_session.proofs.StopLaws.{keeps-same, keeps-then, keeps-wait}
 use Rattle.ddcmp_session.proofs.buffers.Buffers.read_the_rest.Goals as goal
 
-same : {f f' : Fault} → ◌≡◌ {A = Result (Unit {0}) Fault} (Err f) (Err f') → f ≡ f'
+same : {f f' : DeviceFault} → ◌≡◌ {A = Result (Unit {0}) DeviceFault} (Err f) (Err f') → f ≡ f'
 same e = cc
 
 pub returns-then-self-clause-on : goal.returns-then-self-clause-on

@@ -1,6 +1,6 @@
 use Rattle.std.proofs.Common.{◌≡◌, ◌∙◌, ap, refl, subst, Result, Err, Ok, Some}
-use Rattle.ddcmp_session.specs.declared.devices.Fault.{Fault}
-use Rattle.ddcmp_session.specs.declared.devices.Fault.TheVariants.{Input}
+use Rattle.ddcmp_session.specs.declared.devices.DeviceFault.{DeviceFault}
+use Rattle.ddcmp_session.specs.declared.devices.DeviceFault.TheVariants.{Input}
 use Rattle.ddcmp_session.specs.declared.session.EndReason.{EndReason}
 use Rattle.ddcmp_session.specs.Devices.{Reports}
 use Rattle.ddcmp_session.proofs.CourseLaws.{time-is-over}
@@ -52,7 +52,7 @@ returns-then-not-wait-clause-on g c =
     c.handle_timeout.ensures.state)
     (goes-then c.pass.ensures.on (waited c.wait.result c.wait.ensures))))
 
-same : {f f' : Fault} → ◌≡◌ {A = Result EndReason Fault} (Err f) (Err f') → f ≡ f'
+same : {f f' : DeviceFault} → ◌≡◌ {A = Result EndReason DeviceFault} (Err f) (Err f') → f ≡ f'
 same e = cc
 
 pub returns-in-Err-clause-reports : goal.returns-in-Err-clause-reports
@@ -84,7 +84,7 @@ returns-clause-on g c =
     (timed-goes c.run_ends_at-now.result c.loop-pass.session.state c.handle_timeout-2.new.self.state
     c.handle_timeout-2.ensures.state)
 
-same-end : {e e' : EndReason} → ◌≡◌ {A = Result EndReason Fault} (Ok e) (Ok e') → e ≡ e'
+same-end : {e e' : EndReason} → ◌≡◌ {A = Result EndReason DeviceFault} (Ok e) (Ok e') → e ≡ e'
 same-end e = cc
 
 pub returns-clause-ended : goal.returns-clause-ended

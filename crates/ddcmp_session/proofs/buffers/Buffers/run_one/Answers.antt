@@ -1,5 +1,5 @@
 use Rattle.std.proofs.Common.{ap, inr, refl, Err}
-use Rattle.ddcmp_session.specs.declared.devices.Fault.TheVariants.{Line}
+use Rattle.ddcmp_session.specs.declared.devices.DeviceFault.TheVariants.{Line}
 use Rattle.ddcmp_session.proofs.LinesGo.{goes-over, none-over, over-then, reports-over}
 use Rattle.ddcmp_session.proofs.LinesGo.{same-err, same-fault}
 use Rattle.ddcmp_session.specs.declared.session.EndReason.TheVariants as EndReason

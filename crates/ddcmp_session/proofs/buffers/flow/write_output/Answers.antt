@@ -1,6 +1,6 @@
 use Rattle.std.proofs.Common.{◌≡◌, refl, subst, Bool, Result, Err}
-use Rattle.ddcmp_session.specs.declared.devices.Fault.{Fault}
-use Rattle.ddcmp_session.specs.declared.devices.Fault.TheVariants.{Output}
+use Rattle.ddcmp_session.specs.declared.devices.DeviceFault.{DeviceFault}
+use Rattle.ddcmp_session.specs.declared.devices.DeviceFault.TheVariants.{Output}
 use Rattle.ddcmp_io.specs.declared.transfer.Transfer.TheVariants.{Nothing, Interrupted}
 use Rattle.ddcmp_session.specs.Devices.{after_written, Reports}
 use Rattle.ddcmp_session.proofs.Finished.{drains-fault, drains-none, drains-still, drains-took}
@@ -27,7 +27,7 @@ returns-in-Ended-clause-reports g c = λ held fault e.
     (g.D.Devices.traffic c.write_output.new.self)) (same e)
     (reported Output c.in-Ended.ensures.written)
   where
-    same : {f : Fault} → ◌≡◌ {A = Result Bool Fault} (Err Output) (Err f) → Output ≡ f
+    same : {f : DeviceFault} → ◌≡◌ {A = Result Bool DeviceFault} (Err Output) (Err f) → Output ≡ f
     same e = cc
 
 pub returns-in-Interrupted-clause-on : goal.returns-in-Interrupted-clause-on

@@ -1,5 +1,5 @@
 use Rattle.std.proofs.Common.{◌≡◌, refl, Result, Err}
-use Rattle.ddcmp_session.specs.declared.devices.Fault.{Fault}
+use Rattle.ddcmp_session.specs.declared.devices.DeviceFault.{DeviceFault}
 use Rattle.ddcmp_session.proofs.LinesGo.{none-over, over-then, paused, ready-by}
 use Rattle.ddcmp_session.proofs.buffers.lines.leave.Goals as goal
 
@@ -22,7 +22,7 @@ pub returns-in-Err-clause-over : goal.returns-in-Err-clause-over
 returns-in-Err-clause-over g c = λ held.
     over-then (c.leave_line.ensures.over held) (c.note_time.ensures.over held _)
 
-same : {f f' : Fault} → ◌≡◌ {A = Result (Unit {0}) Fault} (Err f) (Err f') → f ≡ f'
+same : {f f' : DeviceFault} → ◌≡◌ {A = Result (Unit {0}) DeviceFault} (Err f) (Err f') → f ≡ f'
 same e = cc
 
 pub returns-in-Err-clause-time : goal.returns-in-Err-clause-time

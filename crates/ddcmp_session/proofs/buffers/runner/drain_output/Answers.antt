@@ -1,6 +1,6 @@
 use Rattle.std.proofs.Common.{◌≡◌, ◌∙◌, refl, subst, Result, Err}
-use Rattle.ddcmp_session.specs.declared.devices.Fault.{Fault}
-use Rattle.ddcmp_session.specs.declared.devices.Fault.TheVariants.{Input}
+use Rattle.ddcmp_session.specs.declared.devices.DeviceFault.{DeviceFault}
+use Rattle.ddcmp_session.specs.declared.devices.DeviceFault.TheVariants.{Input}
 use Rattle.ddcmp_session.specs.Devices.{Reports}
 use Rattle.ddcmp_session.proofs.DrainLaws.{only-none, only-then, only-wrote}
 use Rattle.ddcmp_session.proofs.Finished.{drains-none, drains-then, drains-wait}
@@ -80,7 +80,7 @@ loop-write-preserved g c = record {
       ∙ c.loop-write.invariant.log;
 }
 
-same : {f f' : Fault} → ◌≡◌ {A = Result (Unit {0}) Fault} (Err f) (Err f') → f ≡ f'
+same : {f f' : DeviceFault} → ◌≡◌ {A = Result (Unit {0}) DeviceFault} (Err f) (Err f') → f ≡ f'
 same e = cc
 
 pub returns-in-Err-clause-reports : goal.returns-in-Err-clause-reports

@@ -1,0 +1,228 @@
+//! The two lines of a bridge, and waiting for both.
+ghost use Rattle.std.specs.Prelude.{◌≡◌, ◌≤◌, ◌&&◌, is_none, length};
+ghost use Rattle.ddcmp_bridge.specs.Joining.{count_of};
+ghost use Rattle.ddcmp_device.specs.Inside.Lines.{has_datagrams};
+
+use crate::line::Line;
+use crate::poller::{Descriptor, Ready};
+use ddcmp_bridge::Needs;
+use ddcmp_io::{Down, Transfer};
+use ddcmp_station::Clock;
+use mio::{Events, Interest, Poll, Token};
+use std::alloc::Global;
+use std::io;
+use std::net::Net;
+use std::time::Duration;
+
+const FIRST: Token = Token(0);
+
+const SECOND: Token = Token(1);
+
+/// The longest single wait, in milliseconds.
+const HOUR_MS: u64 = 3_600_000;
+
+/// A line of a bridge.
+pub(crate) struct BridgeLine {
+    line: Line,
+    pub(crate) ready: Descriptor,
+    /// Why it takes no more bytes, if so. What its peer has sent is still read.
+    refuses: Option<Down>,
+    /// Why it is down, if it is.
+    pub(crate) down: Option<Down>,
+}
+
+// Manual, since a derived `Drop` would be expanded wherever a value is dropped.
+impl Drop for BridgeLine {
+    fn drop(self) {
+        let BridgeLine {
+            line: _line,
+            ready: _,
+            refuses: _,
+            down: _,
+        } = self;
+    }
+}
+
+impl BridgeLine {
+    /// Reads received bytes; returns none if there are none, or the line is down.
+    pub(crate) fn read(&mut self, space: &mut [u8]) -> Option<usize>
+        ensures { count_of result ≤ length space.new }
+    {
+        if self.down.is_some() || !self.ready.ready.to_read {
+            return None;
+        }
+        match self.line.read(space) {
+            Transfer::Bytes(n) => Some(n.min(space.len())),
+            Transfer::Interrupted => Some(0),
+            Transfer::Nothing => {
+                self.ready.has_read();
+                self.down = self.refuses;
+                None
+            }
+            Transfer::Ended(why) => {
+                self.down = Some(self.refuses.unwrap_or(why));
+                None
+            }
+        }
+    }
+
+    /// Returns whether it takes bytes, if it has room.
+    pub(crate) fn takes_bytes(&self) -> bool
+        ensures { result ≡ is_none self.now.down && is_none self.now.refuses }
+    {
+        self.down.is_none() && self.refuses.is_none()
+    }
+
+    /// Writes bytes from the front of `bytes`; returns none if there is no room, or the line is
+    /// down.
+    pub(crate) fn write(&mut self, bytes: &[u8]) -> Option<usize>
+        ensures { count_of result ≤ length bytes.now }
+    {
+        if !self.takes_bytes() || !self.ready.ready.to_write {
+            return None;
+        }
+        match self.line.write(bytes) {
+            Transfer::Bytes(n) => Some(n.min(bytes.len())),
+            Transfer::Interrupted => Some(0),
+            Transfer::Nothing => {
+                self.ready.has_written();
+                None
+            }
+            Transfer::Ended(why) => {
+                self.refuses = Some(why);
+                // The next read finds out whether there is anything left.
+                self.ready.ready.to_read = true;
+                None
+            }
+        }
+    }
+
+    /// Returns whether it is to be read and may have something at once, as after a write that
+    /// failed.
+    fn has_more(&self, needs: Needs) -> bool {
+        needs.to_read && self.ready.ready.to_read
+    }
+
+    /// Closes its line.
+    fn close<C: Clock>(self, clock: &mut C) {
+        let BridgeLine {
+            line,
+            ready: _,
+            refuses: _,
+            down: _,
+        } = self;
+        line.close(clock);
+    }
+
+    /// Returns whether its line is one of datagrams.
+    pub(crate) fn has_datagrams(&self) -> bool
+        ensures { result ≡ has_datagrams self.now.line }
+    {
+        self.line.has_datagrams()
+    }
+}
+
+/// Both lines.
+pub(crate) struct BridgeLines {
+    poll: Poll,
+    events: Events,
+    pub(crate) first: BridgeLine,
+    pub(crate) second: BridgeLine,
+}
+
+// Manual, since a derived `Drop` would be expanded wherever a value is dropped.
+impl Drop for BridgeLines {
+    fn drop(self) {
+        let BridgeLines {
+            poll: _poll,
+            events: _events,
+            first: _first,
+            second: _second,
+        } = self;
+    }
+}
+
+/// Registers a line, so that it can be waited for.
+fn side_of(poll: &Poll, line: Line, token: Token) -> BridgeLine {
+    let both = Interest::READABLE | Interest::WRITABLE;
+    let mut ready = Descriptor::new(poll, line.number(), token, both);
+    ready.ready = Ready::BOTH;
+    BridgeLine {
+        line,
+        ready,
+        refuses: None,
+        down: None,
+    }
+}
+
+impl BridgeLines {
+    pub(crate) fn new<N: Net>(
+        net: &N,
+        alloc: Global,
+        first: Line,
+        second: Line,
+    ) -> io::Result<BridgeLines> {
+        let poll = Poll::new(net)?;
+        let events = Events::with_capacity(alloc, 2)?;
+        let first = side_of(&poll, first, FIRST);
+        let second = side_of(&poll, second, SECOND);
+        Ok(BridgeLines {
+            poll,
+            events,
+            first,
+            second,
+        })
+    }
+
+    /// Closes both lines.
+    pub(crate) fn close<C: Clock>(self, clock: &mut C) {
+        let BridgeLines {
+            poll: _poll,
+            events: _events,
+            first,
+            second,
+        } = self;
+        // Both peers are notified before one of them is waited for.
+        let _is_up = first.line.shut();
+        let _is_up = second.line.shut();
+        first.close(clock);
+        second.close(clock);
+    }
+
+    /// Sets both lines down if neither takes bytes any more, since then nothing can be passed on.
+    pub(crate) fn settle(&mut self) {
+        if !self.first.takes_bytes() && !self.second.takes_bytes() {
+            self.first.down = self.first.down.or(self.first.refuses);
+            self.second.down = self.second.down.or(self.second.refuses);
+        }
+    }
+
+    /// Waits until something that is needed of a line is ready, at most this many milliseconds;
+    /// returns whether it could wait.
+    pub(crate) fn wait(&mut self, first: Needs, second: Needs, most_ms: u64) -> bool {
+        self.first
+            .ready
+            .ask(&self.poll, first.to_read, first.to_write);
+        self.second
+            .ready
+            .ask(&self.poll, second.to_read, second.to_write);
+        let is_ready = self.first.has_more(first) || self.second.has_more(second);
+        let most_ms = if is_ready { 0 } else { most_ms.min(HOUR_MS) };
+        let most = Some(Duration::from_millis(most_ms));
+        if self.poll.poll(&mut self.events, most).is_err() {
+            return false;
+        }
+        for event in self.events.iter() {
+            let reported = Ready {
+                to_read: event.is_readable() || event.is_read_closed() || event.is_error(),
+                to_write: event.is_writable() || event.is_write_closed() || event.is_error(),
+            };
+            match event.token() {
+                FIRST => self.first.ready.ready.add(reported),
+                SECOND => self.second.ready.ready.add(reported),
+                _ => {}
+            }
+        }
+        true
+    }
+}
