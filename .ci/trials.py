@@ -15,6 +15,11 @@ def wrong(what):
     faults.append(str(what))
 
 
+def left_out(what):
+    """Reports what a trial can't try here; .ci/run repeats it at its end."""
+    print(f"left out: {what}")
+
+
 def alone(trial, output):
     """A process that runs one trial. It leads a group of processes: all that it starts."""
     pid = os.fork()
@@ -79,13 +84,16 @@ def run_all(trials, limit, workers):
 
 def run(script, trials, limit, workers=4, times=False, strict=False):
     """Runs trials and prints their faults in the order of the trials: the script's status. What fails beside others
-    is tried once more alone, since a busy machine is late, unless it is strict; its faults go to standard error then."""
+    is tried once more alone, since a busy machine is late, unless it is strict; its faults go to standard error then,
+    and if it passes, .ci/run counts it as unsteady."""
     runs = run_all(trials, limit, workers)
     for at, it in enumerate(runs):
         if it.status and not strict:
             for line in it.said():
                 print(f"{script}: at first {line}", file=sys.stderr)
             runs[at] = it = run_all([trials[at]], 2 * limit, 1)[0]
+            if not it.status:
+                print(f"{script}: unsteady: {it.name}")
         for line in it.said():
             print(f"{script}: {line}")
         if times:

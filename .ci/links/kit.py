@@ -6,12 +6,11 @@ import re
 import shutil
 import socket
 import subprocess
-import sys
 import tempfile
 import threading
 import time
 
-from trials import drawn, wrong
+from trials import drawn, left_out, wrong
 
 TOP = os.path.dirname(os.path.dirname(os.path.dirname(os.path.realpath(__file__))))
 PROGRAM = [f"{TOP}/crates/ddcmp/out/ddcmp"]
@@ -238,7 +237,7 @@ def exchange(name, one, two, to_two, to_one, form=binary):
 def terminals():
     """Two ends of a serial line, pseudo-terminals of socat."""
     if not shutil.which("socat"):
-        print("no socat, so no serial device is tried (Debian: apt-get install socat)", file=sys.stderr)
+        left_out("serial devices (no socat)")
         yield None
         return
     with tempfile.TemporaryDirectory() as folder:
