@@ -58,7 +58,8 @@ use Rattle.ddcmp_pair.proofs.Arrivals.{seen, on_the_way, Related}
 use Rattle.ddcmp_pair.proofs.Linked.{Linked, linked-turned, linked-arrival, none-anew, same-starts}
 use Rattle.ddcmp_pair.proofs.Ordered.{run-holds, run-new, run-event}
 use Rattle.ddcmp_laws.specs.Counted.{is_nak, is_nak_type, frames_of}
-use Rattle.ddcmp_laws.specs.Faithful.{written, Begins, IsFaithful}
+use Rattle.ddcmp_laws.specs.Faithful.{written, IsFaithful}
+use Rattle.ddcmp_laws.specs.Prefix.{Begins}
 use Rattle.ddcmp_laws.specs.Positions.{messages_in}
 use Rattle.ddcmp_laws.specs.Clear.{IsMessage, FindRoom, FindsRoom, StaysClear, messages_sent}
 use Rattle.ddcmp_laws.specs.Clear.{WastesNothing}

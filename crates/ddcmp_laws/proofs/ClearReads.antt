@@ -21,7 +21,8 @@ use Rattle.ddcmp_pair.proofs.Places.{good_frames_in-append}
 use Rattle.ddcmp_pair.proofs.Relation.{Face}
 use Rattle.ddcmp_pair.proofs.Receptions.{hearing}
 use Rattle.ddcmp_pair.proofs.Arrivals.{seen, on_the_way}
-use Rattle.ddcmp_laws.specs.Faithful.{bytes_of, Begins}
+use Rattle.ddcmp_laws.specs.Faithful.{bytes_of}
+use Rattle.ddcmp_laws.specs.Prefix.{Begins}
 use Rattle.ddcmp_laws.proofs.FaithfulLaws.{AllWritable}
 
 -- ---- what is read of a clear line

@@ -10,7 +10,8 @@ use Rattle.ddcmp_proto.specs.Bytes.{received_of, after_item, items_added}
 use Rattle.ddcmp_pair.specs.declared.event.Event.{Event}
 use Rattle.ddcmp_pair.specs.declared.event.Event.TheVariants as event
 use Rattle.ddcmp_pair.specs.Run.{PairState, at, after_event}
-use Rattle.ddcmp_laws.specs.Faithful.{written, Begins, IsFaithful}
+use Rattle.ddcmp_laws.specs.Faithful.{written, IsFaithful}
+use Rattle.ddcmp_laws.specs.Prefix.{Begins}
 use Rattle.ddcmp_laws.specs.Clear.{IsMessage, FindRoom, FindsRoom, StaysClear}
 
 both : (a b : Bool) → (a && b) ≡ true → (a ≡ true) × (b ≡ true)

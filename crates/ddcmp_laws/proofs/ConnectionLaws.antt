@@ -16,7 +16,7 @@ use Rattle.ddcmp_laws.specs.Connected.{IsConnectedOnce, RanOverStreams, connecti
 use Rattle.ddcmp_laws.specs.Connected.{histories_of}
 use Rattle.ddcmp_laws.specs.Connections.{Connections, after_step_at, first_connection}
 use Rattle.ddcmp_laws.specs.Connections.{first_connections}
-use Rattle.ddcmp_laws.specs.LastConnection.{EndOverStreams, StartsIf, StartsLast}
+use Rattle.ddcmp_laws.specs.LastConnection.{EndOverStreams, StartsEach, StartsIf, StartsLast}
 use Rattle.ddcmp_laws.specs.Pipe.{AreConnectedOnce, AreSessionStreams, Made, SessionsOverStreams}
 use Rattle.ddcmp_laws.specs.Pipe.{after_session_at, connects_in_call, new_sessions}
 use Rattle.ddcmp_laws.specs.SessionRuns.{Ran, RanTogether, calls_of}
@@ -27,7 +27,7 @@ use Rattle.ddcmp_laws.proofs.OneConnection.{step-once}
 
 -- ---- calls of sessions are those of runs
 
-does-so : (call : SessionCall) (text : List ℕ) (old new : SessionView)
+pub does-so : (call : SessionCall) (text : List ℕ) (old new : SessionView)
     → SessionDoes call text old new → Does call text old new
 does-so Connected text old new d = d.0
 does-so (InputRead used) text old new d = d
@@ -127,6 +127,28 @@ starts-last (step ∷ rest) c does once bare =
         ⊎ (c.history.session.link.station.core.station.inbox ≡ [])
     by (inl never) = inl (omega (arith, never))
     by (inr w) = inr w.1.idle.inbox
+
+starts-all : (steps : List SessionStep) (c : Connection) → AreDone steps c → Once steps c.history
+    → IsBareBefore c → StartsEach steps c
+unfolding connections_in
+starts-all [] c does once bare = tt
+starts-all (step ∷ rest) c does once bare =
+    let s = step-once step.call step.session rest c does.0 once bare in (
+      starts-if step.call c.history.session (by once),
+      starts-all rest (after_step step c) does.1 s.2 s.3,
+    )
+  where
+    by : Once (step ∷ rest) c.history
+        → (connects_in_call step.call ≡ 0)
+        ⊎ (c.history.session.link.station.core.station.inbox ≡ [])
+    by (inl never) = inl (omega (arith, never))
+    by (inr w) = inr w.1.idle.inbox
+
+pub starts-each : (ran : Ran) → AreDone ran.steps (first_connection ran.made) → IsConnectedOnce ran
+    → StartsEach ran.steps (first_connection ran.made)
+starts-each ran done once =
+    starts-all ran.steps (first_connection ran.made) done (first-once ran.made ran.steps once)
+    (first-bare ran.made)
 
 end-streams : (steps : List (End × SessionStep)) (p : Connections) → AreOverStreams steps p
     → EndOverStreams steps p

@@ -10,7 +10,7 @@ use Rattle.ddcmp_io.specs.declared.device.LineFault.TheVariants.{Read, Write, En
 use Rattle.ddcmp_station.specs.Driving.{DriveTurn, Driving, Devices, driving_from, after_turn}
 use Rattle.ddcmp_station.specs.Driving.{after_turns, bytes_read, IsSentPart, EndsAtFault, Drives}
 use Rattle.ddcmp_proto.specs.Station.{StationView}
-use Rattle.ddcmp_laws.specs.Faithful.{Begins}
+use Rattle.ddcmp_laws.specs.Prefix.{Begins}
 use Rattle.ddcmp_laws.specs.Driven.{DriveCall, IsDriven}
 
 text_after : (ms syn : ℕ) (turns : List DriveTurn) (d : Driving)

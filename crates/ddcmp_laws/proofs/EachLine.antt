@@ -11,7 +11,8 @@ use Rattle.ddcmp_session.specs.Calls.{SessionCall, InputRead, InputEnded, Connec
 use Rattle.ddcmp_session.specs.Calls.{Received, Filled, LineTook, TimedOut, TimePassed, Delivered}
 use Rattle.ddcmp_session.specs.Calls.{OutputTook, Closed, SessionStep}
 use Rattle.ddcmp_session.specs.Connections.{AreDone, Connection, Does, after_all, after_step}
-use Rattle.ddcmp_session.specs.Devices.{BuffersView, Traffic}
+use Rattle.ddcmp_session.specs.Devices.{BuffersView}
+use Rattle.ddcmp_session.specs.Traffic.{Traffic}
 use Rattle.ddcmp_session.proofs.LinesGo.{then-over}
 use Rattle.ddcmp_laws.specs.Connections.{first_connection}
 use Rattle.ddcmp_laws.specs.EachLine.{LineIsOver, EndsALine, read_before, read_over_lines}

@@ -16,12 +16,12 @@ use Rattle.ddcmp_session.specs.Calls.{OutputTook, Closed, SessionStep, SessionHi
 use Rattle.ddcmp_session.specs.Calls.{IsSessionHistory, after_session_step, after_session_steps}
 use Rattle.ddcmp_session.specs.Calls.{SessionDoes, written_in}
 use Rattle.ddcmp_session.specs.Connections.{AreDone, Connection, Does, after_all, after_step}
-use Rattle.ddcmp_session.specs.Devices.{BuffersView, Traffic, nothing_read}
+use Rattle.ddcmp_session.specs.Devices.{BuffersView, nothing_read}
+use Rattle.ddcmp_session.specs.Traffic.{Traffic, no_traffic}
 use Rattle.ddcmp_session.specs.Finishing.{AreDeliveries, Finishes, IsDelivery, RunsToEnd}
 use Rattle.ddcmp_session.specs.Finishing.{taken_in}
 use Rattle.ddcmp_session.proofs.GoingLaws.{same-at}
 use Rattle.ddcmp_laws.specs.Connections.{first_connection}
-use Rattle.ddcmp_laws.specs.Loops.{no_traffic}
 use Rattle.ddcmp_laws.specs.Pipe.{Made, session_of}
 use Rattle.ddcmp_laws.specs.Endings.{WasFinished}
 use Rattle.ddcmp_laws.proofs.LosingAnew.{session-after}

@@ -38,7 +38,8 @@ use Rattle.ddcmp_pair.specs.Run.{EndState, PairState, at, wrote, reply_to, whole
 use Rattle.ddcmp_pair.specs.Run.{clear_refusal, after_clear_by, after_event, after_event_here, run}
 use Rattle.ddcmp_pair.specs.Run.{new_end, new_pair}
 use Rattle.ddcmp_pair.proofs.Subsequences.{place-decides}
-use Rattle.ddcmp_laws.specs.Faithful.{bytes_of, written, Begins, IsFaithful, StaysFaithful}
+use Rattle.ddcmp_laws.specs.Faithful.{bytes_of, written, IsFaithful, StaysFaithful}
+use Rattle.ddcmp_laws.specs.Prefix.{Begins}
 use Rattle.ddcmp_laws.proofs.PassedLaws.{passed_items, passed_closed}
 
 -- ---- frames that a station sends
@@ -105,7 +106,7 @@ writable_sent l s u f sound e =
 
 -- ---- what they are read as
 
-abbrev AllReceivable : Limits → List ReadItem → Type 0
+abbrev pub AllReceivable : Limits → List ReadItem → Type 0
 AllReceivable l [] = Unit {0}
 AllReceivable l (given ∷ rest) = IsReceivable l (received_of given) × AllReceivable l rest
 
@@ -113,17 +114,17 @@ all_front : (l : Limits) (x y : List ReadItem) → AllReceivable l (x ++ y) → 
 all_front l [] y all = tt
 all_front l (g ∷ x) y all = (all.0, all_front l x y all.1)
 
-all_behind : (l : Limits) (x y : List ReadItem) → AllReceivable l (x ++ y)
+pub all_behind : (l : Limits) (x y : List ReadItem) → AllReceivable l (x ++ y)
     → AllReceivable l (drop (length x) (x ++ y))
 all_behind l [] y all = all
 all_behind l (g ∷ x) y all = all_behind l x y all.1
 
-one_more : (fs sent : List WholeFrame) (g : WholeFrame) → IsSubsequence fs sent
+pub one_more : (fs sent : List WholeFrame) (g : WholeFrame) → IsSubsequence fs sent
     → IsSubsequence fs (g ∷ sent)
 one_more [] sent g s = tt
 one_more (f ∷ fs) sent g s = inr s
 
-front_of : (fs gs sent : List WholeFrame) → IsSubsequence (fs ++ gs) sent → IsSubsequence fs sent
+pub front_of : (fs gs sent : List WholeFrame) → IsSubsequence (fs ++ gs) sent → IsSubsequence fs sent
 front_of [] gs sent s = tt
 front_of (f ∷ fs) gs [] s = s
 front_of (f ∷ fs) gs (g ∷ sent) (inl s) = inl (s.0, front_of fs gs sent s.1)
@@ -207,10 +208,10 @@ begins_receivable l fill frames front all b =
     all_front l (items l.longest front) _
     (subst (AllReceivable l) (sym whole ∙ ap (items l.longest) (sym b.1) ∙ z) r.receivable)
 
-begins_placed : (l : Limits) (fill : ℕ) (frames : List WholeFrame) (front : List ℕ)
+pub begins_among : (l : Limits) (fill : ℕ) (frames : List WholeFrame) (front : List ℕ)
     → AllWritable frames → Begins front (bytes_of fill frames)
-    → is_some (place_of (good_frames l.longest front) frames) ≡ true
-begins_placed l fill frames front all b =
+    → IsSubsequence (good_frames l.longest front) frames
+begins_among l fill frames front all b =
     let r = all_read l fill frames all in
     let whole : items l.longest (bytes_of fill frames) ≡ r.added =
     r.items_are ∙ ap (λ (x : List ReadItem). x ++ r.added) (items-nothing l.longest) in
@@ -218,8 +219,14 @@ begins_placed l fill frames front all b =
     let good =
     subst (λ x. IsSubsequence x frames)
     (ap good_frames_in (sym whole) ∙ ap (good_frames l.longest) (sym b.1) ∙ z) r.good in
+    front_of (good_frames l.longest front) _ frames good
+
+begins_placed : (l : Limits) (fill : ℕ) (frames : List WholeFrame) (front : List ℕ)
+    → AllWritable frames → Begins front (bytes_of fill frames)
+    → is_some (place_of (good_frames l.longest front) frames) ≡ true
+begins_placed l fill frames front all b =
     (place-decides (good_frames l.longest front) frames).1
-    (front_of (good_frames l.longest front) _ frames good)
+    (begins_among l fill frames front all b)
 
 -- ---- an end
 

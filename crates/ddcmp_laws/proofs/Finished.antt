@@ -13,7 +13,8 @@ use Rattle.ddcmp_session.specs.Session.{SessionView, form_of, room_for_mail}
 use Rattle.ddcmp_session.specs.Calls.{Closed, Mail, SessionHistory, SessionStep, losses}
 use Rattle.ddcmp_session.specs.Calls.{after_session_step, after_session_steps}
 use Rattle.ddcmp_session.specs.Connections.{AreDone}
-use Rattle.ddcmp_session.specs.Devices.{BuffersView, Traffic}
+use Rattle.ddcmp_session.specs.Devices.{BuffersView}
+use Rattle.ddcmp_session.specs.Traffic.{Traffic}
 use Rattle.ddcmp_session.specs.EndText.{end_text}
 use Rattle.ddcmp_streams.specs.Queued.{queued}
 use Rattle.ddcmp_session.specs.Finishing.{WritesEnd, WritesEndIf, after_taken_by, taken_in}
@@ -72,7 +73,7 @@ module _ (is_well : Bool) (ran : Ran) (held : BuffersView) (t after : Traffic) (
       (ends_if f.writes f.delivered f.with_lines f.lines)
       ∙ (kept f.delivers.steps fin.closed f.delivered f.delivers.calls).lost)
 
-  taken_at_last : (read : after.read ≡ t.read)
+  pub taken_at_last : (read : after.read ≡ t.read)
       × (after.written
       ≡ (t.written ++ taken_in fin.finishes.delivers.steps fin.closed)
       ++ taken_in fin.finishes.takes.steps fin.finishes.with_lines)

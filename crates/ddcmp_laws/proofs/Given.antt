@@ -24,7 +24,8 @@ use Rattle.ddcmp_streams.specs.Messages.{after_input, count_of, entries_of_input
 use Rattle.ddcmp_streams.specs.Messages.{messages_among, messages_begun}
 use Rattle.ddcmp_session.specs.Session.{form_of, lost_among, lost_at_end, lost_with_last}
 use Rattle.ddcmp_session.specs.Calls.{SessionHistory, end_in}
-use Rattle.ddcmp_session.specs.Devices.{Agrees, BuffersView, Traffic}
+use Rattle.ddcmp_session.specs.Devices.{Agrees, BuffersView}
+use Rattle.ddcmp_session.specs.Traffic.{Traffic}
 use Rattle.ddcmp_session.proofs.InputLaws.{form-stays}
 use Rattle.ddcmp_laws.specs.Sessions.{got_in, messages_of}
 use Rattle.ddcmp_laws.proofs.Holding.{Holds}

@@ -8,7 +8,8 @@ use Rattle.ddcmp_station.specs.Driving.{Driving, frame_bytes}
 use Rattle.ddcmp_io.specs.declared.carrier.End.{End}
 use Rattle.ddcmp_io.specs.declared.carrier.End.TheVariants.{A, B}
 use Rattle.ddcmp_pair.specs.Run.{EndState, PairState, new_end, new_pair}
-use Rattle.ddcmp_laws.specs.Faithful.{bytes_of, written, Begins, IsFaithful}
+use Rattle.ddcmp_laws.specs.Faithful.{bytes_of, written, IsFaithful}
+use Rattle.ddcmp_laws.specs.Prefix.{Begins}
 use Rattle.ddcmp_laws.specs.PairCalls.{Call, Start, Halt, Send, Poll, Arrive, Expire, Take, Arm}
 use Rattle.ddcmp_laws.specs.PairCalls.{Ask}
 use Rattle.ddcmp_laws.specs.PairCalls.{after_call_here, after_calls_here, after_call, calls_at}

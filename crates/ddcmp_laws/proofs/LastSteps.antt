@@ -24,7 +24,8 @@ use Rattle.ddcmp_io.specs.declared.carrier.End.{End}
 use Rattle.ddcmp_io.specs.declared.carrier.End.TheVariants.{A, B}
 use Rattle.ddcmp_pair.specs.Run.{EndState, PairState, after_arrival_here, notices_at, restarts_in}
 use Rattle.ddcmp_station.specs.Linking.{LinkView, after_frame}
-use Rattle.ddcmp_laws.specs.Faithful.{Begins, written}
+use Rattle.ddcmp_laws.specs.Faithful.{written}
+use Rattle.ddcmp_laws.specs.Prefix.{Begins}
 use Rattle.ddcmp_laws.proofs.FaithfulLaws.{sound_made}
 use Rattle.ddcmp_laws.specs.Links.{IsSameEnd, LinkHistory}
 use Rattle.ddcmp_laws.specs.StationRuns.{has_heard_none}

@@ -1,5 +1,6 @@
 pub mod StationLaws
 pub mod StartingLaws
+pub mod BytesArrive
 pub mod CameLaws
 pub mod NumberLaws
 pub mod StartLaws
@@ -7,6 +8,7 @@ pub mod LineLaws
 pub mod CallLaws
 pub mod CountLaws
 pub mod PassedLaws
+pub mod Extended
 pub mod FaithfulLaws
 pub mod DamageLaws
 pub mod RecoveredLaws
@@ -59,10 +61,15 @@ pub mod TurnRounds
 pub mod TurnsGoOn
 pub mod StationRuns
 pub mod LinkRestarts
+pub mod Acted
 pub mod Anew
 pub mod ConnectionLaws
 pub mod EachLine
 pub mod EndLaws
+pub mod FrameSteps
+pub mod FramesAtA
+pub mod FramesAtB
+pub mod FramesTogether
 pub mod Finished
 pub mod Given
 pub mod Histories
@@ -79,6 +86,11 @@ pub mod LinkSteps
 pub mod Losing
 pub mod LosingAnew
 pub mod LoopLaws
+pub mod NoisyReads
+pub mod MergeA
+pub mod MergeB
+pub mod MergeRuns
+pub mod MergeSteps
 pub mod OneConnection
 pub mod Outcomes
 pub mod OverLines
@@ -86,6 +98,8 @@ pub mod Pipes
 pub mod Reading
 pub mod Ready
 pub mod RunLaws
+pub mod SessionSleeping
+pub mod SessionWaking
 pub mod SessionStory
 pub mod SessionStreams
 pub mod Texts

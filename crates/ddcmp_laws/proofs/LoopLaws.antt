@@ -2,16 +2,17 @@
 use Rattle.std.proofs.Common.{◌≡◌, ◌∙◌, ap, sym, subst, refl, Bool, true, false, cond, []}
 use Rattle.std.proofs.Common.{◌∷◌, ◌++◌, Option, Some, append_assoc, append-nil}
 use Rattle.ddcmp_input.specs.InBinary.{in_binary}
-use Rattle.ddcmp_laws.specs.Faithful.{Begins}
+use Rattle.ddcmp_laws.specs.Prefix.{Begins}
 use Rattle.ddcmp_streams.specs.declared.messages.MessageForm.TheVariants as form
 use Rattle.ddcmp_frame.specs.Reader.{StandsFor}
 use Rattle.ddcmp_session.specs.Session.{SessionView, form_of}
 use Rattle.ddcmp_session.specs.Calls.{SessionDoes, Connected, SessionStep, SessionHistory}
 use Rattle.ddcmp_session.specs.Calls.{after_session_step, after_session_steps}
 use Rattle.ddcmp_session.specs.Calls.{end_in}
-use Rattle.ddcmp_session.specs.Devices.{Agrees, BuffersView, GoesOn, Traffic, end_of}
+use Rattle.ddcmp_session.specs.Devices.{Agrees, BuffersView, GoesOn, end_of}
+use Rattle.ddcmp_session.specs.Traffic.{Traffic, no_traffic, received, sent}
 use Rattle.ddcmp_session.specs.Devices.{nothing_read}
-use Rattle.ddcmp_laws.specs.Loops.{no_traffic, DevicesPipe, DevicesPipeAll, HasRun}
+use Rattle.ddcmp_laws.specs.Loops.{DevicesPipe, DevicesPipeAll, HasRun}
 use Rattle.ddcmp_laws.specs.Pipe.{Made, session_of, PipesBytes, PipesWhole}
 use Rattle.ddcmp_laws.specs.Sessions.{texts_of}
 use Rattle.ddcmp_laws.proofs.Writing.{is_text}
@@ -23,6 +24,7 @@ module _ (made : Made) (connected : SessionView)
 
   first_agrees : StandsFor connected.link.station.line []
       → Agrees nothing_read (after_session_step step (session_of made)) no_traffic
+  unfolding received sent
   first_agrees stands = record {
     read = refl;
     over = refl;

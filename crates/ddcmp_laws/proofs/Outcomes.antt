@@ -189,20 +189,20 @@ links_after first second steps =
     after_steps (link_steps_at steps (new_sessions first second)) (links_made first second)
 
 module _ (first second : Made) (steps : List (End × SessionStep)) where
-  made_links : links_made first second ≡ links_of first second (new_sessions first second) 0 0
+  pub made_links : links_made first second ≡ links_of first second (new_sessions first second) 0 0
   made_links =
       λ i. record {
         a = (begins first.options first.kind first.line first.of_data).1 i;
         b = (begins second.options second.kind second.line second.of_data).1 i;
       }
 
-  new_hold : BothHold first second (new_sessions first second)
+  pub new_hold : BothHold first second (new_sessions first second)
   new_hold = (
     (begins first.options first.kind first.line first.of_data).0,
     (begins second.options second.kind second.line second.of_data).0,
   )
 
-  are_once : AreConnectedOnce steps
+  pub are_once : AreConnectedOnce steps
       → AreStartedOnce (link_steps_at steps (new_sessions first second))
   are_once once = record {
     at_a =

@@ -5,10 +5,10 @@ use Rattle.ddcmp_io.specs.declared.carrier.End.TheVariants.{A}
 use Rattle.ddcmp_session.specs.Session.{SessionView}
 use Rattle.ddcmp_session.specs.Calls.{SessionStep}
 use Rattle.ddcmp_session.specs.Connections.{AreDone, after_all, after_step}
-use Rattle.ddcmp_session.specs.Devices.{Agrees, BuffersView, Traffic, nothing_read}
+use Rattle.ddcmp_session.specs.Devices.{Agrees, BuffersView, nothing_read}
+use Rattle.ddcmp_session.specs.Traffic.{Traffic, no_traffic, received, sent}
 use Rattle.ddcmp_session.specs.Lines.{GoesOver}
 use Rattle.ddcmp_laws.specs.Connections.{AreCalls, Connections, first_connection}
-use Rattle.ddcmp_laws.specs.Loops.{no_traffic}
 use Rattle.ddcmp_laws.specs.OverLines.{HasRunOver}
 use Rattle.ddcmp_laws.specs.Pipe.{Made, session_of}
 use Rattle.ddcmp_laws.specs.Sessions.{texts_of}
@@ -16,6 +16,7 @@ use Rattle.ddcmp_laws.proofs.Anew.{text_of_all}
 
 pub agrees_first : (made : Made) → StandsFor made.line []
     → Agrees nothing_read (session_of made) no_traffic
+unfolding received sent
 agrees_first made stands = record {
   read = refl;
   over = refl;

@@ -7,11 +7,11 @@ use Rattle.ddcmp_session.specs.Calls.{SessionCall, InputRead, InputEnded, Connec
 use Rattle.ddcmp_session.specs.Calls.{Received, Filled, LineTook, TimedOut, TimePassed, Delivered}
 use Rattle.ddcmp_session.specs.Calls.{OutputTook, Closed, SessionStep}
 use Rattle.ddcmp_session.specs.Connections.{AreDone, Connection, after_step}
-use Rattle.ddcmp_session.specs.Devices.{BuffersView, Traffic, nothing_read}
+use Rattle.ddcmp_session.specs.Devices.{BuffersView, nothing_read}
+use Rattle.ddcmp_session.specs.Traffic.{Traffic, no_traffic}
 use Rattle.ddcmp_session.specs.Lines.{AllReady, Ends, ReadyIf}
 use Rattle.ddcmp_laws.specs.Connections.{first_connection}
 use Rattle.ddcmp_laws.specs.LastConnection.{StartsEach, StartsIf, StartsLast}
-use Rattle.ddcmp_laws.specs.Loops.{no_traffic}
 use Rattle.ddcmp_laws.specs.Pipe.{Made, session_of}
 use Rattle.ddcmp_laws.specs.SessionRuns.{WasEnded}
 use Rattle.ddcmp_laws.proofs.Anew.{Stays, follows, stays_first}

@@ -5,7 +5,7 @@ use Rattle.std.specs.Prelude.{◌||◌}
 use Rattle.ddcmp_frame.specs.Reader.{StandsFor}
 use Rattle.ddcmp_input.specs.InBinary.{in_binary, told_in}
 use Rattle.ddcmp_proto.specs.Config.{first_refusal}
-use Rattle.ddcmp_laws.specs.Faithful.{Begins}
+use Rattle.ddcmp_laws.specs.Prefix.{Begins}
 use Rattle.ddcmp_io.specs.declared.carrier.End.{End}
 use Rattle.ddcmp_io.specs.declared.carrier.End.TheVariants.{A, B}
 use Rattle.ddcmp_streams.specs.declared.messages.MessageForm.TheVariants as form
@@ -16,7 +16,8 @@ use Rattle.ddcmp_session.specs.Calls.{Received, Filled, LineTook, TimedOut, Time
 use Rattle.ddcmp_session.specs.Calls.{OutputTook, Closed, SessionStep, SessionHistory, end_in}
 use Rattle.ddcmp_session.specs.Calls.{is_told_in}
 use Rattle.ddcmp_session.specs.Connections.{AreDone, Connection, Does, after_all, after_step}
-use Rattle.ddcmp_session.specs.Devices.{BuffersView, Traffic, nothing_read}
+use Rattle.ddcmp_session.specs.Devices.{BuffersView, nothing_read}
+use Rattle.ddcmp_session.specs.Traffic.{Traffic, no_traffic}
 use Rattle.ddcmp_session.specs.Lines.{AllKeepOpen, Closes, Ends, IsReady, KeepsOpen, WentOver}
 use Rattle.ddcmp_streams.specs.Messages.{after_input, entries_of_input}
 use Rattle.ddcmp_session.proofs.InputGoes.{entries-read}
@@ -27,7 +28,7 @@ use Rattle.ddcmp_laws.specs.Connections.{AreCalls, Connections, PipesAnew, Pipes
 use Rattle.ddcmp_laws.specs.Connections.{WritesAnew, after_steps, after_step_at, delivered_since}
 use Rattle.ddcmp_laws.specs.Connections.{first_connection, first_connections, read_since}
 use Rattle.ddcmp_laws.specs.EachLine.{DeliversLine, IsReadOverLines, read_over_lines}
-use Rattle.ddcmp_laws.specs.Loops.{messages_given, no_traffic}
+use Rattle.ddcmp_laws.specs.Loops.{messages_given}
 use Rattle.ddcmp_laws.specs.SessionRuns.{DeliversAll, DeliversFirst, FilesBegin, FilesPass}
 use Rattle.ddcmp_laws.specs.SessionRuns.{Ran, RanTogether, WasEnded, calls_of, given_since, got_to}
 use Rattle.ddcmp_laws.proofs.Anew.{AcknowledgedAnew, Stays, acknowledged_anew_a}
@@ -377,7 +378,8 @@ pub ended-after : (made : Made) (is_well : Bool) (held : BuffersView) (now : Ses
     (known : Option Traffic) → StandsFor made.line []
     → (ends : Ends is_well nothing_read (session_of made).session (Some no_traffic) held now known)
     → (t : Traffic) × (known ≡ Some t)
-    × (went : WentOver (IsReady (session_of made).session) (first_connection made) ends.unclosed
+    × (went : WentOver (IsReady (session_of made).session) (first_connection made) []
+    no_traffic.log ends.unclosed
     held t)
     × WasEnded (record { made = made; steps = went.steps }) held t now
 ended-after made is_well held now known stands ends =

@@ -13,7 +13,7 @@ use Rattle.ddcmp_net.specs.declared.serve_fault.ServeFault.{ServeFault}
 use Rattle.ddcmp_net.specs.declared.serve_fault.ServeFault.TheVariants.{Line}
 use Rattle.ddcmp_net.specs.Serving.{default_config, HasStarted, OffersOnce, WritesOut, report_text}
 use Rattle.ddcmp_net.specs.Serving.{served_answer, Serves}
-use Rattle.ddcmp_laws.specs.Faithful.{Begins}
+use Rattle.ddcmp_laws.specs.Prefix.{Begins}
 use Rattle.ddcmp_laws.specs.Driven.{DriveCall, driven, IsDriven, after_drives, begun, seen_of}
 use Rattle.ddcmp_laws.specs.Served.{IsServed}
 use Rattle.ddcmp_laws.proofs.Drives.{drives_by_a_call}

@@ -11,7 +11,7 @@ use Rattle.ddcmp_io.specs.declared.carrier.End.TheVariants.{A, B}
 use Rattle.ddcmp_streams.specs.Messages.{message_in, after_input, entries_of_input, after_last}
 use Rattle.ddcmp_streams.specs.Messages.{entry_of_last}
 use Rattle.ddcmp_session.specs.Session.{SessionView, takes_end}
-use Rattle.ddcmp_laws.specs.Faithful.{Begins}
+use Rattle.ddcmp_laws.specs.Prefix.{Begins}
 use Rattle.ddcmp_laws.specs.Links.{LinkHistory, LinkStep, IsHistory, after_history, after_step}
 use Rattle.ddcmp_laws.specs.Links.{LinkCall, Starts, BeginsAnew, Halts, Wakes, Offers, FillsOne}
 use Rattle.ddcmp_laws.specs.Links.{IsSent, Feeds, Takes, used_by, gone_by, LinkOverStreams}

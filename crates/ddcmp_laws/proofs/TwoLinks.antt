@@ -14,7 +14,8 @@ use Rattle.ddcmp_io.specs.declared.carrier.End.{End}
 use Rattle.ddcmp_io.specs.declared.carrier.End.TheVariants.{A, B}
 use Rattle.ddcmp_pair.specs.InOrder.{Delivers}
 use Rattle.ddcmp_pair.specs.Run.{EndState, PairState, new_pair, is_clean}
-use Rattle.ddcmp_laws.specs.Faithful.{written, Begins, IsFaithful}
+use Rattle.ddcmp_laws.specs.Faithful.{written, IsFaithful}
+use Rattle.ddcmp_laws.specs.Prefix.{Begins}
 use Rattle.ddcmp_laws.specs.PairCalls.{Call, Poll, Expire, after_calls_here, after_call, run_calls}
 use Rattle.ddcmp_laws.specs.PairCalls.{calls_at, starts_by, starts_in}
 use Rattle.ddcmp_laws.specs.Streams.{OverStreams}

@@ -2,7 +2,8 @@
 use Rattle.std.specs.Prelude.{◌≡◌, ℕ, ⊤, List, [], ◌∷◌, ◌++◌}
 use Rattle.ddcmp_session.specs.Calls.{Connected, LineEnded, SessionCall, SessionStep}
 use Rattle.ddcmp_session.specs.Connections.{AreDone, Connection, after_step}
-use Rattle.ddcmp_session.specs.Devices.{BuffersView, Traffic}
+use Rattle.ddcmp_session.specs.Devices.{BuffersView}
+use Rattle.ddcmp_session.specs.Traffic.{Traffic}
 use Rattle.ddcmp_session.specs.Session.{SessionView}
 use Rattle.ddcmp_laws.specs.Connections.{delivered_since, first_connection, read_since}
 use Rattle.ddcmp_laws.specs.Loops.{messages_given}

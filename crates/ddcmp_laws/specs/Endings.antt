@@ -6,7 +6,8 @@ use Rattle.ddcmp_streams.specs.declared.messages.MessageForm.{MessageForm}
 use Rattle.ddcmp_streams.specs.declared.messages.MessageForm.TheVariants as form
 use Rattle.ddcmp_session.specs.Session.{SessionView}
 use Rattle.ddcmp_session.specs.Calls.{SessionHistory, Shown, Mail, losses}
-use Rattle.ddcmp_session.specs.Devices.{BuffersView, Traffic}
+use Rattle.ddcmp_session.specs.Devices.{BuffersView}
+use Rattle.ddcmp_session.specs.Traffic.{Traffic}
 use Rattle.ddcmp_session.specs.EndText.{end_text}
 use Rattle.ddcmp_session.specs.Finishing.{Finishes}
 use Rattle.ddcmp_laws.specs.Pipe.{undelivered}

@@ -5,6 +5,7 @@ use Rattle.ddcmp_frame.specs.Wire.{wire}
 use Rattle.ddcmp_pair.specs.declared.event.Event.{Event}
 use Rattle.ddcmp_pair.specs.Place.{WholeFrame}
 use Rattle.ddcmp_pair.specs.Run.{EndState, PairState, after_event}
+use Rattle.ddcmp_laws.specs.Prefix.{Begins}
 
 -- frames on the line one after another, each after its fill
 unfoldable pub bytes_of : ℕ → List WholeFrame → List ℕ
@@ -14,10 +15,6 @@ bytes_of fill (f ∷ rest) = (replicate fill SYN ++ wire f.0 f.1) ++ bytes_of fi
 -- the bytes that an end wrote since the line was cleared
 abbrev pub written : EndState → List ℕ
 written x = bytes_of x.syn x.sent
-
--- these bytes are a prefix of the text
-abbrev pub Begins : List ℕ → List ℕ → Type 0
-Begins front text = (rest : List ℕ) × (front ++ rest ≡ text)
 
 -- what arrived at each end is a prefix of what the other wrote
 pub record IsFaithful (p : PairState) : Type 0 where

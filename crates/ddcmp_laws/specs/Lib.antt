@@ -1,9 +1,12 @@
+pub mod Arrival
+pub mod Traces
 pub mod Vectors
 pub mod Story
 pub mod Starts
 pub mod Station
 pub mod Calls
 pub mod Counted
+pub mod Prefix
 pub mod Faithful
 pub mod Damage
 pub mod Recovered
@@ -36,6 +39,7 @@ pub mod OverLines
 pub mod Connections
 pub mod AnewStory
 pub mod SessionRuns
+pub mod SessionSleep
 pub mod Connected
 pub mod Endings
 pub mod LastConnection

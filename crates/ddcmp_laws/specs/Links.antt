@@ -16,7 +16,8 @@ use Rattle.ddcmp_io.specs.declared.carrier.End.{End}
 use Rattle.ddcmp_io.specs.declared.carrier.End.TheVariants.{A, B}
 use Rattle.ddcmp_pair.specs.Prefix.{IsPrefixOf}
 use Rattle.ddcmp_pair.specs.Run.{EndState, acknowledged_in}
-use Rattle.ddcmp_laws.specs.Faithful.{written, Begins}
+use Rattle.ddcmp_laws.specs.Faithful.{written}
+use Rattle.ddcmp_laws.specs.Prefix.{Begins}
 use Rattle.ddcmp_laws.specs.PairCalls.{Call, Start, Halt, Send, Poll, Arrive, Take, Arm}
 use Rattle.ddcmp_laws.specs.Driven.{calls_of_timer}
 

@@ -2,26 +2,16 @@
 use Rattle.std.specs.Prelude.{◌≡◌, ℕ, true, false, if◌then◌else◌, List, [], ◌++◌}
 use Rattle.std.specs.List.{All}
 use Rattle.ddcmp_input.specs.InBinary.{in_binary, Fits}
-use Rattle.ddcmp_laws.specs.Faithful.{Begins}
+use Rattle.ddcmp_laws.specs.Prefix.{Begins}
 use Rattle.ddcmp_streams.specs.declared.messages.MessageForm.TheVariants as form
 use Rattle.ddcmp_session.specs.Session.{SessionView, is_delivered}
 use Rattle.ddcmp_session.specs.Calls.{SessionHistory, SessionStep, IsSessionHistory}
 use Rattle.ddcmp_session.specs.Calls.{after_session_steps, end_in}
-use Rattle.ddcmp_session.specs.Devices.{Agrees, BuffersView, Traffic}
+use Rattle.ddcmp_session.specs.Devices.{Agrees, BuffersView}
+use Rattle.ddcmp_session.specs.Traffic.{Traffic}
 use Rattle.ddcmp_session.specs.Lines.{Closes}
 use Rattle.ddcmp_laws.specs.Pipe.{Made, session_of, undelivered}
 use Rattle.ddcmp_laws.specs.Sessions.{mail_in, messages_of}
-
--- No bytes were read or written yet.
-abbrev pub no_traffic : Traffic
-no_traffic = record {
-  read = [];
-  is_over = false;
-  came = [];
-  gone = [];
-  written = [];
-  faults = [];
-}
 
 -- A history of a session from its beginning, which agrees with its devices at its end.
 pub record HasRun (made : Made) (new : SessionView) (held : BuffersView) (t : Traffic) : Type 0

@@ -8,7 +8,7 @@ use Rattle.ddcmp_io.specs.declared.carrier.End.{End}
 use Rattle.ddcmp_io.specs.declared.carrier.End.TheVariants.{A, B}
 use Rattle.ddcmp_pair.specs.Prefix.{IsPrefixOf}
 use Rattle.ddcmp_pair.specs.Run.{new_pair}
-use Rattle.ddcmp_laws.specs.Faithful.{Begins}
+use Rattle.ddcmp_laws.specs.Prefix.{Begins}
 use Rattle.ddcmp_streams.specs.declared.messages.MessageForm.TheVariants as form
 use Rattle.ddcmp_io.specs.declared.line_kind.LineKind.{LineKind}
 use Rattle.ddcmp_streams.specs.declared.options.Options.{Options}

@@ -7,7 +7,7 @@ use Rattle.ddcmp_station.specs.declared.driver.Driven.{Driven}
 use Rattle.ddcmp_io.specs.declared.device.LineFault.{LineFault}
 use Rattle.ddcmp_station.specs.Driving.{Devices, bytes_read}
 use Rattle.ddcmp_net.specs.Serving.{default_config, OffersOnce, WritesOut, report_text}
-use Rattle.ddcmp_laws.specs.Faithful.{Begins}
+use Rattle.ddcmp_laws.specs.Prefix.{Begins}
 use Rattle.ddcmp_laws.specs.Driven.{DriveCall, after_drives, begun, seen_of}
 
 -- A served station is a new one that was started and driven by this call: the source lost the bytes

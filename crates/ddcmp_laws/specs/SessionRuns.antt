@@ -9,14 +9,15 @@ use Rattle.ddcmp_io.specs.declared.carrier.End.{End}
 use Rattle.ddcmp_io.specs.declared.carrier.End.TheVariants.{A, B}
 use Rattle.ddcmp_pair.specs.Prefix.{IsPrefixOf}
 use Rattle.ddcmp_pair.specs.Run.{new_pair, is_clean}
-use Rattle.ddcmp_laws.specs.Faithful.{Begins}
+use Rattle.ddcmp_laws.specs.Prefix.{Begins}
 use Rattle.ddcmp_laws.specs.LinkRestarts.{calls_of_links}
 use Rattle.ddcmp_laws.specs.StationRuns.{run_station_calls}
 use Rattle.ddcmp_streams.specs.declared.messages.MessageForm.TheVariants as form
 use Rattle.ddcmp_session.specs.Session.{SessionView}
 use Rattle.ddcmp_session.specs.Calls.{SessionStep}
 use Rattle.ddcmp_session.specs.Connections.{AreDone, Connection, after_all}
-use Rattle.ddcmp_session.specs.Devices.{Agrees, BuffersView, Traffic}
+use Rattle.ddcmp_session.specs.Devices.{Agrees, BuffersView}
+use Rattle.ddcmp_session.specs.Traffic.{Traffic}
 use Rattle.ddcmp_session.specs.Lines.{AllKeepOpen, Closes}
 use Rattle.ddcmp_laws.specs.Sessions.{messages_of, mail_in}
 use Rattle.ddcmp_laws.specs.Pipe.{Made, links_made, undelivered}

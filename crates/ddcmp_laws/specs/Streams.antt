@@ -5,7 +5,8 @@ use Rattle.ddcmp_station.specs.Driving.{Driving}
 use Rattle.ddcmp_io.specs.declared.carrier.End.{End}
 use Rattle.ddcmp_io.specs.declared.carrier.End.TheVariants.{A, B}
 use Rattle.ddcmp_pair.specs.Run.{PairState}
-use Rattle.ddcmp_laws.specs.Faithful.{Begins, IsFaithful}
+use Rattle.ddcmp_laws.specs.Faithful.{IsFaithful}
+use Rattle.ddcmp_laws.specs.Prefix.{Begins}
 use Rattle.ddcmp_laws.specs.PairCalls.{Call, after_call}
 use Rattle.ddcmp_laws.specs.Driven.{DriveCall, after_drive}
 

@@ -4,13 +4,13 @@ ghost use Rattle.ddcmp_frame.specs.Reader.{StandsFor};
 ghost use Rattle.ddcmp_session.specs.Session.{SessionView};
 ghost use Rattle.ddcmp_session.specs.Calls.{SessionStep};
 ghost use Rattle.ddcmp_session.specs.Connections.{AreDone};
-ghost use Rattle.ddcmp_session.specs.Devices.{BuffersView, Traffic, nothing_read};
+ghost use Rattle.ddcmp_session.specs.Devices.{BuffersView, nothing_read};
+ghost use Rattle.ddcmp_session.specs.Traffic.{Traffic, no_traffic};
 ghost use Rattle.ddcmp_session.specs.Finishing.{RunsToEnd};
 ghost use Rattle.ddcmp_laws.specs.Connected.{IsKeptOverOneConnection};
 ghost use Rattle.ddcmp_laws.specs.Connections.{first_connection};
 ghost use Rattle.ddcmp_laws.specs.Endings.{FilesArrive, TookAll, WasFinished};
 ghost use Rattle.ddcmp_laws.specs.LastConnection.{IsKeptOverLastConnection};
-ghost use Rattle.ddcmp_laws.specs.Loops.{no_traffic};
 ghost use Rattle.ddcmp_laws.specs.Pipe.{Made, session_of};
 ghost use Rattle.ddcmp_laws.specs.SessionRuns.{IsKeptByRuns, Ran};
 

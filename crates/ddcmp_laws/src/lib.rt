@@ -7,6 +7,7 @@
 //! `station_steps`, `link_steps` or `session_steps` makes that call.
 #![tactic(auto)]
 
+pub mod arrival;
 pub mod calls;
 pub mod connections;
 pub mod damage;
@@ -25,6 +26,7 @@ pub mod rules;
 pub mod runs;
 pub mod server;
 pub mod session_runs;
+pub mod session_sleep;
 pub mod session_steps;
 pub mod sessions;
 pub mod settles;

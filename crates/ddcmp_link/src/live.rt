@@ -3,7 +3,7 @@ ghost use Rattle.std.specs.Prelude.{◌≡◌, ◌≤◌, ◌↔◌, length};
 ghost use Rattle.ddcmp_device.specs.StandardStreams.{at_once};
 ghost use Rattle.ddcmp_io.specs.Transfers.{count_moved};
 ghost use Rattle.ddcmp_link.specs.Events.{Reports};
-ghost use Rattle.ddcmp_session.specs.Devices.{count_read};
+ghost use Rattle.ddcmp_session.specs.Traffic.{count_read};
 
 use ddcmp_device::{
     Descriptor, Framing, Line, LineEvent, LineName, OpenRefusal, Opener, Poller, StandardStream,

@@ -17,8 +17,9 @@ use Rattle.ddcmp_session.specs.Session.{SessionView, form_of}
 use Rattle.ddcmp_session.specs.Calls.{Closed, Delivered, OutputTook, SessionStep, SessionHistory}
 use Rattle.ddcmp_session.specs.Calls.{after_session_step, after_session_steps, written_in}
 use Rattle.ddcmp_session.specs.Connections.{after_all}
-use Rattle.ddcmp_session.specs.Devices.{Becomes, HasReported, Traffic, after_fault, after_wait}
-use Rattle.ddcmp_session.specs.Devices.{after_written, Agrees, BuffersView, GoesOn, Reports}
+use Rattle.ddcmp_session.specs.Devices.{HasReported}
+use Rattle.ddcmp_session.specs.Traffic.{Becomes, Traffic, after_fault, after_wait, after_written}
+use Rattle.ddcmp_session.specs.Devices.{Agrees, BuffersView, GoesOn, Reports}
 use Rattle.ddcmp_session.specs.Lines.{Closes, Ends, ReportsOver}
 use Rattle.ddcmp_session.specs.Finishing.{AreDeliveries, Drains, Finishes, IsDrained, RunsToEnd}
 use Rattle.ddcmp_session.specs.Finishing.{after_taken_by, taken_in}

@@ -4,8 +4,8 @@ use Rattle.std.specs.Result.{IsErrAnd}
 use Rattle.std.proofs.Common.{◌≡◌, ◌∙◌, ap, sym, subst, refl, ℕ, Bool, true}
 use Rattle.std.proofs.Common.{false, List, [], ◌∷◌, ◌++◌, Option, Some}
 use Rattle.std.proofs.Common.{append_assoc, append-nil, cond}
-use Rattle.ddcmp_session.specs.Devices.{HasReported, IsOfRun, AreOfRun, Reports, after_fault}
-use Rattle.ddcmp_session.specs.Devices.{after_wait}
+use Rattle.ddcmp_session.specs.Devices.{HasReported, IsOfRun, AreOfRun, Reports}
+use Rattle.ddcmp_session.specs.Traffic.{Becomes, Traffic, after_fault, after_line_read, after_wait}
 use Rattle.std.specs.Prelude.{if◌then◌else◌, ◌||◌}
 use Rattle.ddcmp_frame.specs.Reader.{StandsFor}
 use Rattle.ddcmp_station.specs.Linking.{LinkView, after_taking, after_frames}
@@ -26,9 +26,11 @@ use Rattle.ddcmp_session.specs.Calls.{SessionDoes}
 use Rattle.ddcmp_session.specs.Calls.{SessionHistory, SessionStep, IsSessionHistory}
 use Rattle.ddcmp_session.specs.Calls.{after_session_step, after_session_steps, used_in, gone_in}
 use Rattle.ddcmp_session.specs.Calls.{end_in, input_in, is_told_in, written_in}
-use Rattle.ddcmp_session.specs.Devices.{Traffic, BuffersView, Agrees, WentOn, GoesOn, Becomes}
-use Rattle.ddcmp_session.specs.Devices.{after_came}
+use Rattle.ddcmp_session.specs.Devices.{BuffersView, Agrees, WentOn, GoesOn}
 use Rattle.ddcmp_session.specs.Devices.{end_of}
+use Rattle.ddcmp_session.specs.Traffic.{LineLog}
+use Rattle.ddcmp_session.specs.Orders.{Follows, log_after, log_over}
+use Rattle.ddcmp_session.proofs.OrderLaws.{log-then}
 
 -- ---- histories, one after another
 
@@ -45,9 +47,12 @@ of-run : (xs ys : List SessionStep) → AreOfRun xs → AreOfRun ys → AreOfRun
 of-run [] ys some more = more
 of-run (x ∷ xs) ys some more = (some.0, of-run xs ys some.1 more)
 
-went-then : {h : SessionHistory} {s0 s1 : SessionView} {h0 h1 : BuffersView} {t0 t1 : Traffic}
-    → (w : WentOn h s0 h0 t0) → WentOn (after_session_steps w.steps h) s1 h1 t1 → WentOn h s1 h1 t1
-went-then {h} {s0} {s1} {h0} {h1} {t0} {t1} w v =
+went-then : {h : SessionHistory} {left : List ℕ} {log : LineLog} {s0 s1 : SessionView}
+    {h0 h1 : BuffersView} {t0 t1 : Traffic}
+    → (w : WentOn h left log s0 h0 t0)
+    → WentOn (after_session_steps w.steps h) h0.received t0.log s1 h1 t1
+    → WentOn h left log s1 h1 t1
+went-then {h} {left} {log} {s0} {s1} {h0} {h1} {t0} {t1} w v =
     let r = calls-then w.steps v.steps h w.calls v.calls in
     record {
       steps = w.steps ++ v.steps;
@@ -55,6 +60,9 @@ went-then {h} {s0} {s1} {h0} {h1} {t0} {t1} w v =
       only = of-run w.steps v.steps w.only v.only;
       session = ap (λ (x : SessionHistory). x.session) r.1 ∙ v.session;
       agrees = subst (λ x. Agrees h1 x t1) (sym r.1) v.agrees;
+      order = λ own f.
+          subst (λ l. Follows l h1.received t1.log) (sym (log-then w.steps v.steps h own))
+          (v.order (log_over w.steps h.session own) (w.order own f));
     }
 
 pub goes-then : {h0 h1 h2 : BuffersView} {s0 s1 s2 : SessionView} {k0 k1 k2 : Option Traffic}
@@ -65,11 +73,26 @@ goes-then p q = λ h t is k agrees.
     let b = q (after_session_steps w.steps h) a.0 w.session a.1 w.agrees in
     (b.0, b.1, went-then w b.2)
 
+-- nothing was done, by devices that did what the session follows
+pub nothing-went : (h : SessionHistory) (left : List ℕ) (log : LineLog) (s : SessionView)
+    (held : BuffersView) (t : Traffic)
+    → h.session ≡ s → Agrees held h t
+    → ((own : LineLog) → Follows own left log → Follows own held.received t.log)
+    → WentOn h left log s held t
+unfolding after_session_steps log_over
+nothing-went h left log s held t is agrees order = record {
+  steps = [];
+  calls = tt;
+  only = tt;
+  session = is;
+  agrees = agrees;
+  order = order;
+}
+
 pub none-went : (h : SessionHistory) (s : SessionView) (held : BuffersView) (t : Traffic)
-    → h.session ≡ s → Agrees held h t → WentOn h s held t
-unfolding after_session_steps
+    → h.session ≡ s → Agrees held h t → WentOn h held.received t.log s held t
 none-went h s held t is agrees =
-    record { steps = []; calls = tt; only = tt; session = is; agrees = agrees }
+    nothing-went h held.received t.log s held t is agrees (λ own f. f)
 
 -- nothing was done
 pub stays : {held : BuffersView} {s s' : SessionView} {k k' : Option Traffic}
@@ -87,22 +110,23 @@ idles {held} {s} {k} {k'} change becomes nothing = λ h t is was agrees.
 pub none-written : (t : Traffic) → record t { written = t.written ++ [] } ≡ t
 none-written t = ap (λ xs. record t { written = xs }) (append-nil t.written)
 
-pub none-gone : (t : Traffic) → record t { gone = t.gone ++ [] } ≡ t
-none-gone t = ap (λ xs. record t { gone = xs }) (append-nil t.gone)
-
 -- ---- one call
 
 pub one-went : (call : SessionCall) (h : SessionHistory) (new : SessionView) (held : BuffersView)
-    (t : Traffic) → IsOfRun call → SessionDoes call h.used h.session new
+    (t : Traffic) → (left : List ℕ) (log : LineLog) → IsOfRun call
+    → SessionDoes call h.used h.session new
     → Agrees held (after_session_step (record { call = call; session = new }) h) t
-    → WentOn h new held t
-unfolding after_session_steps
-one-went call h new held t of does agrees = record {
+    → ((own : LineLog) → Follows own left log
+    → Follows (log_after call h.session own) held.received t.log)
+    → WentOn h left log new held t
+unfolding after_session_steps log_over
+one-went call h new held t left log of does agrees order = record {
   steps = record { call = call; session = new } ∷ [];
   calls = (does, tt);
   only = (of, tt);
   session = refl;
   agrees = agrees;
+  order = order;
 }
 
 pub nothing-more : {xs ys : List ℕ} → ys ≡ [] → xs ≡ xs ++ ys
@@ -151,10 +175,12 @@ module _ (call : SessionCall) (held : BuffersView) (known : Option Traffic) wher
       → form_of new.messages ≡ form_of h.session.messages
       → (h.session.is_read ≡ true → new.is_read ≡ true)
       → new.link.station.line ≡ h.session.link.station.line
-      → Agrees held h t → WentOn h new held t
-  quiet-at h new t of does no-used no-gone no-input no-written no-told form reads line a =
-      one-went call h new held t of does
+      → ((log : LineLog) → log_after call h.session log ≡ log)
+      → Agrees held h t → WentOn h held.received t.log new held t
+  quiet-at h new t of does no-used no-gone no-input no-written no-told form reads line no-act a =
+      one-went call h new held t held.received t.log of does
       (quiet-agrees h new t no-used no-gone no-input no-written no-told form reads line a)
+      (λ own f. subst (λ l. Follows l held.received t.log) (sym (no-act own)) f)
 
   pub quiet : (old new : SessionView) → IsOfRun call
       → ((text : List ℕ) → SessionDoes call text old new)
@@ -163,8 +189,9 @@ module _ (call : SessionCall) (held : BuffersView) (known : Option Traffic) wher
       → is_told_in call old ≡ false → form_of new.messages ≡ form_of old.messages
       → (old.is_read ≡ true → new.is_read ≡ true)
       → new.link.station.line ≡ old.link.station.line
+      → ((s : SessionView) (log : LineLog) → log_after call s log ≡ log)
       → GoesOn held old known held new known
-  quiet old new of does no-used no-gone no-input no-written no-told form reads line =
+  quiet old new of does no-used no-gone no-input no-written no-told form reads line no-act =
       λ h t is was a.
       let s : ◌≡◌ {A = SessionView} h.session old = is in (
         t,
@@ -179,6 +206,7 @@ module _ (call : SessionCall) (held : BuffersView) (known : Option Traffic) wher
             (form ∙ sym (ap (λ (x : SessionView). form_of x.messages) is))
             (λ e. reads (sym (ap (λ (x : SessionView). x.is_read) is) ∙ e))
             (line ∙ sym (ap (λ (x : SessionView). x.link.station.line) is))
+            (no-act h.session)
             a,
       )
 
@@ -205,6 +233,7 @@ delivered-goes {held} {known} true old new link wrote waits stays =
     (λ e. same-at (λ x. x.is_read) new (record old { link = new.link; output = new.output }) stays
     ∙ e)
     (ap (λ (d : LinkView). d.station.line) link)
+    (λ s log. refl)
 delivered-goes {held} {known} false old new link wrote waits stays =
     quiet (Delivered false) held known old new tt
     (λ text. record {
@@ -217,6 +246,7 @@ delivered-goes {held} {known} false old new link wrote waits stays =
     (λ e. same-at (λ x. x.is_read) new (record old { link = new.link; output = new.output }) stays
     ∙ e)
     (ap (λ (d : LinkView). d.station.line) link)
+    (λ s log. refl)
 
 -- frames were put after what waits for the line
 pub filled-goes : {held : BuffersView} {known : Option Traffic} (old new : SessionView)
@@ -227,6 +257,7 @@ filled-goes {held} {known} old new puts filled =
     refl (same-at (λ x. form_of x.messages) new now-is puts.1)
     (λ e. same-at (λ x. x.is_read) new now-is puts.1 ∙ e)
     (same-at (λ x. x.link.station.line) new now-is puts.1 ∙ frames-line puts.0 old.link)
+    (λ s log. refl)
 
 -- the timers were handled
 pub timed-goes : {held : BuffersView} {known : Option Traffic} (now : ℕ) (old new : SessionView)
@@ -238,6 +269,7 @@ timed-goes {held} {known} now old new does =
     refl (same-at (λ x. form_of x.messages) new now-is does)
     (λ e. same-at (λ x. x.is_read) new now-is does ∙ e)
     (same-at (λ x. x.link.station.line) new now-is does)
+    (λ s log. refl)
 
 -- ---- faults
 
@@ -315,14 +347,14 @@ reported fault becomes = λ h t now is was a known.
 
 -- what was reported by a read of the line, or by a write to it before
 pub line-reported : {held : BuffersView} {s : SessionView} {k k' : Option Traffic} (m : Transfer)
-    (space : List ℕ) (why : Down) → Becomes k k' (after_came m space)
+    (space : List ℕ) (why : Down) → Becomes k k' (after_line_read m space)
     → (held.down ≡ Some why) ⊎ (m ≡ Ended why) → Reports held s k k' (Line why)
 line-reported m space why becomes (inl down) = λ h t now is was a known.
     subst (HasReported (Line why)) (same-now (sym (becomes t was) ∙ known))
     (kept m t (a.down why down))
   where
     kept : (m : Transfer) (t : Traffic) → HasReported (Line why) t
-        → HasReported (Line why) (after_came m space t)
+        → HasReported (Line why) (after_line_read m space t)
     kept (Bytes n) t r = r
     kept Nothing t r = r
     kept Interrupted t r = r
@@ -330,7 +362,7 @@ line-reported m space why becomes (inl down) = λ h t now is was a known.
 line-reported m space why becomes (inr ended) = λ h t now is was a known.
     subst (HasReported (Line why))
     (same-now
-    (sym (becomes t was ∙ ap (λ x. Some (after_came x space t)) ended) ∙ known))
+    (sym (becomes t was ∙ ap (λ x. Some (after_line_read x space t)) ended) ∙ known))
     (newest (Line why) t)
 
 -- what was reported by a write to the line before

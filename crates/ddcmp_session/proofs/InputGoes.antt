@@ -28,8 +28,8 @@ use Rattle.ddcmp_session.specs.Calls.{InputRead, InputEnded}
 use Rattle.ddcmp_session.specs.Calls.{HasReadInput}
 use Rattle.ddcmp_session.specs.Calls.{SessionHistory, end_in}
 use Rattle.ddcmp_session.specs.Calls.{input_in}
-use Rattle.ddcmp_session.specs.Devices.{Traffic, BuffersView, Agrees, GoesOn, Becomes}
-use Rattle.ddcmp_session.specs.Devices.{after_read}
+use Rattle.ddcmp_session.specs.Devices.{BuffersView, Agrees, GoesOn}
+use Rattle.ddcmp_session.specs.Traffic.{Becomes, Traffic, after_read}
 use Rattle.ddcmp_session.specs.Devices.{end_of}
 use Rattle.ddcmp_session.proofs.GoingLaws.{end-is, none-went, one-went, nothing-more, same-at}
 
@@ -90,7 +90,8 @@ input_read-goes {held} {known} old new n does form reads line = λ h t is was a.
     let to : SessionHistory = record h { session = old } in (
       t,
       was,
-      one-went (InputRead used) h new (record held { input = drop n held.input }) t tt
+      one-went (InputRead used) h new (record held { input = drop n held.input }) t held.received
+          t.log tt
           (subst (λ (x : SessionView). HasReadInput used x new) (sym is) does)
           (record {
             read =
@@ -112,7 +113,7 @@ input_read-goes {held} {known} old new n does form reads line = λ h t is was a.
                 (same-at (λ x. x.link.station.line) h.session old is ∙ sym line)
                 (subst (StandsFor h.session.link.station.line) (sym (append-nil h.used))
                 a.stands);
-          }),
+          }) (λ own f. f),
     )
 
 -- a session that accepts the end of the input was told of it
@@ -125,7 +126,7 @@ pub ended-goes : {held : BuffersView} {known : Option Traffic} (old new : Sessio
 ended-goes {held} {known} old new does wants unread empty over form reads line = λ h t is was a. (
   t,
   was,
-  one-went InputEnded h new held t tt
+  one-went InputEnded h new held t held.received t.log tt
       (subst (λ (x : SessionView). new ≡ after_input_end x) (sym is) does)
       (record {
         read =
@@ -153,7 +154,7 @@ ended-goes {held} {known} old new does wants unread empty over form reads line =
             (same-at (λ x. x.link.station.line) h.session old is ∙ sym line)
             (subst (StandsFor h.session.link.station.line) (sym (append-nil h.used))
             a.stands);
-      }),
+      }) (λ own f. f),
 )
   where
     untold : (h : SessionHistory) {t : Traffic} → h.session ≡ old → Agrees held h t

@@ -15,6 +15,7 @@ pub mod LogLaws
 pub mod LoggedLaws
 pub mod NewRunLaws
 pub mod NoticeLaws
+pub mod OrderLaws
 pub mod RestLaws
 pub mod StopLaws
 pub mod TextLaws

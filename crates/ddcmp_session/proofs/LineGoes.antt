@@ -1,5 +1,5 @@
 -- How a session goes on by bytes of its line, and by those that the line and its output take.
-use Rattle.std.proofs.Common.{◌≡◌, ◌∙◌, ap, sym, subst, ℕ}
+use Rattle.std.proofs.Common.{◌≡◌, ◌∙◌, ap, sym, subst, refl, ℕ}
 use Rattle.std.proofs.Common.{List, [], ◌++◌, length, take, drop, min, Option}
 use Rattle.std.proofs.Common.{append_assoc, append-nil}
 use Rattle.std.proofs.lemmas.List.{take-append-drop, take_min}
@@ -15,19 +15,25 @@ use Rattle.ddcmp_session.specs.Calls.{Received, LineTook}
 use Rattle.ddcmp_session.specs.Calls.{OutputTook, HasReceived}
 use Rattle.ddcmp_session.specs.Calls.{gone_in}
 use Rattle.ddcmp_session.specs.Calls.{written_in}
-use Rattle.ddcmp_session.specs.Devices.{Traffic, BuffersView, GoesOn, Becomes}
-use Rattle.ddcmp_session.specs.Devices.{after_came, after_gone, after_written}
-use Rattle.ddcmp_session.specs.Devices.{moved_of}
-use Rattle.ddcmp_session.proofs.GoingLaws.{end-is, faulted, none-went, one-went, same-at}
+use Rattle.ddcmp_session.specs.Devices.{BuffersView, GoesOn}
+use Rattle.ddcmp_session.specs.Traffic.{Becomes, Traffic, after_line_read, after_line_written}
+use Rattle.ddcmp_session.specs.Traffic.{after_written, moved_of}
+use Rattle.ddcmp_session.specs.Traffic.{LineLog, Receives, Writes, log_with}
+use Rattle.ddcmp_session.specs.Orders.{Follows}
+use Rattle.ddcmp_session.proofs.OrderLaws.{follows-came, follows-used, follows-wrote}
+use Rattle.ddcmp_session.proofs.OrderLaws.{received-none, received-one, sent-none, sent-one}
+use Rattle.ddcmp_session.proofs.GoingLaws.{end-is, faulted, idles, nothing-went, one-went, same-at}
 
--- the line gave bytes, or none
-line-moved : {held : BuffersView} {s : SessionView} {k k' : Option Traffic} (came : List ℕ)
-    → held.received ≡ [] → Becomes k k' (λ t. record t { came = t.came ++ came })
+-- the line returned bytes
+bytes-came : {held : BuffersView} {s : SessionView} {k k' : Option Traffic} (came : List ℕ)
+    → held.received ≡ []
+    → Becomes k k' (λ t. record t { log = log_with (Receives came) t.log })
     → GoesOn held s k (record held { received = came }) s k'
-line-moved {held} {s} {k} {k'} came empty becomes = λ h t is was a. (
-  record t { came = t.came ++ came },
+bytes-came {held} {s} {k} {k'} came empty becomes = λ h t is was a. (
+  record t { log = log_with (Receives came) t.log },
   becomes t was,
-  none-went h s (record held { received = came }) (record t { came = t.came ++ came }) is
+  nothing-went h held.received t.log s (record held { received = came })
+      (record t { log = log_with (Receives came) t.log }) is
       (record {
         read = a.read;
         over = a.over;
@@ -35,21 +41,27 @@ line-moved {held} {s} {k} {k'} came empty becomes = λ h t is was a. (
         drained = a.drained;
         ended = a.ended;
         came =
-            ap (λ xs. xs ++ came)
+            received-one t.log.acts came
+            ∙ ap (λ xs. xs ++ came)
             (a.came ∙ ap (λ xs. h.used ++ xs) empty ∙ append-nil h.used);
-        gone = a.gone;
+        gone = sent-none t.log.acts came ∙ a.gone;
         written = a.written;
         down = a.down;
         stands = a.stands;
-      }),
+      })
+      (λ own f. follows-came came own t.log (subst (λ xs. Follows own xs t.log) empty f)),
 )
 
 pub line-came : {held : BuffersView} {s : SessionView} {k k' : Option Traffic} (m : Transfer)
-    (space : List ℕ) → held.received ≡ [] → Becomes k k' (after_came m space)
+    (space : List ℕ) → held.received ≡ [] → Becomes k k' (after_line_read m space)
     → GoesOn held s k (record held { received = moved_of m space }) s k'
-line-came (Bytes n) space empty becomes = line-moved (take n space) empty becomes
-line-came Nothing space empty becomes = line-moved [] empty becomes
-line-came Interrupted space empty becomes = line-moved [] empty becomes
+line-came (Bytes n) space empty becomes = bytes-came (take n space) empty becomes
+line-came {held} {s} {k} {k'} Nothing space empty becomes =
+    subst (λ xs. GoesOn held s k (record held { received = xs }) s k') empty
+    (idles (after_line_read Nothing space) becomes (λ t. refl))
+line-came {held} {s} {k} {k'} Interrupted space empty becomes =
+    subst (λ xs. GoesOn held s k (record held { received = xs }) s k') empty
+    (idles (after_line_read Interrupted space) becomes (λ t. refl))
 line-came {held} {s} {k} {k'} (Ended why) space empty becomes =
     subst (λ xs. GoesOn held s k (record held { received = xs }) s k') empty
     (faulted (Line why) becomes)
@@ -69,7 +81,8 @@ received-goes {held} {known} old new n does line = λ h t is was a.
     let f = does h.used s in (
       t,
       was,
-      one-went (Received used) h new (record held { received = drop n held.received }) t tt
+      one-went (Received used) h new (record held { received = drop n held.received }) t
+          held.received t.log tt
           (subst (λ (x : SessionView). HasReceived h.used used x new) (sym is) f)
           (record {
             read =
@@ -96,12 +109,15 @@ received-goes {held} {known} old new n does line = λ h t is was a.
             written = a.written ∙ sym (append-nil h.written);
             down = a.down;
             stands = line h.used s;
-          }),
+          })
+          (λ own f.
+          follows-used used (drop n held.received) own t.log
+          (subst (λ xs. Follows own xs t.log) (sym (take-append-drop n held.received)) f)),
     )
 
 -- the line took bytes, and the session was told so
 line-told : {held : BuffersView} {k k' : Option Traffic} (old new : SessionView) (n : ℕ)
-    → Becomes k k' (after_gone (Bytes n) old.link.outbox.waiting)
+    → Becomes k k' (after_line_written (Bytes n) old.link.outbox.waiting)
     → new ≡ record old {
       link = after_sent (min n (length old.link.outbox.waiting)) old.link;
     }
@@ -109,10 +125,10 @@ line-told : {held : BuffersView} {k k' : Option Traffic} (old new : SessionView)
 line-told {held} {k} {k'} old new n becomes does = λ h t is was a.
     let m = min n (length old.link.outbox.waiting) in
     let now-is = record old { link = after_sent m old.link } in (
-      after_gone (Bytes n) old.link.outbox.waiting t,
+      after_line_written (Bytes n) old.link.outbox.waiting t,
       becomes t was,
-      one-went (LineTook m) h new held (after_gone (Bytes n) old.link.outbox.waiting t)
-          tt
+      one-went (LineTook m) h new held (after_line_written (Bytes n) old.link.outbox.waiting t)
+          held.received t.log tt
           (subst (λ (x : SessionView). new ≡ record x { link = after_sent m x.link }) (sym is)
           does)
           (record {
@@ -130,9 +146,13 @@ line-told {held} {k} {k'} old new n becomes does = λ h t is was a.
                 same-at (λ x. x.is_read) new now-is does
                 ∙ sym (same-at (λ x. x.is_read) h.session old is)
                 ∙ a.ended e;
-            came = a.came ∙ ap (λ xs. xs ++ held.received) (sym (append-nil h.used));
+            came =
+                received-none t.log.acts (take n old.link.outbox.waiting)
+                ∙ a.came
+                ∙ ap (λ xs. xs ++ held.received) (sym (append-nil h.used));
             gone =
-                ap (λ xs. xs ++ take n old.link.outbox.waiting) a.gone
+                sent-one t.log.acts (take n old.link.outbox.waiting)
+                ∙ ap (λ xs. xs ++ take n old.link.outbox.waiting) a.gone
                 ∙ ap (λ xs. h.gone ++ xs)
                 (sym (same-at (gone_in (LineTook m)) h.session old is
                 ∙ take_min n old.link.outbox.waiting));
@@ -144,17 +164,23 @@ line-told {held} {k} {k'} old new n becomes does = λ h t is was a.
                 ∙ sym (same-at (λ x. x.link.station.line) new now-is does))
                 (subst (StandsFor h.session.link.station.line) (sym (append-nil h.used))
                 a.stands);
-          }),
+          })
+          (λ own f.
+          subst
+          (λ xs. Follows (log_with (Writes (gone_in (LineTook m) h.session)) own) held.received
+          (log_with (Writes xs) t.log))
+          (same-at (gone_in (LineTook m)) h.session old is ∙ take_min n old.link.outbox.waiting)
+          (follows-wrote (gone_in (LineTook m) h.session) held.received own t.log f)),
     )
 
 pub line-took : {held : BuffersView} {k k' : Option Traffic} (old new : SessionView) (n : ℕ)
-    (bytes : List ℕ) → bytes ≡ old.link.outbox.waiting → Becomes k k' (after_gone (Bytes n) bytes)
+    (bytes : List ℕ) → bytes ≡ old.link.outbox.waiting → Becomes k k' (after_line_written (Bytes n) bytes)
     → new ≡ record old {
       link = after_sent (min n (length old.link.outbox.waiting)) old.link;
     }
     → GoesOn held old k held new k'
 line-took {held} {k} {k'} old new n bytes same becomes does =
-    line-told old new n (subst (λ xs. Becomes k k' (after_gone (Bytes n) xs)) same becomes) does
+    line-told old new n (subst (λ xs. Becomes k k' (after_line_written (Bytes n) xs)) same becomes) does
 
 -- the output took bytes, and the session was told so
 output-told : {held : BuffersView} {k k' : Option Traffic} (old new : SessionView) (n : ℕ)
@@ -166,7 +192,8 @@ output-told {held} {k} {k'} old new n becomes does = λ h t is was a.
     let now-is = record old { output = after_taken m old.output } in (
       after_written (Bytes n) old.output.waiting t,
       becomes t was,
-      one-went (OutputTook m) h new held (after_written (Bytes n) old.output.waiting t) tt
+      one-went (OutputTook m) h new held (after_written (Bytes n) old.output.waiting t)
+          held.received t.log tt
           (subst (λ (x : SessionView). new ≡ record x { output = after_taken m x.output })
           (sym is) does)
           (record {
@@ -198,7 +225,7 @@ output-told {held} {k} {k'} old new n becomes does = λ h t is was a.
                 ∙ sym (same-at (λ x. x.link.station.line) new now-is does))
                 (subst (StandsFor h.session.link.station.line) (sym (append-nil h.used))
                 a.stands);
-          }),
+          }) (λ own f. f),
     )
 
 pub output-took : {held : BuffersView} {k k' : Option Traffic} (old new : SessionView) (n : ℕ)
@@ -225,7 +252,7 @@ received-held {held} {known} old new n bytes rest same left does line =
 
 pub line-given : {held : BuffersView} {s : SessionView} {k k' : Option Traffic} (m : Transfer)
     (space came : List ℕ) → held.received ≡ [] → came ≡ moved_of m space
-    → Becomes k k' (after_came m space)
+    → Becomes k k' (after_line_read m space)
     → GoesOn held s k (record held { received = came }) s k'
 line-given {held} {s} {k} {k'} m space came empty is becomes =
     subst (λ xs. GoesOn held s k (record held { received = xs }) s k') (sym is)

@@ -11,15 +11,19 @@ use Rattle.ddcmp_session.specs.Calls.{LineTook, TimedOut, TimePassed, Delivered,
 use Rattle.ddcmp_session.specs.Calls.{HasClosed, HasLeft, IsSessionHistory, after_session_step}
 use Rattle.ddcmp_session.specs.Calls.{after_session_steps}
 use Rattle.ddcmp_session.specs.Connections.{Connection, Does, AreDone, after_all, after_step}
-use Rattle.ddcmp_session.specs.Devices.{Agrees, AreOfRun, Becomes, BuffersView, GoesOn}
-use Rattle.ddcmp_session.specs.Devices.{IsOfRun, Reports, Traffic}
+use Rattle.ddcmp_session.specs.Devices.{Agrees, AreOfRun, BuffersView, GoesOn}
+use Rattle.ddcmp_session.specs.Traffic.{Becomes, Traffic, line_begun}
+use Rattle.ddcmp_session.specs.Devices.{IsOfRun, Reports}
 use Rattle.ddcmp_session.specs.Lines.{AllKeepOpen, AllReady, Closes, GoesIf, GoesOver, IsReady}
 use Rattle.ddcmp_session.specs.Lines.{KeepsOpen, MayEndWell, ReadyIf, ReportsOver, StaysOver}
-use Rattle.ddcmp_session.specs.Lines.{line_begun, none_received}
+use Rattle.ddcmp_session.specs.Lines.{none_received}
 use Rattle.ddcmp_session.specs.Timing.{PassesTime, after_failure, after_line}
 use Rattle.ddcmp_session.specs.declared.buffers.lines.Stop.TheVariants.{the_data, Device}
 use Rattle.ddcmp_session.specs.declared.devices.DeviceFault.{DeviceFault}
+use Rattle.ddcmp_session.specs.Traffic.{LineLog, received, sent}
+use Rattle.ddcmp_session.specs.Orders.{Follows, log_after, log_over}
 use Rattle.ddcmp_session.proofs.GoingLaws.{end-is, quiet-agrees, stays}
+use Rattle.ddcmp_session.proofs.OrderLaws.{follows-begun}
 
 -- ---- over the line that there is
 
@@ -113,6 +117,7 @@ goes-over {R} {h0} {h1} goes = λ c t is was agrees.
         ready = λ r. all-ready w.steps c w.only;
         session = ap (λ (x : SessionHistory). x.session) same ∙ w.session;
         agrees = subst (λ h. Agrees h1 h a.0) (sym same) w.agrees;
+        order = w.order;
       },
     )
 
@@ -136,6 +141,35 @@ unfolding after_all
 ready-then [] ys c some more = more
 ready-then (x ∷ xs) ys c some more = (some.0, ready-then xs ys (after_step x c) some.1 more)
 
+-- what a call does at the line
+session-is : (call : SessionCall) (new : SessionView) (c : Connection)
+    → (after_step (record { call = call; session = new }) c).history.session ≡ new
+session-is (InputRead used) new c = refl
+session-is InputEnded new c = refl
+session-is Connected new c = refl
+session-is (LineEnded reported) new c = refl
+session-is (Received used) new c = refl
+session-is (Filled n) new c = refl
+session-is (LineTook n) new c = refl
+session-is (TimedOut now) new c = refl
+session-is TimePassed new c = refl
+session-is (Delivered has) new c = refl
+session-is (OutputTook n) new c = refl
+session-is (Closed left over reported) new c = refl
+
+log-over-then : (xs ys : List SessionStep) (c : Connection) (log : LineLog)
+    → log_over (xs ++ ys) c.history.session log
+    ≡ log_over ys (after_all xs c).history.session (log_over xs c.history.session log)
+unfolding log_over after_all
+log-over-then [] ys c log = refl
+log-over-then (x ∷ xs) ys c log =
+    let next = log_after x.call c.history.session log in
+    let is = session-is x.call x.session c in
+    ap (λ s. log_over (xs ++ ys) s next) (sym is)
+    ∙ log-over-then xs ys (after_step x c) next
+    ∙ ap
+    (λ s. log_over ys (after_all xs (after_step x c)).history.session (log_over xs s next)) is
+
 -- The first leads to where the second begins, if it began so itself.
 pub over-next : {R Q : Type 0} {h0 h1 h2 : BuffersView} {s0 s1 s2 : SessionView}
     {k0 k1 k2 : Option Traffic} → GoesIf R h0 s0 k0 h1 s1 k1 → (R → Q)
@@ -155,6 +189,9 @@ over-next {R} {Q} {h0} {h1} {h2} p then q = λ c t is k agrees.
         ready = λ begins. ready-then w.steps v.steps c (w.ready begins) (v.ready (then begins));
         session = ap (λ (x : Connection). x.history.session) r.1 ∙ v.session;
         agrees = subst (λ (x : Connection). Agrees h2 x.history b.0) (sym r.1) v.agrees;
+        order = λ own f.
+            subst (λ l. Follows l h2.received b.0.log) (sym (log-over-then w.steps v.steps c own))
+            (v.order (log_over w.steps c.history.session own) (w.order own f));
       },
     )
 
@@ -178,7 +215,7 @@ module _ {held : BuffersView} {known : Option Traffic} (old new : SessionView)
     (line : new.link.station.line ≡ old.link.station.line) where
   pub left-over : {R : Type 0} (reported : Bool) → HasLeft reported old new
       → GoesIf R held old known held new known
-  unfolding after_all
+  unfolding after_all log_over
   left-over {R} reported does = λ c t is was a.
       let h = c.history in (
         t,
@@ -194,11 +231,12 @@ module _ {held : BuffersView} {known : Option Traffic} (old new : SessionView)
               (form ∙ sym (same-view (λ x. form_of x.messages) h.session old is))
               (λ e. reads (sym (same-view (λ x. x.is_read) h.session old is) ∙ e))
               (line ∙ sym (same-view (λ x. x.link.station.line) h.session old is)) a;
+          order = λ own f. f;
         },
       )
 
   pub passed-over : {R : Type 0} → PassesTime old new → GoesIf R held old known held new known
-  unfolding after_all
+  unfolding after_all log_over
   passed-over {R} does = λ c t is was a.
       let h = c.history in (
         t,
@@ -214,6 +252,7 @@ module _ {held : BuffersView} {known : Option Traffic} (old new : SessionView)
               (form ∙ sym (same-view (λ x. form_of x.messages) h.session old is))
               (λ e. reads (sym (same-view (λ x. x.is_read) h.session old is) ∙ e))
               (line ∙ sym (same-view (λ x. x.link.station.line) h.session old is)) a;
+          order = λ own f. f;
         },
       )
 
@@ -258,7 +297,7 @@ run-closed held reported old new does = record {
 pub line-connected : {held : BuffersView} {k k' : Option Traffic} (old new : SessionView)
     → new ≡ after_connected new.link.station.line old → StandsFor new.link.station.line []
     → Becomes k k' line_begun → GoesOver held old k (none_received held) new k'
-unfolding after_all
+unfolding after_all log_over received sent
 line-connected {held} {k} {k'} old new does clear becomes = λ c t is was a.
     let h = c.history in
     let to = after_connected new.link.station.line old in (
@@ -294,6 +333,7 @@ line-connected {held} {k} {k'} old new does clear becomes = λ c t is was a.
           down = λ why e. cc;
           stands = clear;
         };
+        order = λ own f. follows-begun held.received own t.log f;
       },
     )
 

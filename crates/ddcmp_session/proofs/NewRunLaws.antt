@@ -10,7 +10,8 @@ use Rattle.ddcmp_session.specs.declared.link.LinkOutcome.TheVariants.{Delivered,
 use Rattle.ddcmp_io.specs.declared.line_kind.LineKind.{LineKind}
 use Rattle.ddcmp_streams.specs.declared.options.Options.{Options}
 use Rattle.ddcmp_session.specs.Session.{SessionView, session_made}
-use Rattle.ddcmp_session.specs.Devices.{BuffersView, Traffic, nothing_read}
+use Rattle.ddcmp_session.specs.Devices.{BuffersView, nothing_read}
+use Rattle.ddcmp_session.specs.Traffic.{Traffic}
 use Rattle.ddcmp_session.specs.Finishing.{RunsToEnd}
 use Rattle.ddcmp_session.specs.Lines.{ReportsOver}
 use Rattle.ddcmp_session.specs.NewRun.{ReportsNew, RunsNew, served_of}

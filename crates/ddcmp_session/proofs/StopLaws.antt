@@ -12,8 +12,8 @@ use Rattle.ddcmp_session.specs.declared.devices.DeviceFault.{DeviceFault}
 use Rattle.ddcmp_session.specs.declared.devices.DeviceFault.TheVariants.{Input}
 use Rattle.ddcmp_session.specs.declared.devices.DeviceFault.TheVariants as fault
 use Rattle.ddcmp_session.specs.declared.session.EndReason.TheVariants as end_of
-use Rattle.ddcmp_session.specs.Devices.{Becomes, BuffersView, HasReported, KeepsFaults, Traffic}
-use Rattle.ddcmp_session.specs.Devices.{after_fault, after_read, after_wait}
+use Rattle.ddcmp_session.specs.Devices.{BuffersView, HasReported, KeepsFaults}
+use Rattle.ddcmp_session.specs.Traffic.{Becomes, Traffic, after_fault, after_read, after_wait}
 use Rattle.ddcmp_session.specs.Lines.{GoesOver, MayEndWell, ReportsOver}
 use Rattle.ddcmp_session.specs.Session.{SessionView, after_time, is_delivered}
 use Rattle.ddcmp_session.specs.Stopping.{IfNotOpened, IsLeft, IsTimeOver, Judges}

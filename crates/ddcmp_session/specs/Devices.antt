@@ -1,35 +1,21 @@
 -- The devices of a session, the bytes that were read from them and written to them, and how a
 -- session proceeds over them.
 use Rattle.std.specs.Prelude.{◌≡◌, ℕ, ◌==◌, ◌<◌, ◌⊎◌, Bool, true, false, if◌then◌else◌, List, []}
-use Rattle.std.specs.Prelude.{◌++◌, ◌&&◌, is_none, length, not, take}
+use Rattle.std.specs.Prelude.{◌++◌, ◌&&◌, is_none, length, not}
 use Rattle.std.specs.Prelude.{Option, Some, None, ⊤, ◌∷◌}
 use Rattle.ddcmp_frame.specs.Reader.{StandsFor}
-use Rattle.ddcmp_io.specs.declared.device.Got.{Got}
-use Rattle.ddcmp_io.specs.declared.device.Got.TheVariants as got
-use Rattle.ddcmp_io.specs.Transfers.{count_moved}
 use Rattle.ddcmp_io.specs.declared.transfer.Down.{Down}
-use Rattle.ddcmp_session.specs.declared.devices.DeviceFault.{DeviceFault}
-use Rattle.ddcmp_session.specs.declared.devices.DeviceFault.TheVariants.{Line, Input, Output}
-use Rattle.ddcmp_io.specs.declared.transfer.Transfer.{Transfer}
 use Rattle.ddcmp_io.specs.declared.transfer.Wanted.{Wanted}
-use Rattle.ddcmp_io.specs.declared.transfer.Transfer.TheVariants.{Ended}
+use Rattle.ddcmp_session.specs.declared.devices.DeviceFault.{DeviceFault}
+use Rattle.ddcmp_session.specs.declared.devices.DeviceFault.TheVariants.{Line}
+use Rattle.ddcmp_session.specs.Traffic.{LineLog, Traffic, received, sent}
+use Rattle.ddcmp_session.specs.Orders.{KeepsOrder}
 use Rattle.ddcmp_window.specs.Store.{first_message}
 use Rattle.ddcmp_session.specs.Session.{SessionView, form_of, IsFilled, wants_input, wants_line}
 use Rattle.ddcmp_session.specs.Session.{room_for_mail}
 use Rattle.ddcmp_session.specs.Calls.{SessionCall, Connected, TimePassed, LineEnded, Closed}
 use Rattle.ddcmp_session.specs.Calls.{SessionHistory, SessionStep, IsSessionHistory}
 use Rattle.ddcmp_session.specs.Calls.{after_session_steps, end_in}
-
--- The traffic of the devices: the bytes read from the input, and whether its end was read; the
--- bytes read from the line; the bytes written to the line; the bytes written to the output; and the
--- faults that the devices reported.
-pub record Traffic : Type 0 where
-  pub read : List ℕ
-  pub is_over : Bool
-  pub came : List ℕ
-  pub gone : List ℕ
-  pub written : List ℕ
-  pub faults : List DeviceFault
 
 abbrev pub HasReported : DeviceFault → Traffic → Type 0
 HasReported fault t = (before after : List DeviceFault) × (t.faults ≡ before ++ fault ∷ after)
@@ -39,50 +25,6 @@ abbrev pub KeepsFaults : Option Traffic → Option Traffic → Type 0
 KeepsFaults old new = (before : Traffic) → old ≡ Some before
     → (after : Traffic) × (new ≡ Some after)
     × ((fault : DeviceFault) → HasReported fault before → HasReported fault after)
-
--- ---- what a call of a device adds to that
-
--- a fault was reported
-abbrev pub after_fault : DeviceFault → Traffic → Traffic
-after_fault fault t = record t { faults = t.faults ++ fault ∷ [] }
-
--- how many bytes were read
-abbrev pub count_read : Got → ℕ
-count_read (got.Bytes n) = n
-count_read got.Idle = 0
-count_read got.Failed = 0
-
--- a read of the input; no bytes are its end
-abbrev pub after_read : Got → List ℕ → Traffic → Traffic
-after_read (got.Bytes n) space t =
-    record t { read = t.read ++ take n space; is_over = n == 0 }
-after_read got.Idle space t = t
-after_read got.Failed space t = after_fault Input t
-
--- the bytes that were moved
-abbrev pub moved_of : Transfer → List ℕ → List ℕ
-moved_of moved bytes = take (count_moved moved) bytes
-
-abbrev pub after_came : Transfer → List ℕ → Traffic → Traffic
-after_came (Ended why) space t = after_fault (Line why) t
-after_came moved space t = record t { came = t.came ++ moved_of moved space }
-
-abbrev pub after_gone : Transfer → List ℕ → Traffic → Traffic
-after_gone (Ended why) bytes t = after_fault (Line why) t
-after_gone moved bytes t = record t { gone = t.gone ++ moved_of moved bytes }
-
-abbrev pub after_written : Transfer → List ℕ → Traffic → Traffic
-after_written (Ended why) bytes t = after_fault Output t
-after_written moved bytes t = record t { written = t.written ++ moved_of moved bytes }
-
--- a wait that succeeded, or failed
-abbrev pub after_wait : Bool → Traffic → Traffic
-after_wait true t = t
-after_wait false t = after_fault Input t
-
--- If the traffic was known, it is known afterwards, and has changed so.
-abbrev pub Becomes : Option Traffic → Option Traffic → (Traffic → Traffic) → Type 0
-Becomes old new change = (before : Traffic) → old ≡ Some before → new ≡ Some (change before)
 
 -- ---- a session over its devices
 
@@ -111,8 +53,8 @@ pub record Agrees (held : BuffersView) (h : SessionHistory) (t : Traffic) : Type
   pub told : h.is_told ≡ true → held.is_over ≡ true
   pub drained : h.is_told ≡ true → held.input ≡ []
   pub ended : h.is_told ≡ true → h.session.is_read ≡ true
-  pub came : t.came ≡ h.used ++ held.received
-  pub gone : t.gone ≡ h.gone
+  pub came : received t.log.acts ≡ h.used ++ held.received
+  pub gone : sent t.log.acts ≡ h.gone
   pub written : t.written ≡ h.written
   pub down : (why : Down) → held.down ≡ Some why → HasReported (Line why) t
   pub stands : StandsFor h.session.link.station.line h.used
@@ -130,14 +72,16 @@ abbrev pub AreOfRun : List SessionStep → Type 0
 AreOfRun [] = ⊤
 AreOfRun (step ∷ rest) = IsOfRun step.call × AreOfRun rest
 
--- Further calls led the history to this session, and it agrees with its devices again.
-pub record WentOn (h : SessionHistory) (new : SessionView) (held : BuffersView) (t : Traffic)
-    : Type 0 where
+-- Further calls led the history to this session, and it agrees with its devices again, in the order
+-- of what was done, too.
+pub record WentOn (h : SessionHistory) (left : List ℕ) (log : LineLog) (new : SessionView)
+    (held : BuffersView) (t : Traffic) : Type 0 where
   pub steps : List SessionStep
   pub calls : IsSessionHistory steps h
   pub only : AreOfRun steps
   pub session : (after_session_steps steps h).session ≡ new
   pub agrees : Agrees held (after_session_steps steps h) t
+  pub order : KeepsOrder steps h.session left log held.received t.log
 
 -- A session with its buffers and devices, before and after a call: any history that agreed with the
 -- devices before is continued by calls of the session alone, and agrees with them again.
@@ -145,7 +89,7 @@ abbrev pub GoesOn : BuffersView → SessionView → Option Traffic
     → BuffersView → SessionView → Option Traffic → Type 0
 GoesOn held old before new_held new after =
     (h : SessionHistory) (t : Traffic) → h.session ≡ old → before ≡ Some t → Agrees held h t
-    → (t' : Traffic) × (after ≡ Some t') × WentOn h new new_held t'
+    → (t' : Traffic) × (after ≡ Some t') × WentOn h held.received t.log new new_held t'
 
 -- If session and devices agreed before, some device has reported this fault, in this call or
 -- earlier.

@@ -8,7 +8,8 @@ use Rattle.ddcmp_streams.specs.declared.messages.MessageForm.TheVariants.{Digits
 use Rattle.ddcmp_session.specs.Session.{SessionView, form_of, room_for_mail}
 use Rattle.ddcmp_session.specs.Calls.{SessionCall, Delivered, OutputTook, SessionDoes}
 use Rattle.ddcmp_session.specs.Calls.{SessionStep, written_in}
-use Rattle.ddcmp_session.specs.Devices.{BuffersView, Traffic}
+use Rattle.ddcmp_session.specs.Devices.{BuffersView}
+use Rattle.ddcmp_session.specs.Traffic.{Traffic}
 use Rattle.ddcmp_session.specs.EndText.{end_text}
 use Rattle.ddcmp_streams.specs.Queued.{queued}
 use Rattle.ddcmp_session.specs.Lines.{Ends}

@@ -6,6 +6,8 @@ pub mod Devices
 pub mod Filling
 pub mod Finishing
 pub mod Lines
+pub mod Orders
+pub mod Traffic
 pub mod Logged
 pub mod NewRun
 pub mod Reported

@@ -1,16 +1,14 @@
 -- How a session runs over its devices, over one line after the other, and how its run ends.
-use Rattle.std.specs.Prelude.{◌≡◌, ◌≤◌, ◌⊎◌, ⊤, Bool, true, List, [], ◌∷◌, Option, Some, None}
+use Rattle.std.specs.Prelude.{ℕ, ◌≡◌, ◌≤◌, ◌⊎◌, ⊤, Bool, true, List, [], ◌∷◌, Option, Some, None}
 use Rattle.ddcmp_window.specs.Store.{first_message}
 use Rattle.ddcmp_session.specs.Session.{SessionView, is_delivered, room_for_mail}
 use Rattle.ddcmp_session.specs.Calls.{SessionCall, SessionHistory, SessionStep, HasClosed, Closed}
 use Rattle.ddcmp_session.specs.Calls.{Connected, after_session_step}
 use Rattle.ddcmp_session.specs.Connections.{Connection, AreDone, after_all, after_step}
-use Rattle.ddcmp_session.specs.Devices.{Agrees, BuffersView, HasReported, Traffic}
+use Rattle.ddcmp_session.specs.Orders.{KeepsOrder}
+use Rattle.ddcmp_session.specs.Devices.{Agrees, BuffersView, HasReported}
+use Rattle.ddcmp_session.specs.Traffic.{LineLog, Traffic}
 use Rattle.ddcmp_session.specs.declared.devices.DeviceFault.{DeviceFault}
-
--- a line was opened: its traffic restarts empty
-abbrev pub line_begun : Traffic → Traffic
-line_begun t = record t { came = []; gone = [] }
 
 -- nothing was received over it yet
 abbrev pub none_received : BuffersView → BuffersView
@@ -44,21 +42,22 @@ AllReady (step ∷ rest) c =
 -- Further calls led the history of a session to this one, over as many lines as it was connected
 -- on, without closing it, and it agrees with its devices again. If `Begins` holds, the session was
 -- ready for each line.
-pub record WentOver (Begins : Type 0) (c : Connection) (new : SessionView) (held : BuffersView)
-    (t : Traffic) : Type 0 where
+pub record WentOver (Begins : Type 0) (c : Connection) (left : List ℕ) (log : LineLog)
+    (new : SessionView) (held : BuffersView) (t : Traffic) : Type 0 where
   pub steps : List SessionStep
   pub calls : AreDone steps c
   pub only : AllKeepOpen steps
   pub ready : Begins → AllReady steps c
   pub session : (after_all steps c).history.session ≡ new
   pub agrees : Agrees held (after_all steps c).history t
+  pub order : KeepsOrder steps c.history.session left log held.received t.log
 
 abbrev pub GoesIf : Type 0 → BuffersView → SessionView → Option Traffic
     → BuffersView → SessionView → Option Traffic → Type 0
 GoesIf Begins held old before new_held new after =
     (c : Connection) (t : Traffic) → c.history.session ≡ old → before ≡ Some t
     → Agrees held c.history t
-    → (t' : Traffic) × (after ≡ Some t') × WentOver Begins c new new_held t'
+    → (t' : Traffic) × (after ≡ Some t') × WentOver Begins c held.received t.log new new_held t'
 
 -- over its lines; it was ready for each if it is ready for the first
 abbrev pub GoesOver : BuffersView → SessionView → Option Traffic

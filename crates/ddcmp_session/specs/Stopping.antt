@@ -5,7 +5,8 @@ use Rattle.ddcmp_session.specs.declared.buffers.lines.Stop.TheVariants.{Lost, No
 use Rattle.ddcmp_io.specs.declared.transfer.Down.{Down}
 use Rattle.ddcmp_session.specs.declared.devices.DeviceFault.TheVariants as fault
 use Rattle.ddcmp_session.specs.declared.session.EndReason.TheVariants as end_of
-use Rattle.ddcmp_session.specs.Devices.{BuffersView, Traffic}
+use Rattle.ddcmp_session.specs.Devices.{BuffersView}
+use Rattle.ddcmp_session.specs.Traffic.{Traffic}
 use Rattle.ddcmp_session.specs.Lines.{ReportsOver}
 use Rattle.ddcmp_session.specs.Session.{SessionView, after_connected, starts}
 use Rattle.ddcmp_session.specs.Timing.{end, reopens}

@@ -58,9 +58,10 @@ impl Drop for Buffers {
 impl Buffers {
     ghost use Rattle.std.specs.Prelude.{◌≡◌, Option, true, false, [], is_ok};
     ghost use Rattle.ddcmp_core.specs.Table.{after_halt, answer_to_start};
-    ghost use Rattle.ddcmp_session.specs.Devices.{Becomes, Traffic, reads_input, reads_line};
+    ghost use Rattle.ddcmp_session.specs.Devices.{reads_input, reads_line};
+    ghost use Rattle.ddcmp_session.specs.Traffic.{Becomes, Traffic, line_begun};
     ghost use Rattle.ddcmp_session.specs.Devices.{wanted};
-    ghost use Rattle.ddcmp_session.specs.Lines.{Closes, GoesOver, line_begun, none_received};
+    ghost use Rattle.ddcmp_session.specs.Lines.{Closes, GoesOver, none_received};
     ghost use Rattle.ddcmp_session.specs.Session.{after_connected};
 
     /// Makes empty buffers. Allocates all the memory that they will need.

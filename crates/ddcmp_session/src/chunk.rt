@@ -1,8 +1,8 @@
 //! Bytes that were read from a device and not used yet.
 ghost use Rattle.std.specs.Prelude.{◌≡◌, ◌≤◌, ◌==◌, ◌++◌, [], IfOk, List, ℕ, drop, length};
 ghost use Rattle.std.specs.Prelude.{take};
-ghost use Rattle.ddcmp_session.specs.Devices.{Becomes, after_came, after_read, moved_of};
-ghost use Rattle.ddcmp_session.specs.Devices.{count_read};
+ghost use Rattle.ddcmp_session.specs.Traffic.{Becomes, after_line_read, after_read, count_read};
+ghost use Rattle.ddcmp_session.specs.Traffic.{moved_of};
 
 use crate::devices::{Devices, Transfer};
 use ddcmp_io::Got;
@@ -100,7 +100,7 @@ impl Chunk {
     pub(crate) fn read_line<D: Devices>(&mut self, devices: &mut D) -> Transfer
         requires { self.old ≡ [] }
         ensures { (space : List ℕ) × (self.new ≡ moved_of result space)
-            × Becomes (D.traffic devices.old) (D.traffic devices.new) (after_came result space) }
+            × Becomes (D.traffic devices.old) (D.traffic devices.new) (after_line_read result space) }
     {
         let got = devices.read_line(&mut self.bytes);
         self.start = 0;

@@ -9,13 +9,13 @@ pub use ddcmp_io::{Down, Transfer, Wanted};
 /// The devices that a session runs over. Of these calls only `rest` and `wait` wait, and
 /// `close_line` for a moment. A line that was opened is read and written until `close_line`.
 pub trait Devices {
-    ghost use Rattle.ddcmp_session.specs.Devices.{Traffic, Becomes, after_read, after_came};
+    ghost use Rattle.ddcmp_session.specs.Traffic.{Becomes, Traffic, after_line_read};
+    ghost use Rattle.ddcmp_session.specs.Traffic.{after_line_written, after_read, after_wait};
+    ghost use Rattle.ddcmp_session.specs.Traffic.{after_written, count_read, line_begun};
     ghost use Rattle.std.specs.Prelude.{None};
     ghost use Rattle.ddcmp_io.specs.Transfers.{count_moved};
-    ghost use Rattle.ddcmp_session.specs.Devices.{Rests, count_read};
+    ghost use Rattle.ddcmp_session.specs.Devices.{Rests};
     ghost use Rattle.ddcmp_session.specs.Timing.{end, wait_ms};
-    ghost use Rattle.ddcmp_session.specs.Devices.{after_gone, after_wait, after_written};
-    ghost use Rattle.ddcmp_session.specs.Lines.{line_begun};
     ghost use Rattle.std.specs.Prelude.{◌≢◌, Ok, true};
 
     // The bytes read from them and written to them, if that is known.
@@ -60,13 +60,13 @@ pub trait Devices {
     /// Reads the line into the front of `space`.
     fn read_line(&mut self, space: &mut [u8]) -> Transfer
         ensures came { Becomes (traffic self.old) (traffic self.new)
-            (after_came result space.new) }
+            (after_line_read result space.new) }
         ensures fits { count_moved result ≤ length space.new };
 
     /// Writes bytes from the front of `bytes` to the line, as far as it has room.
     fn write_line(&mut self, bytes: &[u8]) -> Transfer
         ensures gone { Becomes (traffic self.old) (traffic self.new)
-            (after_gone result bytes.now) };
+            (after_line_written result bytes.now) };
 
     /// Writes bytes from the front of `bytes` to standard output, as far as it has room.
     fn write_output(&mut self, bytes: &[u8]) -> Transfer

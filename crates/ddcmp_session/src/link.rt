@@ -1,5 +1,5 @@
 //! A link, from its options to its end.
-ghost use Rattle.std.specs.Prelude.{◌≡◌, ◌≢◌, ◌<◌, Err, IfOk, Ok, ℕ, [], Some, false, true};
+ghost use Rattle.std.specs.Prelude.{◌≡◌, ◌≢◌, ◌<◌, Err, IfOk, Ok, ℕ, [], Some, false, is_ok, true};
 ghost use Rattle.ddcmp_frame.specs.Reader.{StandsFor};
 ghost use Rattle.ddcmp_proto.specs.Config.{first_refusal};
 ghost use Rattle.ddcmp_proto.specs.declared.config.ConfigRefusal.{ConfigRefusal as Refusal};
@@ -47,6 +47,9 @@ pub fn run_link<D: Devices>(
         → result ≡ Err (LinkFault.Refused refusal) }
     ensures unused { (refusal : Refusal) → result ≡ Err (LinkFault.Refused refusal)
         → D.traffic devices.new ≡ D.traffic devices.old }
+    ensures ran { ((refusal : Refusal) → result ≢ Err (LinkFault.Refused refusal))
+        → (last : SessionView) × RunsNew (is_ok result) options kind (D.traffic devices.old) last
+        (D.traffic devices.new) }
     ensures served { (served : LinkOutcomeValue) → result ≡ Ok served → (last : SessionView)
         × RunsNew true options kind (D.traffic devices.old) last (D.traffic devices.new)
         × (last.course.lost ≡ 0)

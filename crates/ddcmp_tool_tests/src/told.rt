@@ -1,21 +1,42 @@
 //! Devices in memory whose transfers contracts know, for the loop of a session.
-ghost use Rattle.std.specs.Prelude.{◌≡◌, ◌≤◌, length, take};
+ghost use Rattle.std.specs.Prelude.{◌≡◌, ◌≤◌, ◌++◌, [], ◌∷◌, false, length, take, true};
 ghost use Rattle.ddcmp_io.specs.Queue.{after_pushed};
 
 use crate::sessions::{append, options, session};
 use ddcmp_io::{ByteQueue, Got};
-use ddcmp_session::{Buffers, Devices, EndReason, Session, Transfer, Wanted};
+use ddcmp_session::{
+    Buffers, Devices, EndReason, LineKind, LinkOutcome, Session, Transfer, Wanted, run_link,
+};
+use std::alloc::Global;
 use std::process::Abort;
+
+/// Bytes that were received from the line, or sent to it.
+#[derive(Drop)]
+struct LineAct {
+    is_sent: bool,
+    bytes: Vec<u8>,
+}
+
+/// How many bytes of the line can be read once this many were sent.
+#[derive(Clone, Copy)]
+struct Gate {
+    sent: usize,
+    readable: usize,
+}
 
 /// The bytes that a device returns, and all that was moved so far. No device ever fails.
 #[derive(Drop)]
 struct KnownDevices {
+    alloc: Global,
     input: Vec<u8>,
     line: Vec<u8>,
+    gates: &'static [Gate],
     read: ByteQueue,
     is_over: bool,
-    came: ByteQueue,
-    gone: ByteQueue,
+    received: usize,
+    sent: usize,
+    acts: Vec<LineAct>,
+    lines: u64,
     written: ByteQueue,
     moment: u64,
 }
@@ -41,15 +62,39 @@ fn take_some(bytes: &[u8], taken: &mut ByteQueue) -> usize
     n
 }
 
+/// Appends an act to the log; returns false if an allocation fails.
+fn note(acts: &mut Vec<LineAct>, act: LineAct) -> bool
+    ensures noted { result ≡ true → acts.new.items ≡ acts.old.items ++ act ∷ [] }
+    ensures failed { result ≡ false → acts.new ≡ acts.old }
+{
+    acts.push(act).is_ok()
+}
+
+impl KnownDevices {
+    /// Returns how many bytes of the line can be read by now.
+    fn readable(&self) -> usize {
+        let mut most = 0;
+        for gate in self.gates {
+            if gate.sent <= self.sent {
+                most = gate.readable;
+            }
+        }
+        most
+    }
+}
+
 impl Devices for KnownDevices {
-    ghost use Rattle.std.specs.Prelude.{[], Some};
-    ghost use Rattle.ddcmp_session.specs.Devices.{Traffic};
+    ghost use Rattle.std.specs.Prelude.{[], Some, if◌then◌else◌, map};
+    ghost use Rattle.ddcmp_session.specs.Traffic.{Receives, Traffic, Writes};
 
     ghost traffic = { λ d. Some (record {
       read = d.read.waiting;
       is_over = d.is_over;
-      came = d.came.waiting;
-      gone = d.gone.waiting;
+      log = record {
+        acts = map (λ a. if a.is_sent then Writes a.bytes.items else Receives a.bytes.items)
+            d.acts.items;
+        lines = d.lines;
+      };
       written = d.written.waiting;
       faults = [];
     }) };
@@ -57,8 +102,11 @@ impl Devices for KnownDevices {
     type Refusal = ();
 
     fn open_line(&mut self, _session: &mut Session) -> Result<bool, ()> {
-        self.came.clear();
-        self.gone.clear();
+        let Some(lines) = self.lines.checked_add(1) else {
+            return Err(());
+        };
+        self.lines = lines;
+        self.acts.clear();
         Ok(true)
     }
 
@@ -77,11 +125,44 @@ impl Devices for KnownDevices {
     }
 
     fn read_line(&mut self, space: &mut [u8]) -> Transfer {
-        Transfer::Bytes(give(self.line.as_slice(), &mut self.came, space))
+        let most = self.readable().min(self.line.len());
+        let rest = self.line.as_slice().get(self.received..most).unwrap_or(&[]);
+        let n = rest.len().min(space.len());
+        if n == 0 {
+            return Transfer::Nothing;
+        }
+        space[..n].copy_from_slice(&rest[..n]);
+        let Ok(bytes) = space[..n].to_vec(self.alloc) else {
+            return Transfer::Nothing;
+        };
+        if !note(
+            &mut self.acts,
+            LineAct {
+                is_sent: false,
+                bytes,
+            },
+        ) {
+            return Transfer::Nothing;
+        }
+        self.received = self.received.saturating_add(n);
+        Transfer::Bytes(n)
     }
 
     fn write_line(&mut self, bytes: &[u8]) -> Transfer {
-        Transfer::Bytes(take_some(bytes, &mut self.gone))
+        let Ok(taken) = bytes.to_vec(self.alloc) else {
+            return Transfer::Nothing;
+        };
+        if !note(
+            &mut self.acts,
+            LineAct {
+                is_sent: true,
+                bytes: taken,
+            },
+        ) {
+            return Transfer::Nothing;
+        }
+        self.sent = self.sent.saturating_add(bytes.len());
+        Transfer::Bytes(bytes.len())
     }
 
     fn write_output(&mut self, bytes: &[u8]) -> Transfer {
@@ -113,6 +194,37 @@ const CAME: &[u8] =
 /// A STRT.
 const STRT: &[u8] = b"\x05\x06\xc0\x00\x00\x01\x75\x95";
 
+/// A STRT, a STACK, and an ACK of message 1.
+const OF_SECOND: &[u8] =
+    b"\x05\x06\xc0\0\0\x01\x75\x95\x05\x07\xc0\0\0\x01\x48\x55\x05\x01\0\x01\0\x01\xad\x95";
+
+/// A STRT, an ACK, and a data message.
+const OF_FIRST: &[u8] =
+    b"\x05\x06\xc0\0\0\x01\x75\x95\x05\x01\0\0\0\x01\xfc\x55\x81\x03\0\0\x01\x01\x9aAabc8\x97";
+
+/// Makes devices that read this input, and from their line these bytes.
+fn devices(
+    rt: &(impl Abort + AllocGlobal),
+    input: &[u8],
+    line: &[u8],
+    gates: &'static [Gate],
+) -> KnownDevices {
+    KnownDevices {
+        alloc: rt.alloc(),
+        input: bytes(rt, input),
+        line: bytes(rt, line),
+        gates,
+        read: log(rt),
+        is_over: false,
+        received: 0,
+        sent: 0,
+        acts: Vec::new(rt.alloc()),
+        lines: 0,
+        written: log(rt),
+        moment: 0,
+    }
+}
+
 fn bytes(rt: &(impl Abort + AllocGlobal), from: &[u8]) -> Vec<u8> {
     let mut made = Vec::new(rt.alloc());
     append(rt, &mut made, from);
@@ -126,29 +238,141 @@ fn log(rt: &(impl Abort + AllocGlobal)) -> ByteQueue {
     }
 }
 
+/// Returns all bytes that were received from the line, and all that were sent.
+fn moved(rt: &(impl Abort + AllocGlobal), acts: &[LineAct]) -> (Vec<u8>, Vec<u8>) {
+    let mut received = Vec::new(rt.alloc());
+    let mut sent = Vec::new(rt.alloc());
+    for act in acts {
+        let to = if act.is_sent {
+            &mut sent
+        } else {
+            &mut received
+        };
+        append(rt, to, act.bytes.as_slice());
+    }
+    (received, sent)
+}
+
 /// All that devices moved, when the time of the run is over.
 #[test]
-fn devices_tell_what_moved(rt: HostRuntime) {
-    let mut told = KnownDevices {
-        input: bytes(&rt, b"\0\x03abc"),
-        line: bytes(&rt, CAME),
-        read: log(&rt),
-        is_over: false,
-        came: log(&rt),
-        gone: log(&rt),
-        written: log(&rt),
-        moment: 0,
-    };
+fn devices_report_what_moved(rt: HostRuntime) {
+    let gates = &[Gate {
+        sent: 0,
+        readable: 29,
+    }];
+    let mut known = devices(&rt, b"\0\x03abc", CAME, gates);
     let mut own = session(&rt, options(60_000, 1));
     let Ok(mut buffers) = Buffers::new(rt.alloc()) else {
         panic!(rt; "no memory");
     };
     assert!(rt; buffers.begin_line(&mut own));
-    assert!(rt; buffers.run(&mut own, &mut told) == Ok(EndReason::Time));
-    assert!(rt; told.read.waiting() == b"\0\x03abc".as_slice());
-    assert!(rt; told.is_over);
-    assert!(rt; told.came.waiting() == CAME);
-    assert!(rt; told.written.waiting() == b"\0\x03xyz".as_slice());
-    assert!(rt; told.gone.waiting().get(..8) == Some(STRT));
-    assert!(rt; told.gone.waiting().len() >= 29);
+    assert!(rt; buffers.run(&mut own, &mut known) == Ok(EndReason::Time));
+    assert!(rt; known.read.waiting() == b"\0\x03abc".as_slice());
+    assert!(rt; known.is_over);
+    assert!(rt; known.written.waiting() == b"\0\x03xyz".as_slice());
+    let (received, sent) = moved(&rt, known.acts.as_slice());
+    assert!(rt; received.as_slice() == CAME);
+    assert!(rt; sent.as_slice().get(..8) == Some(STRT));
+    assert!(rt; sent.len() >= 29);
+}
+
+/// How many bytes each of two ends has received and sent at some moment.
+#[derive(Clone, Copy)]
+struct Moment {
+    received: [usize; 2],
+    sent: [usize; 2],
+}
+
+impl Moment {
+    /// Takes the next act of an end, unless it would then have received more than the other has
+    /// sent.
+    fn takes(&mut self, end: usize, act: Option<&LineAct>) -> bool {
+        let Some(act) = act else {
+            return false;
+        };
+        let n = act.bytes.len();
+        if act.is_sent {
+            self.sent[end] = self.sent[end].saturating_add(n);
+            return true;
+        }
+        let received = self.received[end].saturating_add(n);
+        if received > self.sent[1 - end] {
+            return false;
+        }
+        self.received[end] = received;
+        true
+    }
+}
+
+/// Returns whether the acts of two ends have an order in which at each moment neither has received
+/// more bytes than the other has sent.
+fn have_order(first: &[LineAct], second: &[LineAct]) -> bool {
+    let mut now = Moment {
+        received: [0, 0],
+        sent: [0, 0],
+    };
+    let (mut i, mut j) = (0usize, 0usize);
+    for _act in 0..first.len().saturating_add(second.len()) {
+        if now.takes(0, first.get(i)) {
+            i = i.saturating_add(1);
+        } else if now.takes(1, second.get(j)) {
+            j = j.saturating_add(1);
+        } else {
+            return false;
+        }
+    }
+    true
+}
+
+/// Two runs of a link over one line that is honest, as over a connection: both end well, and the
+/// second delivers what the first has read.
+#[test]
+fn two_links_share_a_line(rt: HostRuntime) {
+    const FILE: &[u8] = b"\0\x03abc";
+    let to_first = &[
+        Gate {
+            sent: 8,
+            readable: 16,
+        },
+        Gate {
+            sent: 29,
+            readable: 24,
+        },
+    ];
+    let to_second = &[
+        Gate {
+            sent: 8,
+            readable: 8,
+        },
+        Gate {
+            sent: 16,
+            readable: 29,
+        },
+    ];
+    let mut first = devices(&rt, FILE, OF_SECOND, to_first);
+    let mut second = devices(&rt, b"", OF_FIRST, to_second);
+    let one = run_link(
+        rt.alloc(),
+        options(100, 60),
+        LineKind::Connect,
+        None,
+        &mut first,
+    );
+    let other = run_link(
+        rt.alloc(),
+        options(100, 60),
+        LineKind::Connect,
+        None,
+        &mut second,
+    );
+    assert!(rt; matches!(&one, Ok(LinkOutcome::Delivered)));
+    assert!(rt; matches!(&other, Ok(LinkOutcome::Delivered)));
+    assert!(rt; first.lines == 1 && second.lines == 1);
+    let (to_a, by_a) = moved(&rt, first.acts.as_slice());
+    let (to_b, by_b) = moved(&rt, second.acts.as_slice());
+    assert!(rt; to_a.as_slice() == by_b.as_slice());
+    assert!(rt; to_b.as_slice() == by_a.as_slice());
+    assert!(rt; have_order(first.acts.as_slice(), second.acts.as_slice()));
+    assert!(rt; first.read.waiting() == FILE);
+    assert!(rt; second.written.waiting() == FILE);
 }

@@ -2,7 +2,8 @@
 //! without waiting, and returns whether it moved any.
 ghost use Rattle.std.specs.Prelude.{◌≡◌, ◌≢◌, Err, Ok, Option, false};
 ghost use Rattle.ddcmp_session.specs.Devices.{BuffersView, GoesOn, HoldsMail, OnlyDelivers};
-ghost use Rattle.ddcmp_session.specs.Devices.{Reports, Traffic};
+ghost use Rattle.ddcmp_session.specs.Devices.{Reports};
+ghost use Rattle.ddcmp_session.specs.Traffic.{Traffic};
 ghost use Rattle.ddcmp_session.specs.Finishing.{Drains, HasRoomIfEmpty};
 ghost use Rattle.ddcmp_session.specs.declared.devices.DeviceFault.{DeviceFault as FaultValue};
 
@@ -42,7 +43,8 @@ impl Buffers {
     ghost use Rattle.std.specs.Prelude.{◌≡◌, ◌≢◌, ◌⊎◌, [], Err, None, Ok, Option, Some, false};
     ghost use Rattle.ddcmp_session.specs.Session.{SessionView, wants_input, wants_line};
     ghost use Rattle.ddcmp_session.specs.Devices.{GoesOn, HoldsMail, KeepsFaults, Reports, Rests};
-    ghost use Rattle.ddcmp_session.specs.Devices.{IsIdle, Traffic};
+    ghost use Rattle.ddcmp_session.specs.Devices.{IsIdle};
+    ghost use Rattle.ddcmp_session.specs.Traffic.{Traffic};
     ghost use Rattle.ddcmp_io.specs.declared.transfer.Down.{Down as DownValue};
     ghost use Rattle.ddcmp_session.specs.declared.devices.DeviceFault.{DeviceFault as FaultValue};
 

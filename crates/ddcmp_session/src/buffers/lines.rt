@@ -1,6 +1,7 @@
 //! A session over one line after the other.
 ghost use Rattle.std.specs.Prelude.{◌≡◌, ◌≢◌, ◌⊎◌, ◌<◌, [], Err, Ok, Option, Some, ℕ, false, true};
-ghost use Rattle.ddcmp_session.specs.Devices.{BuffersView, Traffic};
+ghost use Rattle.ddcmp_session.specs.Devices.{BuffersView};
+ghost use Rattle.ddcmp_session.specs.Traffic.{Traffic};
 ghost use Rattle.ddcmp_session.specs.Lines.{IsReady, ReportsOver, StaysOver};
 ghost use Rattle.ddcmp_session.specs.Stopping.{Judges};
 ghost use Rattle.ddcmp_session.specs.Timing.{end};
@@ -30,8 +31,8 @@ pub enum Stop<R> {
 impl Buffers {
     ghost use Rattle.std.specs.Prelude.{◌≡◌, ◌≢◌, ◌⊎◌, ◌<◌, Err, Ok, Some, ℕ, false, is_ok, true};
     ghost use Rattle.std.specs.Prelude.{[]};
-    ghost use Rattle.ddcmp_session.specs.Devices.{Becomes, GoesOn, KeepsFaults, Reports};
-    ghost use Rattle.ddcmp_session.specs.Devices.{after_wait};
+    ghost use Rattle.ddcmp_session.specs.Devices.{GoesOn, KeepsFaults, Reports};
+    ghost use Rattle.ddcmp_session.specs.Traffic.{Becomes, after_wait};
     ghost use Rattle.ddcmp_session.specs.Session.{SessionView, takes_end};
     ghost use Rattle.ddcmp_session.specs.Lines.{Closes, Ends, GoesOver, IsReady, MayEndWell};
     ghost use Rattle.ddcmp_session.specs.Lines.{ReportsOver, StaysOver};

@@ -23,7 +23,8 @@ pub(super) const END_MS: u64 = 1000;
 impl Buffers {
     ghost use Rattle.std.specs.Prelude.{◌≡◌, ◌≢◌, Err, None, Ok, Some, false};
     ghost use Rattle.ddcmp_session.specs.Timing.{end};
-    ghost use Rattle.ddcmp_session.specs.Devices.{Becomes, GoesOn, Reports, Rests, after_wait};
+    ghost use Rattle.ddcmp_session.specs.Devices.{GoesOn, Reports, Rests};
+    ghost use Rattle.ddcmp_session.specs.Traffic.{Becomes, after_wait};
     ghost use Rattle.ddcmp_session.specs.declared.devices.DeviceFault.{DeviceFault as FaultValue};
     ghost use Rattle.ddcmp_session.specs.declared.session.EndReason.{EndReason as EndValue};
 

@@ -52,3 +52,30 @@ pub returns-clause-reports : goal.returns-clause-reports
 returns-clause-reports g c = λ fault untimed e.
     reports-new c.in-Ok-new.ensures c.in-Ok.ensures.made c.in-Ok.ensures.stands
     (c.in-Err-run_to_end.ensures.reports fault untimed (ap stop-of e))
+
+pub returns-in-Ok-run_to_end-clause-ran : goal.returns-in-Ok-run_to_end-clause-ran
+returns-in-Ok-run_to_end-clause-ran g c = λ ran. (
+  c.run_to_end.new.session.state,
+  runs-new c.in-Ok-new.ensures c.in-Ok.ensures.made c.in-Ok.ensures.stands
+      c.in-Ok-run_to_end.ensures.ends,
+)
+
+pub returns-in-Ok-2-clause-ran : goal.returns-in-Ok-2-clause-ran
+returns-in-Ok-2-clause-ran g c = λ ran. (
+  c.run_to_end.new.session.state,
+  runs-new c.in-Ok-new.ensures c.in-Ok.ensures.made c.in-Ok.ensures.stands
+      c.in-Ok-2.ensures.ends,
+)
+
+pub returns-clause-ran : goal.returns-clause-ran
+returns-clause-ran g c = λ ran. (
+  c.run_to_end.new.session.state,
+  runs-new c.in-Ok-new.ensures c.in-Ok.ensures.made c.in-Ok.ensures.stands
+      c.in-Err-run_to_end.ensures.ends,
+)
+
+pub returns-in-Err-clause-ran : goal.returns-in-Err-clause-ran
+returns-in-Err-clause-ran g c = λ ran. absurd (ran _ refl)
+
+pub returns-in_default-clause-ran : goal.returns-in_default-clause-ran
+returns-in_default-clause-ran g c = λ ran. absurd (ran _ refl)

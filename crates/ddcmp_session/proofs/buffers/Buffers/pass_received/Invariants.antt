@@ -1,6 +1,7 @@
 use Rattle.std.proofs.Common.{◌≡◌, Option, false}
 use Rattle.ddcmp_session.specs.contracts.buffers.Buffers as buffers
-use Rattle.ddcmp_session.specs.Devices.{GoesOn, Traffic}
+use Rattle.ddcmp_session.specs.Devices.{GoesOn}
+use Rattle.ddcmp_session.specs.Traffic.{Traffic}
 use Rattle.ddcmp_session.proofs.buffers.Buffers.pass_received.Given as goal
 
 abbrev pub invariant-loop-notice : goal.invariant-loop-notice

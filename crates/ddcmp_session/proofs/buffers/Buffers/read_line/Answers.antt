@@ -1,6 +1,7 @@
 use Rattle.std.proofs.Common.{◌≡◌, ◌∙◌, ap, [], refl, sym, subst}
 use Rattle.ddcmp_session.specs.contracts.buffers.Buffers as buffers
-use Rattle.ddcmp_session.specs.Devices.{BuffersView, Reports, moved_of}
+use Rattle.ddcmp_session.specs.Devices.{BuffersView, Reports}
+use Rattle.ddcmp_session.specs.Traffic.{moved_of}
 use Rattle.ddcmp_session.proofs.GoingLaws.{stays, goes-then, line-reported}
 use Rattle.ddcmp_session.proofs.LineGoes.{line-given}
 use Rattle.ddcmp_session.proofs.buffers.Buffers.read_line.Goals as goal

@@ -1,7 +1,7 @@
 use Rattle.std.proofs.Common.{refl, sym}
 use Rattle.ddcmp_io.specs.declared.transfer.Transfer.TheVariants.{Nothing, Interrupted}
-use Rattle.ddcmp_session.specs.Devices.{after_gone}
-use Rattle.ddcmp_session.proofs.GoingLaws.{stays, idles, none-gone, downed}
+use Rattle.ddcmp_session.specs.Traffic.{after_line_written}
+use Rattle.ddcmp_session.proofs.GoingLaws.{stays, idles, downed}
 use Rattle.ddcmp_session.proofs.LineGoes.{line-took}
 use Rattle.ddcmp_session.proofs.buffers.Buffers.write_line.Goals as goal
 
@@ -10,13 +10,13 @@ returns-then-is_some-clause-on g c = stays refl refl
 
 pub returns-in-Nothing-clause-on : goal.returns-in-Nothing-clause-on
 returns-in-Nothing-clause-on g c =
-    idles (after_gone Nothing c.to_line-2.result.now) c.in-Nothing.ensures.gone
-    none-gone
+    idles (after_line_written Nothing c.to_line-2.result.now) c.in-Nothing.ensures.gone
+    (λ t. refl)
 
 pub returns-in-Interrupted-clause-on : goal.returns-in-Interrupted-clause-on
 returns-in-Interrupted-clause-on g c =
-    idles (after_gone Interrupted c.to_line-2.result.now) c.in-Interrupted.ensures.gone
-    none-gone
+    idles (after_line_written Interrupted c.to_line-2.result.now) c.in-Interrupted.ensures.gone
+    (λ t. refl)
 
 pub returns-in-Ended-clause-on : goal.returns-in-Ended-clause-on
 returns-in-Ended-clause-on g c =

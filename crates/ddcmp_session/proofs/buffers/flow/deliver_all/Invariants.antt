@@ -1,5 +1,6 @@
 use Rattle.std.proofs.Common.{◌≡◌, Option, false}
-use Rattle.ddcmp_session.specs.Devices.{BuffersView, GoesOn, OnlyDelivers, Traffic}
+use Rattle.ddcmp_session.specs.Devices.{BuffersView, GoesOn, OnlyDelivers}
+use Rattle.ddcmp_session.specs.Traffic.{Traffic}
 use Rattle.ddcmp_session.specs.Finishing.{Drains}
 use Rattle.ddcmp_session.proofs.buffers.flow.deliver_all.Given as goal
 

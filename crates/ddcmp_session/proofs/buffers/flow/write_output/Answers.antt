@@ -2,7 +2,8 @@ use Rattle.std.proofs.Common.{◌≡◌, refl, subst, Bool, Result, Err}
 use Rattle.ddcmp_session.specs.declared.devices.DeviceFault.{DeviceFault}
 use Rattle.ddcmp_session.specs.declared.devices.DeviceFault.TheVariants.{Output}
 use Rattle.ddcmp_io.specs.declared.transfer.Transfer.TheVariants.{Nothing, Interrupted}
-use Rattle.ddcmp_session.specs.Devices.{after_written, Reports}
+use Rattle.ddcmp_session.specs.Devices.{Reports}
+use Rattle.ddcmp_session.specs.Traffic.{after_written}
 use Rattle.ddcmp_session.proofs.Finished.{drains-fault, drains-none, drains-still, drains-took}
 use Rattle.ddcmp_session.proofs.GoingLaws.{stays, idles, none-written, faulted, reported}
 use Rattle.ddcmp_session.proofs.LineGoes.{output-took}

@@ -1,0 +1,99 @@
+-- Two sessions that sleep.
+use Rattle.std.proofs.Common.{◌≡◌, ◌≢◌, ◌⊎◌, inl, inr, ℕ, Bool, true, false, List, [], ◌∷◌}
+use Rattle.std.proofs.Common.{◌++◌, length, refl, sym, ◌∙◌, ap, subst, arith, Option, None, Some}
+use Rattle.std.specs.Prelude.{◌&&◌, is_some}
+use Rattle.ddcmp_proto.specs.Config.{first_refusal}
+use Rattle.ddcmp_station.specs.Linking.{puts_frame, carries_message}
+use Rattle.ddcmp_io.specs.declared.carrier.End.{End}
+use Rattle.ddcmp_pair.specs.Run.{new_pair}
+use Rattle.ddcmp_session.specs.Session.{SessionView, IsFilled}
+use Rattle.ddcmp_session.specs.Calls.{SessionStep}
+use Rattle.ddcmp_laws.specs.PairCalls.{run_calls}
+use Rattle.ddcmp_laws.specs.Links.{Links, after_steps}
+use Rattle.ddcmp_laws.specs.LinkLines.{AreLinkCalls, calls_of_steps, LinksAreUp, LinkIsAsleep}
+use Rattle.ddcmp_laws.specs.LinkLines.{InboxIsFull, LinkIsDelivered}
+use Rattle.ddcmp_laws.specs.Pipe.{Made, Sessions, new_sessions, links_made, AreSessionCalls}
+use Rattle.ddcmp_laws.specs.Pipe.{after_sessions, link_steps_at, AreConnectedOnce}
+use Rattle.ddcmp_laws.specs.SessionSleep.{SessionsAreUp, SessionIsAsleep, SessionIsDelivered}
+use Rattle.ddcmp_laws.proofs.Pipes.{Keeps, keeps_steps, links_of}
+use Rattle.ddcmp_laws.proofs.Outcomes.{made_links, new_hold, are_once, links_after}
+use Rattle.ddcmp_laws.proofs.Sleeping.{asleep_a, asleep_b}
+
+none-paused : (o : Option ℕ) (b : Bool) → o ≡ None → is_some o && b ≡ true → ⊥
+none-paused None b e p = cc p
+none-paused (Some n) b e p = cc e
+
+no-frame : (s : SessionView) → SessionIsAsleep s → puts_frame s.link ≡ false
+no-frame s z = by z.filled
+  where
+    by : IsFilled s → puts_frame s.link ≡ false
+    by (inl some) = absurd (let e = ap length z.sent in omega (arith, some, e))
+    by (inr (inl e)) = e
+    by (inr (inr paused)) =
+        absurd (none-paused s.course.pause (carries_message s.link) z.no_pause paused)
+
+link-asleep : (s : SessionView) → SessionIsAsleep s → LinkIsAsleep s.link
+link-asleep s z =
+    record { no_moment = z.no_moment; room = z.room; no_frame = no-frame s z }
+
+module _ (first second : Made) (steps : List (End × SessionStep))
+    (f : first_refusal first.options.config ≡ None)
+    (g : first_refusal second.options.config ≡ None)
+    (does : AreSessionCalls steps (new_sessions first second))
+    (honest : (run_calls
+    (calls_of_steps (link_steps_at steps (new_sessions first second)) (links_made first second))
+    (new_pair first.options.config second.options.config)).honest ≡ true)
+    (once : AreConnectedOnce steps) where
+  keeps : Keeps first second steps (new_sessions first second) 0 0
+  keeps =
+      keeps_steps first second steps (new_sessions first second) 0 0 does
+      (new_hold first second steps)
+
+  abbrev ended : Sessions
+  ended = after_sessions steps (new_sessions first second)
+
+  abbrev links : Links
+  links = links_of first second ended keeps.1.0 keeps.1.1
+
+  are : AreLinkCalls (link_steps_at steps (new_sessions first second)) (links_made first second)
+  are =
+      subst (AreLinkCalls (link_steps_at steps (new_sessions first second)))
+      (sym (made_links first second steps)) keeps.0
+
+  same : links_after first second steps ≡ links
+  same =
+      ap (after_steps (link_steps_at steps (new_sessions first second)))
+      (made_links first second steps)
+      ∙ keeps.1.2
+
+  pub slumber_a : SessionsAreUp ended → SessionIsAsleep ended.a.session
+      → SessionIsDelivered first ended.a ended.b ⊎ InboxIsFull ended.a.session.link
+  slumber_a up z = by
+      (subst (λ (q : Links). LinksAreUp q → LinkIsAsleep q.a.link
+      → LinkIsDelivered q.a q.b ⊎ InboxIsFull q.a.link) same
+      (asleep_a first.options.config second.options.config first.options.timer_ms
+      second.options.timer_ms first.line second.line
+      (link_steps_at steps (new_sessions first second)) f g are honest
+      (are_once first second steps once))
+      (record { a = up.a; b = up.b }) (link-asleep ended.a.session z))
+    where
+      by : LinkIsDelivered links.a links.b ⊎ InboxIsFull links.a.link
+          → SessionIsDelivered first ended.a ended.b ⊎ InboxIsFull ended.a.session.link
+      by (inl d) = inl (record { runs = d.runs; received = d.received })
+      by (inr full) = inr full
+
+  pub slumber_b : SessionsAreUp ended → SessionIsAsleep ended.b.session
+      → SessionIsDelivered second ended.b ended.a ⊎ InboxIsFull ended.b.session.link
+  slumber_b up z = by
+      (subst (λ (q : Links). LinksAreUp q → LinkIsAsleep q.b.link
+      → LinkIsDelivered q.b q.a ⊎ InboxIsFull q.b.link) same
+      (asleep_b first.options.config second.options.config first.options.timer_ms
+      second.options.timer_ms first.line second.line
+      (link_steps_at steps (new_sessions first second)) f g are honest
+      (are_once first second steps once))
+      (record { a = up.a; b = up.b }) (link-asleep ended.b.session z))
+    where
+      by : LinkIsDelivered links.b links.a ⊎ InboxIsFull links.b.link
+          → SessionIsDelivered second ended.b ended.a ⊎ InboxIsFull ended.b.session.link
+      by (inl d) = inl (record { runs = d.runs; received = d.received })
+      by (inr full) = inr full
