@@ -178,6 +178,9 @@ def errors_unread_and_timer():
     peer.runs()
     one.link.give(b"61\n", close=False)
     for number in range(1, 4001):  # fills the room of a trace by frames, and then its last bytes by expiries
+        # Without an acknowledgement of its own message the link refuses what finds no room.
+        if number % 8 == 0:
+            one.link.waits(lambda it: it.said.count(b"mail ") >= number - 1, 5)
         peer.send(data(b"x" * 100, number & 255))
         time.sleep(0.001 if number < 3700 else 0.01)
     if not one.link.waits(lambda it: it.said.count(b"mail ") == 4000, 5):

@@ -96,6 +96,7 @@ impl<S: Store> Core<S> {
     ghost use Rattle.ddcmp_core.specs.Table.{send_refusal as send_refusal_of, answer_to_send};
     ghost use Rattle.ddcmp_core.specs.Table.{may_send, after_accept, answer_to_send_maintenance};
     ghost use Rattle.ddcmp_core.specs.Table.{may_send_maintenance, after_take, after_expire, is_on};
+    ghost use Rattle.ddcmp_core.specs.Table.{is_ack};
     ghost use Rattle.ddcmp_core.specs.Table.{is_fresh, after_take_arm};
     ghost use Rattle.ddcmp_core.specs.Counting.{no_counts, counters_after_expire};
     ghost use Rattle.ddcmp_core.specs.Core.{IsSound};
@@ -363,6 +364,13 @@ impl<S: Store> Core<S> {
         ensures { result ≡ is_on self.now.station.timer }
     {
         self.timer != Timer::Off
+    }
+
+    /// Returns whether an ACK is owed, or data that carry it.
+    pub fn owes_ack(&self) -> bool
+        ensures { result ≡ is_ack self.now.station.reply }
+    {
+        self.reply == Owed::Ack
     }
 
     /// Returns the counters.

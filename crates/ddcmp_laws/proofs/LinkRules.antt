@@ -3,7 +3,7 @@ use Rattle.std.proofs.Common.{◌≡◌, ◌≢◌, ℕ, ◌+◌, ◌<◌, ◌�
 use Rattle.std.proofs.Common.{List}
 use Rattle.std.proofs.Common.{[], ◌∷◌, ◌++◌, length, refl, sym, ◌∙◌, ap, subst, arith, Option, None}
 use Rattle.std.proofs.Common.{Some, append-nil}
-use Rattle.std.specs.Prelude.{◌↔◌, ◌&&◌, ◌^◌, ◌==◌, not, nat_le, nat_lt, min, is_some, is_none, Ok}
+use Rattle.std.specs.Prelude.{◌↔◌, ◌&&◌, ◌||◌, ◌^◌, ◌==◌, not, nat_le, nat_lt, min, is_some, is_none, Ok}
 use Rattle.ddcmp_core.specs.SendRefusal.TheVariants as refusal
 use Rattle.ddcmp_core.specs.Sender.{accept_refusal, answer_unless}
 use Rattle.ddcmp_core.specs.declared.state.State.{State}
@@ -21,7 +21,7 @@ use Rattle.ddcmp_station.specs.Driving.{DriveTurn, Driving, deadline_at, core_at
 use Rattle.ddcmp_station.specs.Driving.{core_after_expire, before_offer, before_read}
 use Rattle.ddcmp_station.specs.Linking.{LinkView, puts_frame, polls, fits, holds_back, after_frame}
 use Rattle.ddcmp_station.specs.Linking.{after_polled, is_held_back, frame_of_link}
-use Rattle.ddcmp_station.specs.Linking.{is_nak_for_buffer}
+use Rattle.ddcmp_station.specs.Linking.{is_nak_for_buffer, wants_bytes}
 use Rattle.ddcmp_station.specs.Linking.{takes_message, answer_to_offered, after_offered}
 use Rattle.ddcmp_station.specs.Driving.{frame_bytes}
 use Rattle.ddcmp_station.specs.Linking.{delivered, wakes_at, moment_or_now, after_wake, with_state}
@@ -47,25 +47,41 @@ nak_test Strt = (λ e. absurd (cc e), λ e. absurd e)
 nak_test Stack = (λ e. absurd (cc e), λ e. absurd e)
 nak_test (Maint message) = (λ e. absurd (cc e), λ e. absurd e)
 
+unheld : (nak wants : Bool) → wants ≡ true → (nak && not wants) ≡ false
+unheld true true e = refl
+unheld false true e = refl
+unheld nak false e = absurd (cc e)
+
 free : (l : Limits) (s : StationState) (f : Frame)
-    → (length s.inbox < l.room) ⊎ (¬ AsksForABuffer f) → is_held_back (Some f) l s ≡ false
-free l s f (inl room) = by (is_nak_for_buffer (header_of f)) (has_room l s) (grind (arith))
+    → (length s.inbox < l.room) ⊎ (0 < length s.out) ⊎ (¬ AsksForABuffer f)
+    → is_held_back (Some f) l s ≡ false
+free l s f (inl room) =
+    let free : has_room l s ≡ true = grind (arith) in
+    unheld (is_nak_for_buffer (header_of f)) (wants_bytes l s)
+    (ap (λ b. b || not (length s.out == 0)) free)
+free l s f (inr (inl some)) =
+    let waits : (length s.out == 0) ≡ false = grind (arith) in
+    unheld (is_nak_for_buffer (header_of f)) (wants_bytes l s)
+    (ap (λ b. has_room l s || not b) waits ∙ or-true (has_room l s))
   where
-    by : (nak free : Bool) → free ≡ true → (nak && not free) ≡ false
-    by true true e = refl
-    by false true e = refl
-    by nak false e = absurd (cc e)
-free l s f (inr other) = by (is_nak_for_buffer (header_of f)) refl
+    or-true : (b : Bool) → (b || true) ≡ true
+    or-true true = refl
+    or-true false = refl
+free l s f (inr (inr other)) = by (is_nak_for_buffer (header_of f)) refl
   where
-    by : (nak : Bool) → is_nak_for_buffer (header_of f) ≡ nak → (nak && not (has_room l s)) ≡ false
+    by : (nak : Bool) → is_nak_for_buffer (header_of f) ≡ nak
+        → (nak && not (wants_bytes l s)) ≡ false
     by true e = absurd (other ((nak_test f).0 e))
     by false e = refl
 
-kept : (l : Limits) (s : StationState) (f : Frame) → l.room ≤ length s.inbox → AsksForABuffer f
-    → is_held_back (Some f) l s ≡ true
-kept l s f full asks =
+kept : (l : Limits) (s : StationState) (f : Frame) → l.room ≤ length s.inbox → s.out ≡ []
+    → AsksForABuffer f → is_held_back (Some f) l s ≡ true
+kept l s f full none asks =
     let room : has_room l s ≡ false = grind (arith) in
-    ap (λ b. b && not (has_room l s)) ((nak_test f).1 asks) ∙ ap not room
+    let wants : wants_bytes l s ≡ false =
+    ap (λ b. b || not (length s.out == 0)) room
+    ∙ ap (λ (xs : List (List ℕ)). not (length xs == 0)) none in
+    ap (λ b. b && not (wants_bytes l s)) ((nak_test f).1 asks) ∙ ap not wants
 
 has_space : (d : LinkView) → d.station.syn + (d.station.core.limits.longest + 10) ≤ d.outbox.room
     → fits d ≡ true
@@ -84,7 +100,8 @@ unpolled d e = (ap (λ b. b && is_some (frame_of_link d)) e, ap (frame_by d) e)
 
 pub puts : (d : LinkView) (f : Frame) → next_frame (next d.station.core.station) ≡ Some f
     → d.station.syn + (d.station.core.limits.longest + 10) ≤ d.outbox.room
-    → (length d.station.core.station.inbox < d.station.core.limits.room) ⊎ (¬ AsksForABuffer f)
+    → (length d.station.core.station.inbox < d.station.core.limits.room)
+    ⊎ (0 < length d.station.core.station.out) ⊎ (¬ AsksForABuffer f)
     → PutsFrame f d (after_frame d)
 puts d f e few either =
     record {
@@ -108,13 +125,14 @@ puts d f e few either =
         ∙ ap not (free l s f either)
 
 pub holds : (d : LinkView) (f : Frame) → next_frame (next d.station.core.station) ≡ Some f
-    → d.station.core.limits.room ≤ length d.station.core.station.inbox → AsksForABuffer f
+    → d.station.core.limits.room ≤ length d.station.core.station.inbox
+    → d.station.core.station.out ≡ [] → AsksForABuffer f
     → (puts_frame d ≡ false) × (after_frame d ≡ d)
-holds d f e full asks =
+holds d f e full none asks =
     unpolled d
     (never (fits d) (holds_back d)
     (ap (λ o. is_held_back o d.station.core.limits d.station.core.station) e
-    ∙ kept d.station.core.limits d.station.core.station f full asks))
+    ∙ kept d.station.core.limits d.station.core.station f full none asks))
   where
     never : (a b : Bool) → b ≡ true → (a && not b) ≡ false
     never true true e = refl

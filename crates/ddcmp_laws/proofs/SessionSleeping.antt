@@ -1,9 +1,9 @@
 -- Two sessions that sleep.
 use Rattle.std.proofs.Common.{◌≡◌, ◌≢◌, ◌⊎◌, inl, inr, ℕ, Bool, true, false, List, [], ◌∷◌}
 use Rattle.std.proofs.Common.{◌++◌, length, refl, sym, ◌∙◌, ap, subst, arith, Option, None, Some}
-use Rattle.std.specs.Prelude.{◌&&◌, is_some}
+use Rattle.std.specs.Prelude.{◌&&◌, is_some, not}
 use Rattle.ddcmp_proto.specs.Config.{first_refusal}
-use Rattle.ddcmp_station.specs.Linking.{puts_frame, carries_message}
+use Rattle.ddcmp_station.specs.Linking.{carries_message, owes_ack, puts_frame}
 use Rattle.ddcmp_io.specs.declared.carrier.End.{End}
 use Rattle.ddcmp_pair.specs.Run.{new_pair}
 use Rattle.ddcmp_session.specs.Session.{SessionView, IsFilled}
@@ -11,7 +11,7 @@ use Rattle.ddcmp_session.specs.Calls.{SessionStep}
 use Rattle.ddcmp_laws.specs.PairCalls.{run_calls}
 use Rattle.ddcmp_laws.specs.Links.{Links, after_steps}
 use Rattle.ddcmp_laws.specs.LinkLines.{AreLinkCalls, calls_of_steps, LinksAreUp, LinkIsAsleep}
-use Rattle.ddcmp_laws.specs.LinkLines.{InboxIsFull, LinkIsDelivered}
+use Rattle.ddcmp_laws.specs.LinkLines.{LinkIsDelivered}
 use Rattle.ddcmp_laws.specs.Pipe.{Made, Sessions, new_sessions, links_made, AreSessionCalls}
 use Rattle.ddcmp_laws.specs.Pipe.{after_sessions, link_steps_at, AreConnectedOnce}
 use Rattle.ddcmp_laws.specs.SessionSleep.{SessionsAreUp, SessionIsAsleep, SessionIsDelivered}
@@ -19,9 +19,9 @@ use Rattle.ddcmp_laws.proofs.Pipes.{Keeps, keeps_steps, links_of}
 use Rattle.ddcmp_laws.proofs.Outcomes.{made_links, new_hold, are_once, links_after}
 use Rattle.ddcmp_laws.proofs.Sleeping.{asleep_a, asleep_b}
 
-none-paused : (o : Option ℕ) (b : Bool) → o ≡ None → is_some o && b ≡ true → ⊥
-none-paused None b e p = cc p
-none-paused (Some n) b e p = cc e
+none-paused : (o : Option ℕ) (b c : Bool) → o ≡ None → (is_some o && b) && c ≡ true → ⊥
+none-paused None b c e p = cc p
+none-paused (Some n) b c e p = cc e
 
 no-frame : (s : SessionView) → SessionIsAsleep s → puts_frame s.link ≡ false
 no-frame s z = by z.filled
@@ -30,7 +30,9 @@ no-frame s z = by z.filled
     by (inl some) = absurd (let e = ap length z.sent in omega (arith, some, e))
     by (inr (inl e)) = e
     by (inr (inr paused)) =
-        absurd (none-paused s.course.pause (carries_message s.link) z.no_pause paused)
+        absurd
+        (none-paused s.course.pause (carries_message s.link) (not (owes_ack s.link)) z.no_pause
+        paused)
 
 link-asleep : (s : SessionView) → SessionIsAsleep s → LinkIsAsleep s.link
 link-asleep s z =
@@ -67,33 +69,29 @@ module _ (first second : Made) (steps : List (End × SessionStep))
       ∙ keeps.1.2
 
   pub slumber_a : SessionsAreUp ended → SessionIsAsleep ended.a.session
-      → SessionIsDelivered first ended.a ended.b ⊎ InboxIsFull ended.a.session.link
+      → SessionIsDelivered first ended.a ended.b
   slumber_a up z = by
       (subst (λ (q : Links). LinksAreUp q → LinkIsAsleep q.a.link
-      → LinkIsDelivered q.a q.b ⊎ InboxIsFull q.a.link) same
+      → LinkIsDelivered q.a q.b) same
       (asleep_a first.options.config second.options.config first.options.timer_ms
       second.options.timer_ms first.line second.line
       (link_steps_at steps (new_sessions first second)) f g are honest
       (are_once first second steps once))
       (record { a = up.a; b = up.b }) (link-asleep ended.a.session z))
     where
-      by : LinkIsDelivered links.a links.b ⊎ InboxIsFull links.a.link
-          → SessionIsDelivered first ended.a ended.b ⊎ InboxIsFull ended.a.session.link
-      by (inl d) = inl (record { runs = d.runs; received = d.received })
-      by (inr full) = inr full
+      by : LinkIsDelivered links.a links.b → SessionIsDelivered first ended.a ended.b
+      by d = record { runs = d.runs; received = d.received }
 
   pub slumber_b : SessionsAreUp ended → SessionIsAsleep ended.b.session
-      → SessionIsDelivered second ended.b ended.a ⊎ InboxIsFull ended.b.session.link
+      → SessionIsDelivered second ended.b ended.a
   slumber_b up z = by
       (subst (λ (q : Links). LinksAreUp q → LinkIsAsleep q.b.link
-      → LinkIsDelivered q.b q.a ⊎ InboxIsFull q.b.link) same
+      → LinkIsDelivered q.b q.a) same
       (asleep_b first.options.config second.options.config first.options.timer_ms
       second.options.timer_ms first.line second.line
       (link_steps_at steps (new_sessions first second)) f g are honest
       (are_once first second steps once))
       (record { a = up.a; b = up.b }) (link-asleep ended.b.session z))
     where
-      by : LinkIsDelivered links.b links.a ⊎ InboxIsFull links.b.link
-          → SessionIsDelivered second ended.b ended.a ⊎ InboxIsFull ended.b.session.link
-      by (inl d) = inl (record { runs = d.runs; received = d.received })
-      by (inr full) = inr full
+      by : LinkIsDelivered links.b links.a → SessionIsDelivered second ended.b ended.a
+      by d = record { runs = d.runs; received = d.received }

@@ -1,15 +1,17 @@
 -- Two links that sleep.
-use Rattle.std.proofs.Common.{◌≡◌, ◌≢◌, ◌⊎◌, inl, inr, ℕ, Bool, true, false, cond, List, ◌++◌}
-use Rattle.std.proofs.Common.{length, refl, sym, ◌∙◌, ap, Option, None, Some}
-use Rattle.std.specs.Prelude.{option_map, is_some, not, ◌&&◌}
+use Rattle.std.proofs.Common.{◌≡◌, ◌≢◌, ◌⊎◌, inl, inr, ℕ, Bool, true, false, cond, List}
+use Rattle.std.proofs.Common.{[], ◌∷◌, ◌++◌, length, refl, sym, ◌∙◌, ap, arith, Option, None, Some}
+use Rattle.std.specs.Prelude.{option_map, is_some, not, ◌&&◌, ◌||◌, ◌==◌}
 use Rattle.ddcmp_frame.specs.Reader.{ReaderView}
 use Rattle.ddcmp_core.specs.Core.{CoreView}
 use Rattle.ddcmp_core.specs.Frames.{header_of}
-use Rattle.ddcmp_core.specs.declared.state.State.TheVariants.{Halted}
+use Rattle.ddcmp_core.specs.declared.state.State.{State}
+use Rattle.ddcmp_core.specs.declared.state.State.TheVariants.{Halted, IStart, AStart, Running}
+use Rattle.ddcmp_core.specs.declared.state.State.TheVariants.{Maintenance}
 use Rattle.ddcmp_core.specs.declared.state.Timer.{Timer}
 use Rattle.ddcmp_core.specs.declared.state.Timer.TheVariants.{Off, Fresh, On}
-use Rattle.ddcmp_core.specs.Table.{next, next_frame, after_take_arm, is_on, has_room, Frame, Limits}
-use Rattle.ddcmp_core.specs.Table.{StationState}
+use Rattle.ddcmp_core.specs.Table.{next, next_by, next_frame, next_maintenance, after_take_arm, is_on}
+use Rattle.ddcmp_core.specs.Table.{has_room, Frame, Strt, Stack, Maint, Limits, StationState}
 use Rattle.ddcmp_proto.specs.Bytes.{frame_on_line}
 use Rattle.ddcmp_proto.specs.Config.{first_refusal}
 use Rattle.ddcmp_proto.specs.declared.config.Config.{Config}
@@ -19,16 +21,17 @@ use Rattle.ddcmp_pair.specs.Recovery.{IsDelivered}
 use Rattle.ddcmp_pair.specs.Run.{EndState, PairState, handed_up, line_bytes, is_clean, new_pair}
 use Rattle.ddcmp_pair.specs.Run.{run}
 use Rattle.ddcmp_station.specs.Linking.{frame_of_link, fits}
-use Rattle.ddcmp_station.specs.Linking.{is_held_back, is_nak_for_buffer}
+use Rattle.ddcmp_station.specs.Linking.{is_held_back, is_nak_for_buffer, wants_bytes}
 use Rattle.ddcmp_laws.proofs.Waiting.{sleeps-a, sleeps-b}
 use Rattle.ddcmp_laws.specs.PairCalls.{Call, noted, after_arm_here, events_in, run_calls}
 use Rattle.ddcmp_laws.specs.Links.{LinkStep, LinkHistory, Links, IsSameEnd, AreStartedOnce}
 use Rattle.ddcmp_laws.specs.Links.{new_links, after_steps, received}
 use Rattle.ddcmp_laws.specs.LinkLines.{AreLinkCalls, calls_of_steps, LinksAreUp, LinkIsAsleep}
-use Rattle.ddcmp_laws.specs.LinkLines.{InboxIsFull, LinkIsDelivered}
+use Rattle.ddcmp_laws.specs.LinkLines.{LinkIsDelivered}
 use Rattle.ddcmp_laws.proofs.PairCallLaws.{run_same, honest_same, clean_same}
 use Rattle.ddcmp_laws.proofs.Stations.{note, frame_armed}
-use Rattle.ddcmp_laws.proofs.TwoLinks.{AreSame, clean, ends}
+use Rattle.ddcmp_laws.proofs.TwoLinks.{AreSame, acknowledged_to_a, acknowledged_to_b}
+use Rattle.ddcmp_laws.proofs.TwoLinks.{all_acknowledged_a, all_acknowledged_b, clean, ends}
 
 -- ---- of one link
 
@@ -51,20 +54,77 @@ quiet_same x y e n =
     (frame_armed y.core.station
     ∙ (sym (ap (λ s. next_frame (next s)) f) ∙ (sym (frame_armed x.core.station) ∙ n)))
 
--- a link that puts no frame has none, or its inbox is full
-held : (f : Option Frame) (l : Limits) (s : StationState) (room : Bool) → room ≡ true
-    → ((room && not (is_held_back f l s)) && is_some f) ≡ false
-    → (f ≡ None) ⊎ (has_room l s ≡ false)
-held None l s room e n = inl refl
-held (Some f) l s room e n = by room (is_nak_for_buffer (header_of f)) (has_room l s) e n refl
+abbrev is_held_frame : Option Frame → Bool
+is_held_frame None = false
+is_held_frame (Some f) = is_nak_for_buffer (header_of f)
+
+strt : (f : Frame) → ◌≡◌ {A = Option Frame} (Some Strt) (Some f)
+    → is_nak_for_buffer (header_of f) ≡ true → ⊥
+strt f e nak = cc (ap (λ (o : Option Frame). is_held_frame o) e ∙ nak)
+
+stack : (f : Frame) → ◌≡◌ {A = Option Frame} (Some Stack) (Some f)
+    → is_nak_for_buffer (header_of f) ≡ true → ⊥
+stack f e nak = cc (ap (λ (o : Option Frame). is_held_frame o) e ∙ nak)
+
+other : (message : List ℕ) (f : Frame) → ◌≡◌ {A = Option Frame} (Some (Maint message)) (Some f)
+    → is_nak_for_buffer (header_of f) ≡ true → ⊥
+other message f e nak = cc (ap (λ (o : Option Frame). is_held_frame o) e ∙ nak)
+
+-- only a station that runs owes a NAK
+runs-if : (s : StationState) (f : Frame) → next_frame (next s) ≡ Some f
+    → is_nak_for_buffer (header_of f) ≡ true → s.state ≡ Running
+unfolding next
+runs-if s f e nak = by s.state s.due refl refl e
   where
-    by : (room nak free : Bool) → room ≡ true
-        → ((room && not (nak && not free)) && true) ≡ false
-        → has_room l s ≡ free → (Some f ≡ None) ⊎ (has_room l s ≡ false)
-    by true nak false e n h = inr h
-    by true true true e n h = absurd (cc n)
-    by true false true e n h = absurd (cc n)
-    by false nak free e n h = absurd (cc e)
+    by : (p : State) (due : Bool) → s.state ≡ p → s.due ≡ due
+        → next_frame (next_by p (record s { due = due })) ≡ Some f → s.state ≡ Running
+    by Running due is same e = is
+    by Halted due is same e = absurd (cc e)
+    by IStart true is same e = absurd (strt f e nak)
+    by IStart false is same e = absurd (cc e)
+    by AStart true is same e = absurd (stack f e nak)
+    by AStart false is same e = absurd (cc e)
+    by Maintenance due is same e = maint s.out e
+      where
+        maint : (out : List (List ℕ))
+            → next_frame (next_maintenance out (record s { due = due })) ≡ Some f
+            → s.state ≡ Running
+        maint [] e = absurd (cc e)
+        maint (message ∷ rest) e = absurd (other message f e nak)
+
+-- A link that puts no frame has none, or it runs and no message is unacknowledged.
+abbrev IsHeld : StationState → Type 0
+IsHeld s = (s.state ≡ Running) × (length s.out ≡ 0)
+
+held : (l : Limits) (s : StationState) (room : Bool) → room ≡ true
+    → ((room && not (is_held_back (next_frame (next s)) l s)) && is_some (next_frame (next s)))
+    ≡ false
+    → (next_frame (next s) ≡ None) ⊎ IsHeld s
+held l s room e n = by (next_frame (next s)) refl n
+  where
+    none : (free : Bool) (k : ℕ) → (free || not (k == 0)) ≡ false → k ≡ 0
+    none true k e = absurd (cc e)
+    none false k e = at (k == 0) refl e
+      where
+        at : (b : Bool) → (k == 0) ≡ b → not b ≡ false → k ≡ 0
+        at true is e = grind (arith, is)
+        at false is e = absurd (cc e)
+
+    split : (f : Frame) (room nak wants : Bool) → room ≡ true
+        → ((room && not (nak && not wants)) && true) ≡ false
+        → (nak ≡ true) × (wants ≡ false)
+    split f true true false e n = (refl, refl)
+    split f true true true e n = absurd (cc n)
+    split f true false wants e n = absurd (cc n)
+    split f false nak wants e n = absurd (cc e)
+
+    by : (f : Option Frame) → next_frame (next s) ≡ f
+        → ((room && not (is_held_back f l s)) && is_some f) ≡ false
+        → (next_frame (next s) ≡ None) ⊎ IsHeld s
+    by None is n = inl is
+    by (Some f) is n =
+        let two = split f room (is_nak_for_buffer (header_of f)) (wants_bytes l s) e n in
+        inr (runs-if s f is two.0, none (has_room l s) (length s.out) two.1)
 
 got : (x y : EndState) (h k : LinkHistory) → IsSameEnd x h → IsSameEnd y k → x.given ≡ handed_up y
     → received k ≡ h.accepted
@@ -81,12 +141,12 @@ record IsQuiet (x : EndState) : Type 0 where
   no_timer : x.core.station.timer ≡ Off
 
 quiet : (x : EndState) (h : LinkHistory) → IsSameEnd x h → LinkIsAsleep h.link
-    → IsQuiet x ⊎ InboxIsFull h.link
+    → IsQuiet x ⊎ IsHeld h.link.station.core.station
 quiet x h s z = by
-    (held (frame_of_link h.link) h.link.station.core.limits h.link.station.core.station
-    (fits h.link) z.room z.no_frame)
+    (held h.link.station.core.limits h.link.station.core.station (fits h.link) z.room z.no_frame)
   where
-    by : (frame_of_link h.link ≡ None) ⊎ InboxIsFull h.link → IsQuiet x ⊎ InboxIsFull h.link
+    by : (frame_of_link h.link ≡ None) ⊎ IsHeld h.link.station.core.station
+        → IsQuiet x ⊎ IsHeld h.link.station.core.station
     by (inl n) = inl (record {
       no_frame = ap (λ (c : CoreView). next_frame (next c.station)) s.core ∙ n;
       no_timer =
@@ -172,14 +232,21 @@ module _ (first second : Config) (ms other_ms : ℕ) (line other_line : ReaderVi
       ∙ (ap (λ (r : PairState). r.b.core.station.state) noted_same ∙ e))
 
   pub asleep_a : LinkIsAsleep links.a.link → LinkIsDelivered links.a links.b
-      ⊎ InboxIsFull links.a.link
   asleep_a z = by (quiet p.a links.a same.a z)
     where
-      by : IsQuiet p.a ⊎ InboxIsFull links.a.link
-          → LinkIsDelivered links.a links.b ⊎ InboxIsFull links.a.link
-      by (inr e) = inr e
+      by : IsQuiet p.a ⊎ IsHeld links.a.link.station.core.station
+          → LinkIsDelivered links.a links.b
+      by (inr h) =
+          (record {
+            runs = h.0;
+            received =
+                acknowledged_to_b first second ms other_ms line other_line steps f g o honest once
+                h.1;
+            acknowledged =
+                all_acknowledged_a first second ms other_ms line other_line steps f g o honest once
+                h.1;
+          })
       by (inl n) =
-          inl
           (delivered_links p.a p.b links.a links.b same.a same.b
           (delivered_same p.a p.b q.a q.b (ap (λ (r : PairState). r.a) noted_same)
           (ap (λ (r : PairState). r.b) noted_same)
@@ -189,14 +256,21 @@ module _ (first second : Config) (ms other_ms : ℕ) (line other_line : ReaderVi
           (ap (λ (r : PairState). r.a.core.station.timer) noted_same) n.no_timer))))
 
   pub asleep_b : LinkIsAsleep links.b.link → LinkIsDelivered links.b links.a
-      ⊎ InboxIsFull links.b.link
   asleep_b z = by (quiet p.b links.b same.b z)
     where
-      by : IsQuiet p.b ⊎ InboxIsFull links.b.link
-          → LinkIsDelivered links.b links.a ⊎ InboxIsFull links.b.link
-      by (inr e) = inr e
+      by : IsQuiet p.b ⊎ IsHeld links.b.link.station.core.station
+          → LinkIsDelivered links.b links.a
+      by (inr h) =
+          (record {
+            runs = h.0;
+            received =
+                acknowledged_to_a first second ms other_ms line other_line steps f g o honest once
+                h.1;
+            acknowledged =
+                all_acknowledged_b first second ms other_ms line other_line steps f g o honest once
+                h.1;
+          })
       by (inl n) =
-          inl
           (delivered_links p.b p.a links.b links.a same.b same.a
           (delivered_same p.b p.a q.b q.a (ap (λ (r : PairState). r.b) noted_same)
           (ap (λ (r : PairState). r.a) noted_same)

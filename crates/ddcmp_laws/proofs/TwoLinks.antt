@@ -1,5 +1,5 @@
 -- Two links, over honest lines and over streams.
-use Rattle.std.proofs.Common.{◌≡◌, ℕ, ◌+◌, Bool, true, false, cond, List, [], ◌∷◌, ◌++◌, length}
+use Rattle.std.proofs.Common.{length-append, ◌≡◌, ℕ, ◌+◌, Bool, true, false, cond, List, [], ◌∷◌, ◌++◌, length}
 use Rattle.std.proofs.Common.{refl, sym, ◌∙◌, ap, subst, arith, None}
 use Rattle.std.specs.Prelude.{◌&&◌}
 use Rattle.std.proofs.lemmas.List.Sums.{sum_by-append}
@@ -232,6 +232,20 @@ acknowledged_all x y h k s t d told e =
     ∙ ap (λ (c : CoreView). k.taken ++ c.station.inbox) t.core)
     ∙ all_up x y d (told none) ∙ s.given
 
+pub counted_all : (x y : EndState) (h : LinkHistory) → IsSameEnd x h → Delivers x y
+    → IsAcknowledged x → NoneOut h → h.acknowledged ≡ length h.accepted
+counted_all x y h s d told e =
+    let none : length x.core.station.out ≡ 0 =
+    ap (λ (c : CoreView). length c.station.out) s.core ∙ e in
+    let up = y.taken ++ y.core.station.inbox in
+    let most = told none in
+    let least = d.acknowledged in
+    let all : length up + length d.order.0 ≡ length x.given =
+    sym (length-append up d.order.0) ∙ ap length d.order.1 in
+    let count = s.acknowledged in
+    let given : length x.given ≡ length h.accepted = ap length s.given in
+    omega (arith, most, least, all, count, given)
+
 pub none_out : (h : LinkHistory) → delivered h.link ≡ true → NoneOut h
 none_out h e = first_of_three (length h.link.station.core.station.out) _ _ e
 
@@ -300,6 +314,18 @@ module _ (first second : Config) (ms other_ms : ℕ) (line other_line : ReaderVi
   acknowledged_to_a =
       acknowledged_all _ _ _ _ ends.b ends.a
       ((calls_in_order first second calls f g).where_clean honest clean).b_to_a
+      (calls_acknowledged first second calls f g honest clean).1
+
+  pub all_acknowledged_a : NoneOut (after_steps steps links).a
+      → (after_steps steps links).a.acknowledged ≡ length (after_steps steps links).a.accepted
+  all_acknowledged_a =
+      counted_all _ _ _ ends.a ((calls_in_order first second calls f g).where_clean honest clean).a_to_b
+      (calls_acknowledged first second calls f g honest clean).0
+
+  pub all_acknowledged_b : NoneOut (after_steps steps links).b
+      → (after_steps steps links).b.acknowledged ≡ length (after_steps steps links).b.accepted
+  all_acknowledged_b =
+      counted_all _ _ _ ends.b ((calls_in_order first second calls f g).where_clean honest clean).b_to_a
       (calls_acknowledged first second calls f g honest clean).1
 
   pub all_to_b : delivered (after_steps steps links).a.link ≡ true

@@ -2,7 +2,6 @@
 use Rattle.std.specs.Prelude.{◌≡◌, ◌≢◌, ℕ, true, false, List, [], ◌∷◌, ◌++◌, length, map, None}
 use Rattle.ddcmp_frame.specs.Reader.{ReaderView}
 use Rattle.ddcmp_core.specs.declared.state.State.TheVariants.{Halted, Running}
-use Rattle.ddcmp_core.specs.Table.{has_room}
 use Rattle.ddcmp_proto.specs.Config.{first_refusal}
 use Rattle.ddcmp_proto.specs.declared.config.Config.{Config}
 use Rattle.ddcmp_station.specs.Linking.{LinkView, wakes_at, fits, puts_frame}
@@ -60,10 +59,6 @@ pub record LinkIsAsleep (d : LinkView) : Type 0 where
   pub no_moment : wakes_at d ≡ None
   pub room : fits d ≡ true
   pub no_frame : puts_frame d ≡ false
-
--- its inbox is full, since its user hasn't taken the messages
-abbrev pub InboxIsFull : LinkView → Type 0
-InboxIsFull d = has_room d.station.core.limits d.station.core.station ≡ false
 
 -- A link runs, and each message that it accepted is received by the other and acknowledged.
 pub record LinkIsDelivered (giver taker : LinkHistory) : Type 0 where

@@ -1,5 +1,5 @@
 //! Links, and two of them over streams.
-ghost use Rattle.std.specs.Prelude.{◌≡◌, ◌⊎◌, ℕ, List, true};
+ghost use Rattle.std.specs.Prelude.{◌≡◌, ℕ, List, true};
 ghost use Rattle.ddcmp_frame.specs.Reader.{ReaderView};
 ghost use Rattle.ddcmp_station.specs.Linking.{delivered};
 ghost use Rattle.ddcmp_proto.specs.declared.config.Config.{Config as ConfigValue};
@@ -11,7 +11,7 @@ ghost use Rattle.ddcmp_laws.specs.Links.{calls_in_history, offered_in, sent_in, 
 ghost use Rattle.ddcmp_laws.specs.Links.{IsKeptOverStreams, LinkReaches, received};
 ghost use Rattle.ddcmp_laws.specs.LinkLines.{IsKeptOverHonestLines, LinksAreUp, LinkIsAsleep};
 ghost use Rattle.ddcmp_laws.specs.Links.{LinkOverStreams, AreStartedOnce, after_steps};
-ghost use Rattle.ddcmp_laws.specs.LinkLines.{InboxIsFull, LinkIsDelivered, calls_of_steps};
+ghost use Rattle.ddcmp_laws.specs.LinkLines.{LinkIsDelivered, calls_of_steps};
 ghost use Rattle.ddcmp_laws.specs.LinkStory.{small_links, story_steps, HasGotAcross};
 ghost use Rattle.ddcmp_laws.specs.Vectors.{small};
 
@@ -53,14 +53,13 @@ pub fn delivered_over_an_honest_line()
 
 /// Two such links of which neither is halted sleep only if there is nothing left to do: if one has
 /// no moment to wake at, and queues no frame though it has room for one, then it runs, and each
-/// message that it accepted is received by the other and acknowledged; or its inbox is full, and
-/// its user must take the messages. So a caller that waits for its line alone, without a moment,
-/// doesn't miss anything that is due.
+/// message that it accepted is received by the other and acknowledged. So a caller that waits for
+/// its line alone, without a moment, doesn't miss anything that is due.
 pub fn links_sleep_when_done()
     ensures from_a { IsKeptOverHonestLines (λ p. LinksAreUp p → LinkIsAsleep p.a.link
-        → LinkIsDelivered p.a p.b ⊎ InboxIsFull p.a.link) }
+        → LinkIsDelivered p.a p.b) }
     ensures from_b { IsKeptOverHonestLines (λ p. LinksAreUp p → LinkIsAsleep p.b.link
-        → LinkIsDelivered p.b p.a ⊎ InboxIsFull p.b.link) }
+        → LinkIsDelivered p.b p.a) }
 {}
 
 /// Two new links of any sizes in range, each started at most once, over streams: whatever the

@@ -13,14 +13,17 @@ ghost use Rattle.ddcmp_laws.specs.Links.{LinkCall, HasDone};
 ghost use Rattle.ddcmp_laws.specs.LinkRules.{AsksForABuffer, PutsFrame, IsNoWake};
 
 /// A link that has a frame to send, and room for one of any length, queues it. Only a NAK 8 (no
-/// buffer) is held back, while the inbox is full. Without a frame or without room it queues none.
+/// buffer) is held back, while the inbox is full and no message is unacknowledged. Without a frame
+/// or without room it queues none.
 pub fn puts_what_it_has()
     ensures puts { (d : LinkView) (f : Frame) → next_frame (next d.station.core.station) ≡ Some f
         → d.station.syn + (d.station.core.limits.longest + 10) ≤ d.outbox.room
-        → (length d.station.core.station.inbox < d.station.core.limits.room) ⊎ (¬ AsksForABuffer f)
+        → (length d.station.core.station.inbox < d.station.core.limits.room)
+        ⊎ (0 < length d.station.core.station.out) ⊎ (¬ AsksForABuffer f)
         → PutsFrame f d (after_frame d) }
     ensures held { (d : LinkView) (f : Frame) → next_frame (next d.station.core.station) ≡ Some f
-        → d.station.core.limits.room ≤ length d.station.core.station.inbox → AsksForABuffer f
+        → d.station.core.limits.room ≤ length d.station.core.station.inbox
+        → d.station.core.station.out ≡ [] → AsksForABuffer f
         → (puts_frame d ≡ false) × (after_frame d ≡ d) }
     ensures idle { (d : LinkView) → next_frame (next d.station.core.station) ≡ None
         → (puts_frame d ≡ false) × ((after_frame d).outbox.waiting ≡ d.outbox.waiting) }

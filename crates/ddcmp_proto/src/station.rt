@@ -151,6 +151,7 @@ impl Station {
     ghost use Rattle.ddcmp_core.specs.Table.{send_refusal as send_refusal_of, answer_to_send};
     ghost use Rattle.ddcmp_core.specs.Table.{may_send, after_accept, answer_to_send_maintenance};
     ghost use Rattle.ddcmp_core.specs.Table.{may_send_maintenance, after_take, after_expire, is_on};
+    ghost use Rattle.ddcmp_core.specs.Table.{is_ack};
     ghost use Rattle.ddcmp_core.specs.Table.{is_fresh, is_halted, after_take_arm, next, next_frame};
     ghost use Rattle.ddcmp_core.specs.Frames.{header_of};
     ghost use Rattle.ddcmp_core.specs.Counting.{counters_after_expire};
@@ -384,6 +385,13 @@ impl Station {
         ensures { result ≡ is_on self.now.core.station.timer }
     {
         self.core.timer_on()
+    }
+
+    /// Returns whether an ACK is owed, or data that carry it.
+    pub fn owes_ack(&self) -> bool
+        ensures { result ≡ is_ack self.now.core.station.reply }
+    {
+        self.core.owes_ack()
     }
 
     /// Returns the counters.

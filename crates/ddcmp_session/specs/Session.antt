@@ -4,7 +4,7 @@ use Rattle.std.specs.Prelude.{◌==◌}
 use Rattle.std.specs.Prelude.{nat_le}
 use Rattle.std.specs.Prelude.{if◌then◌else◌, List, [], ◌∷◌, length, Some, None, is_some, is_ok}
 use Rattle.std.specs.Prelude.{option_to_list}
-use Rattle.ddcmp_core.specs.Table.{has_room, after_halt, answer_to_start, is_maintenance}
+use Rattle.ddcmp_core.specs.Table.{after_halt, answer_to_start, is_maintenance}
 use Rattle.ddcmp_core.specs.declared.notice.Notice.{Notice}
 use Rattle.ddcmp_input.specs.declared.entry.Entry.{Entry}
 use Rattle.ddcmp_input.specs.declared.entry.Entry.TheVariants.{Message, NotHexadecimal}
@@ -13,7 +13,7 @@ use Rattle.ddcmp_station.specs.Driving.{expires_at}
 use Rattle.ddcmp_station.specs.Linking.{LinkView, link_made, takes_message, after_offered, anew}
 use Rattle.ddcmp_station.specs.Linking.{delivered, puts_frame, carries_message, after_wake}
 use Rattle.ddcmp_station.specs.Linking.{anew_for_maintenance, after_offered_maintenance, state_of}
-use Rattle.ddcmp_station.specs.Linking.{totals_after_feed}
+use Rattle.ddcmp_station.specs.Linking.{owes_ack, totals_after_feed, wants_bytes}
 use Rattle.ddcmp_station.specs.declared.link.Totals.{Totals}
 use Rattle.ddcmp_session.specs.declared.course.Course.{Course}
 use Rattle.ddcmp_streams.specs.declared.messages.MessageForm.{MessageForm}
@@ -24,7 +24,7 @@ use Rattle.ddcmp_io.specs.LineKinds.{is_connection}
 use Rattle.ddcmp_io.specs.declared.line_kind.LineKind.{LineKind}
 use Rattle.ddcmp_streams.specs.declared.options.Options.{Options}
 use Rattle.ddcmp_streams.specs.Options.{report_ms}
-use Rattle.ddcmp_session.specs.declared.text.TheConstants.{LINE_ROOM, LOST_ROOM}
+use Rattle.ddcmp_session.specs.declared.text.TheConstants.{LINE_ROOM, LOST_ROOM, NOTICES_ROOM}
 use Rattle.ddcmp_session.specs.Course.{course_begun, after_connecting, after_moment, after_pause}
 use Rattle.ddcmp_session.specs.Course.{after_entering, lost_more}
 use Rattle.ddcmp_session.specs.Course.{try_counted, after_looked, after_notices}
@@ -64,7 +64,7 @@ session_made options kind line = record {
   messages = messages_begun options.form options.config.max;
   is_read = false;
   was_refused = false;
-  output = no_bytes (OUTPUT_ROOM + 2 * (2 * options.config.max + LINE_ROOM));
+  output = no_bytes (OUTPUT_ROOM + NOTICES_ROOM + 2 * (2 * options.config.max + LINE_ROOM));
 }
 
 -- ---- data messages, numbered and acknowledged, or maintenance messages, neither
@@ -140,20 +140,21 @@ after_input_end s = if takes_end s then after_unfinished (after_last_line s) els
 
 -- ---- the line
 
--- there is a line, and there is room for a received message, a notice and the lines with it
+-- there is a line that is to be read, and room for a notice and the lines with it
 abbrev pub wants_line : SessionView → Bool
 wants_line s =
     s.has_line
-    && has_room s.link.station.core.limits s.link.station.core.station
+    && wants_bytes s.link.station.core.limits s.link.station.core.station
     && nat_le LINE_ROOM s.output.room
 
--- the room that a message of any length needs
+-- the room in which a message of any length is delivered; what it leaves is for notices
 abbrev pub room_for_mail : SessionView → ℕ
-room_for_mail s = 2 * s.link.station.core.limits.longest + LINE_ROOM
+room_for_mail s = 2 * s.link.station.core.limits.longest + LINE_ROOM + NOTICES_ROOM
 
--- the next frame carries a message, and messages are held back since the peer refuses them
+-- The next frame carries a message, and messages are held back since the peer refuses them. One
+-- that carries an ACK isn't, since no ACK goes before it.
 abbrev pub is_paused : SessionView → Bool
-is_paused s = is_some s.course.pause && carries_message s.link
+is_paused s = is_some s.course.pause && carries_message s.link && not (owes_ack s.link)
 
 -- bytes are queued for the line, or there is no frame to send, or only one that is held back
 abbrev pub IsFilled : SessionView → Type 0

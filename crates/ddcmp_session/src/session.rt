@@ -127,7 +127,7 @@ fn trace_of(alloc: Global, options: &Options) -> Result<Option<Trace>, ConfigRef
     match Trace::new(
         alloc,
         options.config.max,
-        text::mail_room(options.config.max),
+        text::text_room(options.config.max),
     ) {
         Ok(trace) => Ok(Some(trace)),
         Err(_refused) => Err(ConfigRefusal::Memory),
@@ -173,7 +173,8 @@ impl Session {
         let Ok(messages) = Messages::new(alloc, options.form, max) else {
             return Err(ConfigRefusal::Memory);
         };
-        let Ok(output) = ByteQueue::new(alloc, OUTPUT_ROOM + 2 * text::mail_room(max)) else {
+        let room = OUTPUT_ROOM + text::NOTICES_ROOM + 2 * text::text_room(max);
+        let Ok(output) = ByteQueue::new(alloc, room) else {
             return Err(ConfigRefusal::Memory);
         };
         let Ok(errors) = Errors::new(alloc, errors_room) else {

@@ -28,14 +28,25 @@ pub(crate) const LOST_ROOM: usize = 16;
 /// ends then.
 pub(crate) const LINE_ROOM: usize = NOTICE_ROOM + 2 * LOST_ROOM;
 
+/// The room that received messages leave for the notices of what is received after them.
+pub(crate) const NOTICES_ROOM: usize = 65536;
+
 /// The room for the last lines, with all counters.
 pub(crate) const END_ROOM: usize = 4096;
 
 /// Returns the room that the text of a message of at most `max` bytes needs.
-pub(crate) fn mail_room(max: u16) -> usize
+pub(crate) fn text_room(max: u16) -> usize
     ensures { result ≡ 2 * max + LINE_ROOM }
 {
     2 * max as usize + LINE_ROOM
+}
+
+/// Returns the room in which a message of at most `max` bytes is delivered: that of its text, and
+/// what it leaves for notices.
+pub(crate) fn mail_room(max: u16) -> usize
+    ensures { result ≡ 2 * max + LINE_ROOM + NOTICES_ROOM }
+{
+    text_room(max) + NOTICES_ROOM
 }
 
 /// Appends bytes for which there is room.

@@ -12,7 +12,8 @@ use Rattle.ddcmp_frame.specs.Reader.{ReaderView, open_of}
 use Rattle.ddcmp_window.specs.declared.sender.SendRefusal.{SendRefusal}
 use Rattle.ddcmp_window.specs.Sender.{answer_unless}
 use Rattle.ddcmp_core.specs.declared.notice.Notice.{Notice}
-use Rattle.ddcmp_core.specs.Table.{Frame, Limits, StationState, is_running, is_on, has_room}
+use Rattle.ddcmp_core.specs.Table.{Frame, Limits, StationState, is_ack, is_running, is_on}
+use Rattle.ddcmp_core.specs.Table.{has_room}
 use Rattle.ddcmp_core.specs.Table.{may_start, after_start, send_refusal, may_send, after_accept}
 use Rattle.ddcmp_core.specs.Table.{after_take, next, next_frame, acknowledged_by}
 use Rattle.ddcmp_core.specs.Table.{after_enter_maintenance, send_maintenance_refusal}
@@ -153,11 +154,16 @@ abbrev pub is_nak_for_buffer : Header → Bool
 is_nak_for_buffer (header.Control h) = is_nak h.kind && (h.sub == NO_BUFFER_REASON)
 is_nak_for_buffer _ = false
 
--- A NAK 8 (no buffer) isn't sent before there is a buffer: while the inbox is full it is held back,
--- and so are the frames after it.
+-- The line is to be read while there is room for a received message, and while messages aren't
+-- acknowledged: a user who takes no message before its own are acknowledged would wait for ever.
+abbrev pub wants_bytes : Limits → StationState → Bool
+wants_bytes l s = has_room l s || not (length s.out == 0)
+
+-- A NAK 8 (no buffer) isn't sent before there is a buffer: while the line isn't to be read it is
+-- held back, and so are the frames after it.
 abbrev pub is_held_back : Option Frame → Limits → StationState → Bool
 is_held_back None l s = false
-is_held_back (Some f) l s = is_nak_for_buffer (header_of f) && not (has_room l s)
+is_held_back (Some f) l s = is_nak_for_buffer (header_of f) && not (wants_bytes l s)
 
 abbrev pub holds_back : LinkView → Bool
 holds_back d = is_held_back (frame_of_link d) d.station.core.limits d.station.core.station
@@ -173,6 +179,10 @@ is_message (Some f) = is_data (header_of f)
 
 abbrev pub carries_message : LinkView → Bool
 carries_message d = is_message (frame_of_link d)
+
+-- whether an ACK is owed, or a message that carries it
+abbrev pub owes_ack : LinkView → Bool
+owes_ack d = is_ack d.station.core.station.reply
 
 -- whether the next frame is a reply to a good one of the peer: an ACK, or a NAK that replies to a
 -- REP

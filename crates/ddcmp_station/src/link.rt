@@ -75,7 +75,7 @@ impl Link {
     ghost use Rattle.std.specs.Prelude.{option_map, option_to_list};
     ghost use Rattle.ddcmp_frame.specs.Reader.{StandsFor};
     ghost use Rattle.ddcmp_window.specs.Store.{first_message, with_front};
-    ghost use Rattle.ddcmp_core.specs.Table.{after_halt, answer_to_start, has_room};
+    ghost use Rattle.ddcmp_core.specs.Table.{after_halt, answer_to_start};
     ghost use Rattle.ddcmp_proto.specs.Bytes.{after_piece, notices_of_piece};
     ghost use Rattle.ddcmp_proto.specs.Config.{first_refusal, config_of};
     ghost use Rattle.ddcmp_station.specs.Linking.{link_made, with_state, started, anew, after_wake};
@@ -84,6 +84,7 @@ impl Link {
     ghost use Rattle.ddcmp_station.specs.Linking.{after_frames, after_sent, countable};
     ghost use Rattle.ddcmp_station.specs.Linking.{totals_after_feed, after_taking, delivered};
     ghost use Rattle.ddcmp_station.specs.Linking.{holds_back, carries_message, is_needed};
+    ghost use Rattle.ddcmp_station.specs.Linking.{owes_ack, wants_bytes};
     ghost use Rattle.ddcmp_station.specs.Linking.{anew_for_maintenance, no_bytes, total_plus};
     ghost use Rattle.ddcmp_station.specs.Linking.{after_offered_maintenance};
     ghost use Rattle.ddcmp_station.specs.Linking.{answer_to_offered_maintenance};
@@ -249,7 +250,7 @@ impl Link {
     }
 
     /// Queues the next frame after the bytes pending for the line; returns whether there was one
-    /// and room for it. A NAK 8 (no buffer) isn't queued while the inbox is full.
+    /// and room for it. A NAK 8 (no buffer) isn't queued while the line isn't to be read.
     pub fn fill_one(&mut self) -> bool
         ensures state { self.new ≡ after_frame self.old }
         ensures answer { result ≡ puts_frame self.old }
@@ -269,11 +270,11 @@ impl Link {
         while self.fill_one() {}
     }
 
-    /// Returns whether the next frame is a NAK 8 (no buffer), and there is still no buffer.
+    /// Returns whether the next frame is a NAK 8 (no buffer), and the line isn't to be read yet.
     fn holds_back(&self) -> bool
         ensures { result ≡ holds_back self.now }
     {
-        // If there is room in the inbox, which is the usual case, `poll` alone decides.
+        // If the line is to be read, which is the usual case, `poll` alone decides.
         if self.wants_line() {
             return false;
         }
@@ -288,6 +289,13 @@ impl Link {
         ensures { result ≡ carries_message self.now }
     {
         matches!(self.station.next_header(), Some(Header::Data(_)))
+    }
+
+    /// Returns whether an ACK is owed to the peer, or a message that carries it.
+    pub fn owes_ack(&self) -> bool
+        ensures { result ≡ owes_ack self.now }
+    {
+        self.station.owes_ack()
     }
 
     /// Returns whether the peer isn't done: an ACK for it is pending, or a NAK in reply to a REP,
@@ -320,11 +328,12 @@ impl Link {
         self.totals.written = self.totals.written.saturating_add(n as u64);
     }
 
-    /// Returns whether the line is to be read: the inbox isn't full.
+    /// Returns whether the line is to be read: the inbox isn't full, or accepted messages aren't
+    /// acknowledged. Received messages that find no room are refused, and retransmitted later.
     pub fn wants_line(&self) -> bool
-        ensures { result ≡ has_room self.now.station.core.limits self.now.station.core.station }
+        ensures { result ≡ wants_bytes self.now.station.core.limits self.now.station.core.station }
     {
-        (self.station.waiting() as u16) < self.station.config().inbox
+        (self.station.waiting() as u16) < self.station.config().inbox || self.lost() > 0
     }
 
     /// Handles received bytes, up to the first that yields a notice. With that notice the inbox may

@@ -139,8 +139,8 @@ impl Session {
         }
     }
 
-    /// Returns whether bytes of the line are wanted: there is a line, and room for a received
-    /// message and its notice.
+    /// Returns whether bytes of the line are wanted: there is a line that is to be read, and room
+    /// for a notice.
     pub fn wants_line(&self) -> bool
         ensures { result ≡ wants_line self.now.state }
     {
@@ -273,7 +273,10 @@ impl Session {
         ensures none { result ≡ false → (puts_frame self.new.state.link ≡ false)
             ⊎ (is_paused self.new.state ≡ true) }
     {
-        if self.course.pause.is_some() && self.link.sends_message() {
+        let is_paused = self.course.pause.is_some()
+            && self.link.sends_message()
+            && !self.link.owes_ack();
+        if is_paused {
             return false;
         }
         self.link.fill_one()
