@@ -9,8 +9,10 @@ import socket
 import struct
 import subprocess
 import tempfile
+import termios
 import threading
 import time
+import tty
 
 from links.kit import LONG, PROGRAM, TOP, Link, checked, drawn, exchange, explained, free_port, messages_of, server
 from links.kit import terminals, wants, wrong
@@ -560,6 +562,32 @@ def the_example_of_saving():
         wrong(f"the example: acknowledgements {acks}: {said}")
 
 
+def device_without_waiting():
+    """A device that is set to return at once, and has nothing, hasn't ended; one that is hung up has."""
+    ours, theirs = os.openpty()
+    name = os.ttyname(theirs)
+    tty.setraw(theirs)
+    settings = termios.tcgetattr(theirs)
+    settings[6][termios.VMIN] = settings[6][termios.VTIME] = 0
+    termios.tcsetattr(theirs, termios.TCSANOW, settings)
+    with socket.socket(socket.AF_INET, socket.SOCK_DGRAM) as peer:
+        peer.bind(("127.0.0.1", 0))
+        peer.settimeout(5)
+        near, far = free_port(socket.SOCK_DGRAM), peer.getsockname()[1]
+        bridge = Bridge(f"device:{name}", f"udp:127.0.0.1:{near},127.0.0.1:{far}")
+        time.sleep(1)
+        if not bridge.is_running() or bridge.processor_time() > 0.3:
+            wrong(f"{bridge.errors()} {bridge.lines()}")
+        os.write(ours, control(1))
+        if bridge.is_running() and peer.recv(100) != control(1):
+            wrong("another frame came")
+        os.close(theirs)
+        os.close(ours)
+        wants("hung up", bridge, 0, seconds=5)
+        if "first line down: closed by the other end" not in bridge.errors():
+            wrong(f"{bridge.errors()}")
+
+
 def ends_of_a_bridge():
     """A line that can't be opened, words that are none, a limit of time, and a line that fails."""
     port = free_port()
@@ -588,5 +616,6 @@ def ends_of_a_bridge():
 TRIALS = [
     over_faults, the_example, the_example_of_saving, bridged_slowly, bridged_rest, bridged_junk, device_to_udp, faults_by_a_seed,
     bridged_last, udp_to_tcp, tcp_to_tcp, bridged_datagrams, delayed, saved, traced, ends_of_a_bridge,
+    device_without_waiting,
 ]
 LONG_TRIALS = []

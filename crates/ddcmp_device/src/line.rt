@@ -1,5 +1,5 @@
 //! A line: a socket or a device, read and written without blocking.
-ghost use Rattle.std.specs.Prelude.{◌≡◌, ◌≢◌, ℕ, IfErr, IfOk, MatchResult, Ok};
+ghost use Rattle.std.specs.Prelude.{◌≡◌, ◌≢◌, ℕ, IfErr, IfOk, MatchResult, Ok, false, true};
 ghost use Rattle.std.specs.IoError.{error_kind};
 ghost use Rattle.ddcmp_device.specs.Inside.Lines.{has_datagrams, moved_by_error};
 ghost use Rattle.ddcmp_device.specs.Inside.Lines.{received_by_error, sent_by_error};
@@ -9,7 +9,7 @@ use ddcmp_io::{Down, Transfer};
 use ddcmp_station::Clock;
 use mio::net::{TcpStream, UdpSocket};
 use std::fs::File;
-use std::io::{self, ErrorKind, Read, Write};
+use std::io::{self, ErrorKind, IsTerminal, Read, Write};
 use std::net::{self, Shutdown, SocketAddr};
 use std::os::fd::{AsRawFd, RawFd};
 use std::time::Duration;
@@ -104,6 +104,21 @@ fn read_by(answer: io::Result<usize>) -> Transfer
     }
 }
 
+/// Converts the result of reading a device. One whose line is up may return nothing, if it is set
+/// to return at once.
+fn device_read_by(answer: io::Result<usize>, is_up: bool) -> Transfer
+    ensures idle { is_up ≡ true → answer ≡ Ok 0 → result ≡ Transfer.Nothing }
+    ensures end { is_up ≡ false → answer ≡ Ok 0 → result ≡ Transfer.Ended Down.Closed }
+    ensures bytes { IfOk answer (λ n. n ≢ 0 → result ≡ Transfer.Bytes n) }
+    ensures error { IfErr answer (λ error. result ≡ moved_by_error (error_kind error)) }
+{
+    match moved_by(answer) {
+        Transfer::Bytes(0) if is_up => Transfer::Nothing,
+        Transfer::Bytes(0) => Transfer::Ended(Down::Closed),
+        got => got,
+    }
+}
+
 /// Reads and drops what a peer still sends, until it closes the connection too, sends nothing for a
 /// while, or its time is over.
 fn drain<C: Clock>(mut stream: net::TcpStream, clock: &mut C) {
@@ -153,7 +168,11 @@ impl Line {
         match self {
             Line::Stream(stream) => read_by(stream.read(space)),
             Line::Datagrams(socket, remote) => received_by(socket.recv_from(space), *remote),
-            Line::Device(file) => read_by(file.read(space)),
+            Line::Device(file) => {
+                let answer = file.read(space);
+                // A terminal that was hung up is none any more.
+                device_read_by(answer, file.is_terminal())
+            }
         }
     }
 
