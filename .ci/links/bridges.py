@@ -599,12 +599,13 @@ def ends_of_a_bridge():
     it = server()
     bridge = Bridge("listen:127.0.0.1:0", f"connect:127.0.0.1:{it.getsockname()[1]}")
     one = socket.create_connection(("127.0.0.1", bridge.ports(1)[0]))
+    one.sendall(b"\x96")
     two = it.accept()[0]
     bridge.waits(lambda it: it.told.count(b"connected ") == 2, 10)
     two.setsockopt(socket.SOL_SOCKET, socket.SO_LINGER, b"\1\0\0\0\0\0\0\0")
     two.close()
     wants("reset", bridge, 3, "ddcmp: ended")
-    if "second line down: connection reset" not in bridge.errors() or bridge.counts() != (NOTHING, NOTHING):
+    if "second line down: connection reset" not in bridge.errors() or bridge.counts() != ((0, 1, 0, 0, 0), NOTHING):
         wrong(f"{bridge.errors()} {bridge.lines()}")
     one.close()
     output = subprocess.Popen(["true"], stdin=subprocess.PIPE)

@@ -4,21 +4,19 @@ ghost use Rattle.std.specs.Prelude.{◌≡◌, ◌*◌};
 use crate::bridge_intake::Intake;
 use crate::bridge_line::BridgeLines;
 use crate::bridge_live::LiveLines;
+use crate::bridge_opening::{Opening, no_poller};
 use crate::bridge_save::{Save, remove};
 use crate::bridge_trace::BridgeTrace;
 use crate::fault::{Attempt, Cause, OpenFault};
-use crate::line::Line;
 use crate::line_name::LineName;
-use crate::opener::{OpenRefusal, Opened, Opener};
-use crate::poller::Poller;
 use crate::system::System;
 use ddcmp_bridge::{Bridge, BridgeStop, Counts, Faults, LinePair};
-use ddcmp_io::{Down, End, Wanted};
+use ddcmp_io::{Down, End};
 use ddcmp_station::{Clock, Elapsed};
 use ddcmp_tap::{LogNotation, NoMemory, Side};
 use std::alloc::Global;
 use std::fs::{File, Files};
-use std::io::{Eprint, ErrorKind};
+use std::io::Eprint;
 use std::net::{self, Net};
 use std::time;
 
@@ -105,96 +103,6 @@ fn save_in<'a, S: Files<File = File>>(
             name,
             cause,
         })),
-    }
-}
-
-/// Returns the fault of a bridge that can't wait for several lines.
-fn no_poller<'a>(kind: ErrorKind) -> BridgeFault<'a> {
-    match kind {
-        ErrorKind::OutOfMemory => BridgeFault::Memory,
-        kind => BridgeFault::Open(OpenFault {
-            attempt: Attempt::Open,
-            name: "epoll",
-            cause: Cause::System(kind),
-        }),
-    }
-}
-
-/// Prints the state of an opening, if that is reported.
-fn report<E: Eprint>(system: &E, opened: &Opened) {
-    if let Some(event) = opened.event() {
-        let _ = eprintln!(system; "{event}");
-    }
-}
-
-/// A line that is being opened.
-struct Opening<'a> {
-    opener: Opener<'a>,
-    poller: Poller,
-}
-
-// Manual, since a derived `Drop` would be expanded wherever a value is dropped.
-impl Drop for Opening<'_> {
-    fn drop(self) {
-        let Opening {
-            opener: _opener,
-            poller: _poller,
-        } = self;
-    }
-}
-
-impl<'a> Opening<'a> {
-    fn new<N: Net>(
-        net: &N,
-        alloc: Global,
-        name: LineName<'a>,
-    ) -> Result<Opening<'a>, BridgeFault<'a>> {
-        match Poller::new(net, alloc) {
-            Ok(poller) => Ok(Opening {
-                opener: Opener::new(name),
-                poller,
-            }),
-            Err(error) => Err(no_poller(error.kind())),
-        }
-    }
-
-    fn fault(&self, refused: OpenRefusal) -> BridgeFault<'a> {
-        BridgeFault::Open(self.opener.fault(refused))
-    }
-
-    /// Listens, if the line is one for callers, and prints the address.
-    fn listen<S: System>(&mut self, system: &S) -> Result<(), BridgeFault<'a>> {
-        match self.opener.listen(system, &mut self.poller) {
-            Ok(opened) => {
-                report(system, &opened);
-                Ok(())
-            }
-            Err(refused) => Err(self.fault(refused)),
-        }
-    }
-
-    /// Opens the line; returns none if the time was over first.
-    fn open<S: System, C: Clock>(
-        &mut self,
-        system: &S,
-        clock: &mut C,
-        ends_at: u64,
-    ) -> Result<Option<Line>, BridgeFault<'a>> {
-        for _try in 0..u64::MAX {
-            let opened = match self.opener.open(system, &mut self.poller) {
-                Ok(opened) => opened,
-                Err(refused) => return Err(self.fault(refused)),
-            };
-            report(system, &opened);
-            if let Some(line) = opened.into_line() {
-                return Ok(Some(line));
-            }
-            let left = ends_at.saturating_sub(clock.now());
-            if left == 0 || !self.poller.wait(Wanted::NOTHING, left) {
-                break;
-            }
-        }
-        Ok(None)
     }
 }
 

@@ -6,6 +6,7 @@ mod bridge;
 mod bridge_intake;
 mod bridge_line;
 mod bridge_live;
+mod bridge_opening;
 mod bridge_save;
 mod bridge_trace;
 mod datagram;

@@ -1,7 +1,7 @@
 //! A line: a socket or a device, read and written without blocking.
 ghost use Rattle.std.specs.Prelude.{◌≡◌, ◌≢◌, ℕ, IfErr, IfOk, MatchResult, Ok, false, true};
 ghost use Rattle.std.specs.IoError.{error_kind};
-ghost use Rattle.ddcmp_device.specs.Inside.Lines.{has_datagrams, moved_by_error};
+ghost use Rattle.ddcmp_device.specs.Inside.Lines.{has_datagrams, heard_by_error, moved_by_error};
 ghost use Rattle.ddcmp_device.specs.Inside.Lines.{received_by_error, sent_by_error};
 ghost use Rattle.ddcmp_io.specs.declared.transfer.Down.{Down as DownValue};
 
@@ -119,6 +119,30 @@ fn device_read_by(answer: io::Result<usize>, is_up: bool) -> Transfer
     }
 }
 
+/// What is known of a caller before its bytes are read.
+#[derive(Clone, Copy)]
+pub(crate) enum Heard {
+    /// It has sent something.
+    Bytes,
+    /// It has sent nothing yet.
+    Nothing,
+    /// It has sent nothing, and its connection is closed or failed.
+    Gone,
+}
+
+/// Converts the result of looking at a connection's first byte, which stays unread.
+fn heard_by(answer: io::Result<usize>) -> Heard
+    ensures gone { answer ≡ Ok 0 → result ≡ Heard.Gone }
+    ensures bytes { IfOk answer (λ n. n ≢ 0 → result ≡ Heard.Bytes) }
+    ensures error { IfErr answer (λ error. result ≡ heard_by_error (error_kind error)) }
+{
+    match moved_by(answer) {
+        Transfer::Bytes(0) | Transfer::Ended(_) => Heard::Gone,
+        Transfer::Bytes(_) => Heard::Bytes,
+        Transfer::Nothing | Transfer::Interrupted => Heard::Nothing,
+    }
+}
+
 /// Reads and drops what a peer still sends, until it closes the connection too, sends nothing for a
 /// while, or its time is over.
 fn drain<C: Clock>(mut stream: net::TcpStream, clock: &mut C) {
@@ -184,6 +208,15 @@ impl Line {
                 sent_by(socket.send_to(bytes, *remote), bytes.len())
             }
             Line::Device(file) => moved_by(file.write(bytes)),
+        }
+    }
+
+    /// Returns whether its peer has sent anything, without reading it. Only a connection is looked
+    /// at.
+    pub(crate) fn heard(&self) -> Heard {
+        match self {
+            Line::Stream(stream) => heard_by(stream.peek(&mut [0])),
+            Line::Datagrams(_, _) | Line::Device(_) => Heard::Bytes,
         }
     }
 

@@ -165,6 +165,13 @@ impl<'a> Opener<'a> {
         }
     }
 
+    /// Ends the listening, so that the port refuses callers, until `open` is called again.
+    pub fn refuse_callers(&mut self)
+        ensures { self.new ≡ record self.old { listener = None } }
+    {
+        self.listener = None;
+    }
+
     /// Connects to the addresses of a name, one after the other, without blocking.
     fn connect<N: Net>(
         &mut self,

@@ -2,6 +2,8 @@
 use Rattle.std.specs.Prelude.{ℕ, Bool, true, false}
 use Rattle.std.specs.declared.io.ErrorKind.{ErrorKind}
 use Rattle.std.specs.declared.io.ErrorKind.TheVariants as kind
+use Rattle.ddcmp_device.specs.declared.line.Heard.{Heard}
+use Rattle.ddcmp_device.specs.declared.line.Heard.TheVariants as heard
 use Rattle.ddcmp_device.specs.declared.line.Line.{Line}
 use Rattle.ddcmp_device.specs.declared.line.Line.TheVariants.{Stream, Datagrams, Device}
 use Rattle.ddcmp_io.specs.declared.transfer.Down.TheVariants.{Failed}
@@ -33,3 +35,9 @@ abbrev pub sent_by_error : ℕ → ErrorKind → Transfer
 sent_by_error length kind.WouldBlock = Nothing
 sent_by_error length kind.Interrupted = Interrupted
 sent_by_error length _ = Bytes length
+
+-- A caller that may still send is up; after another error it is gone.
+abbrev pub heard_by_error : ErrorKind → Heard
+heard_by_error kind.WouldBlock = heard.Nothing
+heard_by_error kind.Interrupted = heard.Nothing
+heard_by_error _ = heard.Gone
