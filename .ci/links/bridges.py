@@ -14,8 +14,8 @@ import threading
 import time
 import tty
 
-from links.kit import LONG, PROGRAM, TOP, Link, checked, drawn, exchange, explained, free_port, messages_of, server
-from links.kit import terminals, wants, wrong
+from links.kit import LONG, PROGRAM, TOP, Link, checked, drawn, exchange, explained, free_port, left_out
+from links.kit import messages_of, server, terminals, wants, wrong
 from links.peer import control, data
 
 START = {0x05: 0, 0x81: 1, 0x90: 1}
@@ -588,6 +588,37 @@ def device_without_waiting():
             wrong(f"{bridge.errors()}")
 
 
+def unread_trace():
+    """A trace that isn't read blocks nothing: all frames pass, the time ends the bridge, and lines without room are
+    counted."""
+    first, second = server(), server()
+    reading, writing = os.pipe()
+    lines = [f"connect:127.0.0.1:{it.getsockname()[1]}" for it in (first, second)]
+    bridge = Bridge(*lines, "--trace", "--seconds", "10", stderr=writing)
+    os.close(writing)
+    one, two = first.accept()[0], second.accept()[0]
+    frames = b"".join(data(drawn.randbytes(1000), it % 256) for it in range(300))
+    threading.Thread(target=one.sendall, args=(frames,), daemon=True).start()
+    two.settimeout(10)
+    got = b""
+    with contextlib.suppress(TimeoutError):
+        while len(got) < len(frames) and (piece := two.recv(1 << 20)):
+            got += piece
+    if got != frames:
+        wrong(f"{len(got)} of {len(frames)} bytes came")
+    told = b"".join(iter(lambda: os.read(reading, 1 << 16), b""))
+    status = bridge.ended(5)
+    if status != 0 or not 9 < bridge.took < 12.5:
+        wrong(f"status {status} after {bridge.took} s")
+    counted, notes = left_out(told.decode().split("\n"))
+    shown = told.count(b" DATA ")
+    if not notes or counted + shown != 300:
+        wrong(f"{counted} left out and {shown} shown: {told[-200:]}")
+    os.close(reading)
+    for it in (one, two, first, second):
+        it.close()
+
+
 def ends_of_a_bridge():
     """A line that can't be opened, words that are none, a limit of time, and a line that fails."""
     port = free_port()
@@ -617,6 +648,6 @@ def ends_of_a_bridge():
 TRIALS = [
     over_faults, the_example, the_example_of_saving, bridged_slowly, bridged_rest, bridged_junk, device_to_udp, faults_by_a_seed,
     bridged_last, udp_to_tcp, tcp_to_tcp, bridged_datagrams, delayed, saved, traced, ends_of_a_bridge,
-    device_without_waiting,
+    device_without_waiting, unread_trace,
 ]
 LONG_TRIALS = []

@@ -1,6 +1,7 @@
 //! A bridge over two lines, from their opening to its end.
 ghost use Rattle.std.specs.Prelude.{◌≡◌, ◌*◌};
 
+use crate::bridge_errors::BridgeErrors;
 use crate::bridge_intake::Intake;
 use crate::bridge_line::BridgeLines;
 use crate::bridge_live::LiveLines;
@@ -18,7 +19,7 @@ use std::alloc::Global;
 use std::fs::{File, Files};
 use std::io::Eprint;
 use std::net::{self, Net};
-use std::time;
+use std::{fmt, time};
 
 /// The counters of a bridge, and how it ended.
 #[derive(Clone, Copy)]
@@ -77,7 +78,7 @@ where
             return Err(fault);
         }
     };
-    let ended = match Ways::new(alloc, &options, save_first, save_second) {
+    let ended = match Ways::new(system, alloc, &options, save_first, save_second) {
         Some(ways) => ways.bridge(system, alloc, first, second, &options),
         None => Err(BridgeFault::Memory),
     };
@@ -112,6 +113,7 @@ struct Ways {
     bridge: Bridge,
     there: Intake,
     back: Intake,
+    errors: BridgeErrors,
 }
 
 /// Makes the log of a side's bytes, if one is requested.
@@ -128,7 +130,8 @@ fn trace_of(
 
 impl Ways {
     /// Allocates all memory that both directions will need; returns none if an allocation failed.
-    fn new(
+    fn new<F: Files<File = File>>(
+        files: &F,
         alloc: Global,
         options: &BridgeOptions<'_>,
         save_first: Option<Save>,
@@ -140,6 +143,7 @@ impl Ways {
             bridge: Bridge::new(alloc, options.faults, options.delay_ms)?,
             there: Intake::new(alloc, there, save_first)?,
             back: Intake::new(alloc, back, save_second)?,
+            errors: BridgeErrors::new(files, alloc)?,
         })
     }
 
@@ -182,6 +186,7 @@ impl Ways {
             mut bridge,
             there,
             back,
+            errors,
         } = self;
         let mut lines = LiveLines {
             system,
@@ -190,14 +195,18 @@ impl Ways {
             sides,
             there,
             back,
+            errors,
         };
         let ended = bridge.run(&mut lines, ends_at(options));
         let first = lines.sides.first.down;
         let second = lines.sides.second.down;
-        report_down(system, "first", first);
-        report_down(system, "second", second);
-        report_unsaved(system, options.save_first, lines.there.unsaved());
-        report_unsaved(system, options.save_second, lines.back.unsaved());
+        let first_unsaved = lines.there.unsaved();
+        let second_unsaved = lines.back.unsaved();
+        report_down(&mut lines.errors, "first", first);
+        report_down(&mut lines.errors, "second", second);
+        report_unsaved(&mut lines.errors, options.save_first, first_unsaved);
+        report_unsaved(&mut lines.errors, options.save_second, second_unsaved);
+        lines.print_rest();
         let was_stopped = ended == BridgeStop::Stopped || lines.is_stopped();
         let has_failed = has_failed(first) || has_failed(second) || was_stopped;
         lines.sides.close(&mut lines.clock);
@@ -225,7 +234,7 @@ fn has_failed(down: Option<Down>) -> bool {
 }
 
 /// Prints that a file couldn't be written, if that failed.
-fn report_unsaved<E: Eprint>(system: &E, name: Option<&str>, failed: Option<Cause>) {
+fn report_unsaved(errors: &mut BridgeErrors, name: Option<&str>, failed: Option<Cause>) {
     let (Some(name), Some(cause)) = (name, failed) else {
         return;
     };
@@ -234,12 +243,26 @@ fn report_unsaved<E: Eprint>(system: &E, name: Option<&str>, failed: Option<Caus
         name,
         cause,
     };
-    let _ = eprintln!(system; "{fault}");
+    errors.report(fault);
 }
 
 /// Prints that a line is down, if it is.
-fn report_down<E: Eprint>(system: &E, which: &str, down: Option<Down>) {
+fn report_down(errors: &mut BridgeErrors, which: &'static str, down: Option<Down>) {
     if let Some(why) = down {
-        let _ = eprintln!(system; "{which} line down: {why}");
+        errors.report(LineDown { which, why });
+    }
+}
+
+/// The line that reports that a line is down.
+#[derive(Drop)]
+struct LineDown {
+    which: &'static str,
+    why: Down,
+}
+
+impl fmt::Display for LineDown {
+    fn fmt<W: fmt::Write>(&self, f: &mut fmt::Formatter<W>) -> fmt::Result {
+        let LineDown { which, why } = self;
+        write!(f, "{which} line down: {why}")
     }
 }

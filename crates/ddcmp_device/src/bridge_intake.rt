@@ -1,13 +1,13 @@
 //! What is done with the bytes received over a line of a bridge, apart from passing them on.
 ghost use Rattle.std.specs.Prelude.{◌≡◌, ◌≤◌, ◌+◌, ◌-◌, ◌^◌, false, length, min};
 
+use crate::bridge_errors::BridgeErrors;
 use crate::bridge_save::Save;
 use crate::bridge_trace::BridgeTrace;
 use crate::datagram::Framing;
 use crate::fault::Cause;
 use ddcmp_bridge::{Counts, Fate};
 use std::alloc::Global;
-use std::io::Eprint;
 
 /// Saves the bytes received over a line, drops an incomplete frame at the end of a datagram, and
 /// logs the frames.
@@ -66,15 +66,15 @@ impl Intake {
     }
 
     /// Logs bytes that were taken, and the fate of the frame that they completed.
-    pub(crate) fn log<E: Eprint>(
+    pub(crate) fn log(
         &mut self,
-        system: &E,
+        errors: &mut BridgeErrors,
         now: u64,
         bytes: &[u8],
         fate: Option<Fate>,
     ) {
         if let Some(trace) = &mut self.trace {
-            trace.log(system, now, bytes, fate);
+            trace.log(errors, now, bytes, fate);
         }
     }
 

@@ -1,4 +1,4 @@
-//! The two lines of a bridge, and waiting for both.
+//! The two lines of a bridge, and waiting for both and for standard error.
 ghost use Rattle.std.specs.Prelude.{◌≡◌, ◌≤◌, ◌&&◌, is_none, length};
 ghost use Rattle.ddcmp_bridge.specs.Joining.{count_of};
 ghost use Rattle.ddcmp_device.specs.Inside.Lines.{has_datagrams};
@@ -17,6 +17,8 @@ use std::time::Duration;
 const FIRST: Token = Token(0);
 
 const SECOND: Token = Token(1);
+
+const ERRORS: Token = Token(2);
 
 /// The longest single wait, in milliseconds.
 const HOUR_MS: u64 = 3_600_000;
@@ -122,10 +124,11 @@ impl BridgeLine {
     }
 }
 
-/// Both lines.
+/// Both lines, and standard error.
 pub(crate) struct BridgeLines {
     poll: Poll,
     events: Events,
+    pub(crate) errors: Descriptor,
     pub(crate) first: BridgeLine,
     pub(crate) second: BridgeLine,
 }
@@ -136,6 +139,7 @@ impl Drop for BridgeLines {
         let BridgeLines {
             poll: _poll,
             events: _events,
+            errors: _,
             first: _first,
             second: _second,
         } = self;
@@ -163,12 +167,14 @@ impl BridgeLines {
         second: Line,
     ) -> io::Result<BridgeLines> {
         let poll = Poll::new(net)?;
-        let events = Events::with_capacity(alloc, 2)?;
+        let events = Events::with_capacity(alloc, 3)?;
+        let errors = Descriptor::new(&poll, 2, ERRORS, Interest::WRITABLE);
         let first = side_of(&poll, first, FIRST);
         let second = side_of(&poll, second, SECOND);
         Ok(BridgeLines {
             poll,
             events,
+            errors,
             first,
             second,
         })
@@ -179,6 +185,7 @@ impl BridgeLines {
         let BridgeLines {
             poll: _poll,
             events: _events,
+            errors: _,
             first,
             second,
         } = self;
@@ -197,9 +204,10 @@ impl BridgeLines {
         }
     }
 
-    /// Waits until something that is needed of a line is ready, at most this many milliseconds;
-    /// returns whether it could wait.
-    pub(crate) fn wait(&mut self, first: Needs, second: Needs, most_ms: u64) -> bool {
+    /// Waits until something that is needed of a line is ready, or standard error if that is
+    /// needed, at most this many milliseconds; returns whether it could wait.
+    pub(crate) fn wait(&mut self, first: Needs, second: Needs, errors: bool, most_ms: u64) -> bool {
+        self.errors.ask(&self.poll, false, errors);
         self.first
             .ready
             .ask(&self.poll, first.to_read, first.to_write);
@@ -220,6 +228,7 @@ impl BridgeLines {
             match event.token() {
                 FIRST => self.first.ready.ready.add(reported),
                 SECOND => self.second.ready.ready.add(reported),
+                ERRORS => self.errors.ready.add(reported),
                 _ => {}
             }
         }

@@ -2,6 +2,7 @@
 ghost use Rattle.std.specs.Prelude.{◌≤◌, length};
 ghost use Rattle.ddcmp_bridge.specs.Joining.{count_of};
 
+use crate::bridge_errors::BridgeErrors;
 use crate::bridge_intake::Intake;
 use crate::bridge_line::{BridgeLine, BridgeLines};
 use ddcmp_bridge::{Fate, LinePair, Needs};
@@ -9,7 +10,7 @@ use ddcmp_io::End;
 use ddcmp_station::Clock;
 use std::io::Eprint;
 
-/// Two lines, the intake of each, and a clock.
+/// Two lines, the intake of each, lines for standard error, and a clock.
 #[derive(Drop)]
 pub(crate) struct LiveLines<'a, E, C> {
     pub(crate) system: &'a E,
@@ -19,6 +20,36 @@ pub(crate) struct LiveLines<'a, E, C> {
     pub(crate) sides: BridgeLines,
     pub(crate) there: Intake,
     pub(crate) back: Intake,
+    pub(crate) errors: BridgeErrors,
+}
+
+/// For how long lines for standard error are printed once the bridge has ended, in milliseconds.
+const PRINTING_MS: u64 = 1000;
+
+/// Nothing is needed of a line.
+const NOTHING: Needs = Needs {
+    to_read: false,
+    to_write: false,
+};
+
+impl<E: Eprint, C: Clock> LiveLines<'_, E, C> {
+    /// Prints queued lines, as far as standard error has room.
+    fn print(&mut self) {
+        self.errors.print(self.system, &mut self.sides.errors);
+    }
+
+    /// Prints the queued lines, for a second at most.
+    pub(crate) fn print_rest(&mut self) {
+        let ends_at = self.clock.now().saturating_add(PRINTING_MS);
+        for _piece in 0..u64::MAX {
+            self.print();
+            let left = ends_at.saturating_sub(self.clock.now());
+            let is_over = left == 0 || !self.errors.is_waiting();
+            if is_over || !self.sides.wait(NOTHING, NOTHING, true, left) {
+                return;
+            }
+        }
+    }
 }
 
 /// Reads a line without blocking.
@@ -78,15 +109,19 @@ impl<E: Eprint, C: Clock> LinePair for LiveLines<'_, E, C> {
 
     fn log(&mut self, from: End, now: u64, bytes: &[u8], fate: Option<Fate>) {
         match from {
-            End::A => self.there.log(self.system, now, bytes, fate),
-            End::B => self.back.log(self.system, now, bytes, fate),
+            End::A => self.there.log(&mut self.errors, now, bytes, fate),
+            End::B => self.back.log(&mut self.errors, now, bytes, fate),
         }
+        self.print();
     }
 
     fn wait(&mut self, there: Needs, back: Needs, most_ms: u64) -> bool {
         let first = needs_of(&self.sides.first, there, back);
         let second = needs_of(&self.sides.second, back, there);
-        self.sides.wait(first, second, most_ms)
+        let errors = self.errors.is_waiting();
+        let could_wait = self.sides.wait(first, second, errors, most_ms);
+        self.print();
+        could_wait
     }
 
     fn now(&mut self) -> u64 {

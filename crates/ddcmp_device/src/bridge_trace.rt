@@ -1,10 +1,10 @@
 //! The log of the frames that a bridge receives.
+use crate::bridge_errors::BridgeErrors;
 use ddcmp_bridge::Fate;
 use ddcmp_frame::MAX_COUNT;
 use ddcmp_tap::{Direction, LogNotation, NoMemory, Side};
 use std::alloc::Global;
-use std::io::Eprint;
-use std::str;
+use std::{fmt, str};
 
 /// The log of one direction: the lines of a tap, and what the bridge did to a frame.
 pub(crate) struct BridgeTrace {
@@ -39,11 +39,11 @@ impl BridgeTrace {
         })
     }
 
-    /// Prints the lines of received bytes, and the fate of the frame that they completed. Lines for
-    /// which an allocation failed aren't printed.
-    pub(crate) fn log<E: Eprint>(
+    /// Queues the lines of received bytes, and the fate of the frame that they completed. Lines for
+    /// which an allocation failed are missing.
+    pub(crate) fn log(
         &mut self,
-        system: &E,
+        errors: &mut BridgeErrors,
         now: u64,
         bytes: &[u8],
         fate: Option<Fate>,
@@ -54,39 +54,58 @@ impl BridgeTrace {
         self.direction.push(bytes);
         self.direction.took(self.direction.waiting().len());
         if self.direction.explain(Some(now)).is_ok() {
-            let text = str::from_utf8(self.direction.text()).unwrap_or("");
-            let _ = eprint!(system; "{text}");
+            errors.write_lines(str::from_utf8(self.direction.text()).unwrap_or(""));
         }
-        let Some(fate) = fate else {
-            return;
-        };
-        let mark = match self.side {
-            Side::Caller => ">",
-            Side::Called => "<",
-        };
-        match self.notation {
-            LogNotation::Json => log_object(system, now, mark, fate),
-            LogNotation::Plain | LogNotation::Ladder => log_line(system, now, mark, fate),
+        match fate {
+            Some(fate @ (Fate::Lost | Fate::Altered { .. })) => {
+                errors.report(self.line_of(now, fate));
+            }
+            Some(Fate::Passed) | None => {}
+        }
+    }
+
+    /// Returns the line of what the bridge did to a frame.
+    fn line_of(&self, now: u64, fate: Fate) -> FateLine {
+        FateLine {
+            now,
+            mark: match self.side {
+                Side::Caller => ">",
+                Side::Called => "<",
+            },
+            fate,
+            is_object: matches!(self.notation, LogNotation::Json),
         }
     }
 }
 
-/// Prints what the bridge did to a frame, if anything, as a line.
-fn log_line<E: Eprint>(system: &E, now: u64, mark: &str, fate: Fate) {
-    let _ = match fate {
-        Fate::Lost => eprintln!(system; "{now} {mark} lost"),
-        Fate::Altered { at, .. } => eprintln!(system; "{now} {mark} altered byte {at}"),
-        Fate::Passed => Ok(()),
-    };
+/// What a bridge did to a frame of a direction, as a line or as a JSON object.
+#[derive(Drop)]
+struct FateLine {
+    now: u64,
+    mark: &'static str,
+    fate: Fate,
+    is_object: bool,
 }
 
-/// Prints the same as a JSON object.
-fn log_object<E: Eprint>(system: &E, now: u64, mark: &str, fate: Fate) {
-    let _ = match fate {
-        Fate::Lost => eprintln!(system; "{{\"from\":\"{mark}\",\"ms\":{now},\"item\":\"lost\"}}"),
-        Fate::Altered { at, .. } => eprintln!(system;
-            "{{\"from\":\"{mark}\",\"ms\":{now},\"item\":\"altered\",\"byte\":{at}}}"
-        ),
-        Fate::Passed => Ok(()),
-    };
+impl fmt::Display for FateLine {
+    fn fmt<W: fmt::Write>(&self, f: &mut fmt::Formatter<W>) -> fmt::Result {
+        let FateLine {
+            now,
+            mark,
+            fate,
+            is_object,
+        } = self;
+        match (fate, is_object) {
+            (Fate::Lost, false) => write!(f, "{now} {mark} lost"),
+            (Fate::Lost, true) => {
+                write!(f, "{{\"from\":\"{mark}\",\"ms\":{now},\"item\":\"lost\"}}")
+            }
+            (Fate::Altered { at, .. }, false) => write!(f, "{now} {mark} altered byte {at}"),
+            (Fate::Altered { at, .. }, true) => write!(
+                f,
+                "{{\"from\":\"{mark}\",\"ms\":{now},\"item\":\"altered\",\"byte\":{at}}}"
+            ),
+            (Fate::Passed, _) => Ok(()),
+        }
+    }
 }

@@ -3,6 +3,7 @@
 #![tactic(auto)]
 
 mod bridge;
+mod bridge_errors;
 mod bridge_intake;
 mod bridge_line;
 mod bridge_live;
