@@ -1,11 +1,14 @@
-"""Who has a line for callers: strangers at a bridge."""
+"""Who has a line for callers: strangers at a bridge, and second callers."""
+import contextlib
+import os
+import re
 import socket
 import struct
 import time
 
 from links.bridges import Bridge
-from links.kit import is_listening, server, wants, wrong
-from links.peer import control
+from links.kit import Link, connected, holds_within, is_listening, listening, server, wants, wrong
+from links.peer import STACK, STRT, Peer, ack, control, data, good
 
 
 def strangers_at_a_bridge():
@@ -53,5 +56,59 @@ def processor_of_a_waiting_bridge():
         wrong(f"{bridge.used} s of processor time, {bridge.took} s")
 
 
-TRIALS = [strangers_at_a_bridge, processor_of_a_waiting_bridge]
+def second_caller():
+    """Once a peer has started, the port refuses, and who was waiting is reset; with --again it listens there for the next."""
+    link = Link("listen:127.0.0.1:0", "--again")
+    port = listening(link)
+    for count in range(3):
+        peer = Peer(connected(port), good)
+        waiting = socket.create_connection(("127.0.0.1", port), 5)
+        if not peer.runs(5):
+            wrong(f"line {count} doesn't start: {link.errors()}")
+            break
+        if not holds_within(3, lambda: not is_listening(port)):
+            wrong(f"line {count}: the port doesn't refuse")
+        with contextlib.suppress(ConnectionRefusedError):
+            socket.create_connection(("127.0.0.1", port), 5).close()
+            wrong(f"line {count}: a second caller isn't refused")
+        waiting.settimeout(3)
+        with contextlib.suppress(ConnectionResetError):
+            if waiting.recv(1) == b"":
+                wrong(f"line {count}: a waiting caller isn't reset")
+        waiting.close()
+        peer.send(data(b"a", 1))
+        link.waits(lambda it, count=count: len(it.mails()) > count, 5)
+        peer.close()
+    if link.mails() != [b"a"] * 3 or not holds_within(5, lambda: is_listening(port)):
+        wrong(f"{link.mails()} {link.errors()}")
+    told = [re.sub("connected .*", "connected", it) for it in link.errors()]
+    if told[:4] != [f"listening 127.0.0.1:{port}", "connected", "line down: closed by the other end",
+                    f"listening 127.0.0.1:{port}"]:
+        wrong(f"{link.errors()}")
+    link.kill()
+
+
+def port_taken_meanwhile():
+    """If another program has the port as the line ends, it is tried again until it is free."""
+    link = Link("listen:127.0.0.1:0", "--again")
+    port = listening(link)
+    peer = Peer(connected(port), good)
+    peer.runs(5)
+    holds_within(3, lambda: not is_listening(port))
+    other = socket.socket()
+    other.setsockopt(socket.SOL_SOCKET, socket.SO_REUSEADDR, 1)
+    other.bind(("127.0.0.1", port))
+    other.listen()
+    peer.close()
+    fault = f"ddcmp: listen 127.0.0.1:0: address in use; retry in 1 s"
+    if not link.waits(lambda it: fault in it.errors(), 5):
+        wrong(f"{link.errors()}")
+    other.close()
+    peer = Peer(connected(port), good)
+    if not peer.runs(10):
+        wrong(f"it doesn't listen again: {link.errors()}")
+    link.kill()
+
+
+TRIALS = [strangers_at_a_bridge, processor_of_a_waiting_bridge, second_caller, port_taken_meanwhile]
 LONG_TRIALS = []

@@ -21,8 +21,10 @@ use std::os::unix::fs::FileTypeExt;
 /// Opens a line, once or repeatedly.
 pub struct Opener<'a> {
     pub name: LineName<'a>,
-    /// The listener, once it listens.
+    /// The listener, while it listens.
     pub listener: Option<TcpListener>,
+    /// The address that it listened at last: the name may leave the port to the system.
+    bound: Option<SocketAddr>,
     /// A connection that isn't made yet.
     pub connecting: Option<TcpStream>,
     /// The index of its address among those of the name.
@@ -37,6 +39,7 @@ impl Drop for Opener<'_> {
         let Opener {
             name: _,
             listener: _listener,
+            bound: _,
             connecting: _connecting,
             which: _,
             failed: _,
@@ -109,6 +112,7 @@ impl<'a> Opener<'a> {
         Opener {
             name,
             listener: None,
+            bound: None,
             connecting: None,
             which: 0,
             failed: None,
@@ -133,9 +137,14 @@ impl<'a> Opener<'a> {
         let LineName::Listen(name) = self.name else {
             return Ok(Opened::NotYet);
         };
-        match listening(net, poller, name) {
+        let listens = match self.bound {
+            Some(addr) => listening_again(net, poller, addr),
+            None => listening(net, poller, name),
+        };
+        match listens {
             Ok((listener, addr)) => {
                 self.listener = Some(listener);
+                self.bound = Some(addr);
                 Ok(Opened::Listening(addr))
             }
             Err(cause) => Err(refused(cause)),
@@ -295,6 +304,18 @@ fn listening_at<N: Net<Stream = net::TcpStream, Listener = net::TcpListener>>(
     let mut listener = TcpListener::from_std(listener);
     poller.add_listener(&mut listener)?;
     Ok((listener, addr))
+}
+
+/// Returns a listener at the address of an earlier one, and that address.
+fn listening_again<N: Net<Stream = net::TcpStream, Listener = net::TcpListener>>(
+    net: &N,
+    poller: &mut Poller,
+    addr: SocketAddr,
+) -> Result<(TcpListener, SocketAddr), Cause> {
+    match listening_at(net, poller, addr) {
+        Ok(listens) => Ok(listens),
+        Err(error) => Err(Cause::System(error.kind())),
+    }
 }
 
 /// Accepts the first caller who hasn't disconnected since.

@@ -280,6 +280,10 @@ impl<S: System, C: Clock + Drop, R: Source, W: Sink> Devices for Live<'_, S, C, 
     }
 
     fn rest(&mut self, session: &Session, buffers: &Buffers, most_ms: u64) -> bool {
+        // Who starts has the line, and others learn it at once.
+        if session.peer_has_started() {
+            self.opener.refuse_callers();
+        }
         self.poller.wait(buffers.wanted(session), most_ms)
     }
 

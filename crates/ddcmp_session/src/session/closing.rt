@@ -132,6 +132,14 @@ impl Session {
         self.course.has_run
     }
 
+    /// Returns whether the peer has started over the line that is open: sent a STRT or STACK, or
+    /// anything in maintenance mode.
+    pub fn peer_has_started(&self) -> bool
+        ensures { result ≡ self.now.state.course.peer_has_started }
+    {
+        self.course.peer_has_started
+    }
+
     /// Returns whether a part of the input was refused.
     pub fn was_refused(&self) -> bool
         ensures { result ≡ self.now.state.was_refused }
