@@ -58,6 +58,7 @@ complete -c ddcmp -n '__fish_seen_subcommand_from tap' -l time -d 'Print the mil
 complete -c ddcmp -n '__fish_seen_subcommand_from tap' -l max -x -d 'Longest data of a frame, 1 to 16383 bytes [default: 16383]'
 complete -c ddcmp -n '__fish_seen_subcommand_from tap' -s h -l help -d 'Print help'
 complete -c ddcmp -n '__fish_seen_subcommand_from link' -l line -x -a 'connect: listen: udp: device:' -d 'Line to open, as connect:127.0.0.1:7000'
+complete -c ddcmp -n '__fish_seen_subcommand_from link' -l only -x -d 'Accept callers of this host alone, on a listen: line'
 complete -c ddcmp -n '__fish_seen_subcommand_from link' -l window -x -d 'Most messages sent and not acknowledged, 1 to 255 [default: 7]'
 complete -c ddcmp -n '__fish_seen_subcommand_from link' -l inbox -x -d 'Most messages received and not taken, 1 to 255 [default: 8]'
 complete -c ddcmp -n '__fish_seen_subcommand_from link' -l max -x -d 'Longest message in bytes, 1 to 16383 [default: 1500]'

@@ -1,4 +1,4 @@
-"""Who has a line for callers: strangers at a bridge, and second callers."""
+"""Who has a line for callers: strangers at a bridge, callers of other hosts, and second callers."""
 import contextlib
 import os
 import re
@@ -56,6 +56,55 @@ def processor_of_a_waiting_bridge():
         wrong(f"{bridge.used} s of processor time, {bridge.took} s")
 
 
+def called_from(host, port):
+    """A connection from an address of this machine."""
+    return socket.create_connection(("127.0.0.1", port), 5, source_address=(host, 0))
+
+
+def callers_of_one_host():
+    """With --only a caller of another host is refused at once and reported; those of the host have the line."""
+    for host in ("127.0.0.2", "localhost"):
+        own = "127.0.0.2" if host == "127.0.0.2" else "127.0.0.1"
+        link = Link("listen:0.0.0.0:0", "--only", host)
+        port = listening(link)
+        refused = []
+        for _stranger in range(3):
+            with called_from("127.0.0.3", port) as stranger:
+                refused.append(f"refused 127.0.0.3:{stranger.getsockname()[1]}")
+                stranger.settimeout(3)
+                with contextlib.suppress(ConnectionResetError):
+                    if stranger.recv(1) != b"":
+                        wrong("a stranger was sent something")
+        burst = [called_from("127.0.0.3", port) for _ in range(5)]
+        refused += [f"refused 127.0.0.3:{it.getsockname()[1]}" for it in burst]
+        peer = Peer(called_from(own, port), good)
+        if not peer.runs(5):
+            wrong(f"{host}: the own caller isn't heard: {link.errors()}")
+        link.give(b"61\n")
+        wants(host, link, 0)
+        told = [it for it in link.errors() if it.startswith("refused ")]
+        if peer.mail != [b"a"] or told != refused:
+            wrong(f"{host}: {peer.mail} {link.errors()}, not {refused}")
+        for it in burst:
+            it.close()
+
+
+def only_of_no_callers():
+    """--only is for a line with callers; of an unknown host nobody may call."""
+    for line in ("connect:127.0.0.1:1", "udp:127.0.0.1:0,127.0.0.1:9", "device:/dev/null"):
+        link = Link(line, "--only", "127.0.0.1")
+        if link.ended(10) != 2 or b"'--only' is for a line listen:HOST:PORT" not in link.told:
+            wrong(f"{line}: {link.run.returncode} {link.told}")
+    link = Link("listen:127.0.0.1:0", "--only", "nosuchhost.invalid", "--seconds", "20")
+    port = listening(link)
+    with called_from("127.0.0.1", port) as caller:
+        caller.settimeout(15)
+        with contextlib.suppress(ConnectionResetError):
+            if caller.recv(1) != b"":
+                wrong("a caller of no host was sent something")
+    link.kill()
+
+
 def second_caller():
     """Once a peer has started, the port refuses, and who was waiting is reset; with --again it listens there for the next."""
     link = Link("listen:127.0.0.1:0", "--again")
@@ -110,5 +159,6 @@ def port_taken_meanwhile():
     link.kill()
 
 
-TRIALS = [strangers_at_a_bridge, processor_of_a_waiting_bridge, second_caller, port_taken_meanwhile]
+TRIALS = [strangers_at_a_bridge, processor_of_a_waiting_bridge, callers_of_one_host, only_of_no_callers, second_caller,
+          port_taken_meanwhile]
 LONG_TRIALS = []

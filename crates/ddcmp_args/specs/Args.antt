@@ -135,9 +135,11 @@ tap_app =
     (flag_rule (codes "time")))
     (number_rule (codes "max") 1 MAX_COUNT)
 
--- `ddcmp link`: its line, the sizes of its station, and how it runs
+-- `ddcmp link`: its line, who may call, the sizes of its station, and how it runs
 abbrev pub line_app : App
-line_app = with_rule (new_app (codes "link")) (required (text_rule (codes "line")))
+line_app =
+    with_rule (with_rule (new_app (codes "link")) (required (text_rule (codes "line"))))
+    (text_rule (codes "only"))
 
 abbrev pub link_app : App
 link_app =
@@ -351,6 +353,7 @@ pub record HasLinkOptions (line : Text) (option : Text → Option Text) (options
 -- The options of a link. Its line is always there.
 pub record HasLink (option text : Text → Option Text) (linked : LinkArgs) : Type 0 where
   pub line : linked.line.now ≡ unwrap_or (text (codes "line")) []
+  pub only : option_map (λ host. host.now) linked.only ≡ text (codes "only")
   pub options : HasLinkOptions linked.line.now option linked.options
 
 -- the faults that a bridge is to make

@@ -117,6 +117,8 @@ pub fn link_is_asked()
         ∷ codes "listen:127.0.0.1:7000" ∷ []) (codes "link") }
     ensures line { text_in (codes "ddcmp" ∷ codes "link" ∷ codes "--line=device:/dev/ttyS0" ∷ [])
         (codes "line") ≡ Some (codes "device:/dev/ttyS0") }
+    ensures only { text_in (codes "ddcmp" ∷ codes "link" ∷ codes "--only=10.0.0.7" ∷ [])
+        (codes "only") ≡ Some (codes "10.0.0.7") }
     ensures window { option_in (codes "ddcmp" ∷ codes "link" ∷ codes "--window=127" ∷ [])
         (codes "window") ≡ Some (codes "127") }
     ensures binary { IsSwitch (codes "link") (codes "--binary") (codes "binary") }

@@ -23,6 +23,8 @@ pub const DEFAULT_ATTEMPTS: u32 = u32::MAX;
 pub struct LinkArgs<'a> {
     /// The name of the line, such as `connect:127.0.0.1:7000`.
     pub line: &'a str,
+    /// The host whose callers are accepted, if it is given.
+    pub only: Option<&'a str>,
     pub options: Options,
 }
 
@@ -50,13 +52,21 @@ With --maintenance, as for MOP, each message goes once: it may be lost, and is
 never damaged. A message counts as delivered once it is written.",
 };
 
-/// The line of a link, which is required.
-static LINE_OPTIONS: [CommandOption; 1] = [CommandOption {
-    name: "line",
-    takes: Takes::Text("LINE"),
-    is_required: true,
-    help: "Line to open, as connect:127.0.0.1:7000",
-}];
+/// The line of a link, which is required, and who may call.
+static LINE_OPTIONS: [CommandOption; 2] = [
+    CommandOption {
+        name: "line",
+        takes: Takes::Text("LINE"),
+        is_required: true,
+        help: "Line to open, as connect:127.0.0.1:7000",
+    },
+    CommandOption {
+        name: "only",
+        takes: Takes::Text("HOST"),
+        is_required: false,
+        help: "Accept callers of this host alone, on a listen: line",
+    },
+];
 
 /// The options of a link apart from its line and its sizes.
 static LINK_OPTIONS: [CommandOption; 13] = [
@@ -191,7 +201,7 @@ pub(crate) fn link_given<'a>(options: &ArgMatches<'a>) -> LinkArgs<'a>
         result }
 {
     let line = text_given(options, "line");
-    let options = Options {
+    let link_options = Options {
         config: sizes_given(options, default_syn(line)),
         timer_ms: number_given(options, "timer-ms", 1, u32::MAX, DEFAULT_TIMER_MS),
         attempts: number_given(options, "attempts", 0, u32::MAX, DEFAULT_ATTEMPTS),
@@ -207,5 +217,9 @@ pub(crate) fn link_given<'a>(options: &ArgMatches<'a>) -> LinkArgs<'a>
         clock: flag_given(options, "clock"),
         json: flag_given(options, "json"),
     };
-    LinkArgs { line, options }
+    LinkArgs {
+        line,
+        only: options.get_str("only"),
+        options: link_options,
+    }
 }

@@ -1,12 +1,14 @@
 -- How `ddcmp link` ends.
 use Rattle.std.specs.Prelude.{◌≡◌, ◌≢◌, ◌⊎◌, ◌==◌, ◌&&◌, ◌||◌, not, ℕ, Bool, true, false, List}
-use Rattle.std.specs.Prelude.{Option, Some, None, Result, Ok, Err}
+use Rattle.std.specs.Prelude.{Option, Some, None, Result, Ok, Err, is_some, option_map}
+use Rattle.std.specs.Borrow.{Bor}
 use Rattle.ddcmp_streams.specs.declared.options.Options.{Options}
 use Rattle.ddcmp_device.specs.LineNames.{word_of}
 use Rattle.ddcmp_device.specs.Events.{open_fault_text}
 use Rattle.ddcmp_link.specs.declared.fault.LinkFailure.{LinkFailure}
 use Rattle.ddcmp_link.specs.declared.fault.LinkFailure.TheVariants as failure
 use Rattle.ddcmp_device.specs.declared.line_name.LineName.{LineName}
+use Rattle.ddcmp_device.specs.declared.line_name.LineName.TheVariants.{Listen}
 use Rattle.ddcmp_session.specs.declared.link.LinkOutcome.{LinkOutcome}
 use Rattle.ddcmp_session.specs.declared.link.LinkOutcome.TheVariants as outcome
 use Rattle.ddcmp_args.specs.declared.link_args.LinkArgs.{LinkArgs}
@@ -16,14 +18,18 @@ use Rattle.ddcmp_commands.specs.declared.ending.Ending.TheVariants.{Done, SomeRe
 use Rattle.ddcmp_commands.specs.declared.ending.Ending.TheVariants.{Fault as Faulted}
 use Rattle.ddcmp_commands.specs.Endings.{IsLineUnopened, is_refusal}
 
+-- the text of a host, if there is one
+abbrev pub text_of : Option (Bor (List ℕ)) → Option (List ℕ)
+text_of host = option_map (λ it. it.now) host
+
 -- What is known of the lines of a system: the result of a link over the line of this name, with
--- these options.
+-- the callers of this host alone if there is one, and with these options.
 pub record LinesKnown : Type 0 where
-  pub links : List ℕ → Options → Option (Result LinkOutcome LinkFailure)
+  pub links : List ℕ → Option (List ℕ) → Options → Option (Result LinkOutcome LinkFailure)
 
 -- nothing is known of any line
 abbrev pub no_lines_known : LinesKnown
-no_lines_known = record { links = λ word options. None }
+no_lines_known = record { links = λ word only options. None }
 
 -- how the program ends after a link with this result
 abbrev pub LinkEnds : Result LinkOutcome LinkFailure → Ending → Type 0
@@ -44,16 +50,23 @@ means_nothing o =
     && (not (o.config.window == 7) || o.config.restart || not (o.timer_ms == 3000)
     || not (o.attempts == 4294967295))
 
+-- A host is given, and the line has no callers.
+abbrev pub has_no_callers : LineName → Option (Bor (List ℕ)) → Bool
+has_no_callers (Listen at) only = false
+has_no_callers _ only = is_some only
+
 -- The result of `link`. A LINE that isn't one is a usage error, and so are options that can't be
--- used; else a link was run over the line of that name, with these options, and the program ends as
--- the link did.
+-- used; else a link was run over the line of that name, with the callers of that host and with these
+-- options, and the program ends as the link did.
 abbrev pub Links : LinesKnown → LinkArgs → Ending → Type 0
 Links lines linked ending =
     (((line : LineName) → word_of line ≢ linked.line.now) × (is_refusal ending ≡ true))
+    ⊎ ((line : LineName) × (word_of line ≡ linked.line.now)
+    × (has_no_callers line linked.only ≡ true) × (is_refusal ending ≡ true))
     ⊎ ((means_nothing linked.options ≡ true) × (is_refusal ending ≡ true))
     ⊎ ((line : LineName) × (word_of line ≡ linked.line.now)
-    × (means_nothing linked.options ≡ false)
+    × (has_no_callers line linked.only ≡ false) × (means_nothing linked.options ≡ false)
     × (ended : Result LinkOutcome LinkFailure)
     × ((known : Result LinkOutcome LinkFailure)
-    → lines.links (word_of line) linked.options ≡ Some known → ended ≡ known)
+    → lines.links (word_of line) (text_of linked.only) linked.options ≡ Some known → ended ≡ known)
     × LinkEnds ended ending)

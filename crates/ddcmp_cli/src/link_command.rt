@@ -1,12 +1,12 @@
 //! `link`: messages between a line and the program's streams.
 ghost use Rattle.std.specs.Prelude.{◌≡◌, ◌↔◌, Err, IsTrue, false};
-ghost use Rattle.ddcmp_cli.specs.LinkEndings.{LinkEnds, Links, means_nothing};
+ghost use Rattle.ddcmp_cli.specs.LinkEndings.{LinkEnds, Links, has_no_callers, means_nothing};
 
 use ddcmp_args::link_args::{DEFAULT_ATTEMPTS, DEFAULT_TIMER_MS, LinkArgs};
 use ddcmp_commands::usage::{no_line, usage};
 use ddcmp_commands::{Ending, Fault};
 use ddcmp_device::{BridgeEnd, BridgeFault, BridgeOptions, LineName, bridge_lines};
-use ddcmp_io::{Sink, Source};
+use ddcmp_io::{LineKind, Sink, Source};
 use ddcmp_link::{LinkFailure, LinkOutcome, Options, link_line};
 use ddcmp_proto::Config;
 use std::alloc::Global;
@@ -18,6 +18,19 @@ const NO_LINE: &str =
 /// The usage error for options that can't be used in maintenance mode.
 const NOT_IN_MAINTENANCE: &str = "'--maintenance' can't be used with \
     '--window', '--restart', '--timer-ms' or '--attempts'";
+
+/// The usage error for `--only` with a line that has no callers.
+const NO_CALLERS: &str = "'--only' is for a line listen:HOST:PORT";
+
+/// Returns whether the callers of a line that has none are restricted.
+fn has_no_callers(line: LineName<'_>, only: Option<&str>) -> bool
+    ensures { result ≡ has_no_callers line.entry only }
+{
+    match line.kind() {
+        LineKind::Listen => false,
+        LineKind::Connect | LineKind::Datagrams | LineKind::Device => only.is_some(),
+    }
+}
 
 /// Returns whether options are given that can't be used in maintenance mode.
 fn means_nothing(options: &Options) -> bool
@@ -37,24 +50,25 @@ pub trait LineSystem {
     ghost use Rattle.ddcmp_link.specs.declared.fault.LinkFailure.{LinkFailure as FaultValue};
     ghost use Rattle.ddcmp_link.specs.declared.fault.LinkFailure.TheVariants.{Write};
     ghost use Rattle.ddcmp_session.specs.declared.link.LinkOutcome.{LinkOutcome as OutcomeValue};
-    ghost use Rattle.ddcmp_cli.specs.LinkEndings.{LinesKnown};
+    ghost use Rattle.ddcmp_cli.specs.LinkEndings.{LinesKnown, text_of};
 
     // What is known of its lines.
     ghost lines: { Self → LinesKnown };
 
     /// Opens a line and runs a link over it, between standard input and output, which `reader` and
-    /// `writer` read and write.
+    /// `writer` read and write. Of callers it accepts those of the host `only`, or all.
     fn link<'a, R: Source, W: Sink>(
         &self,
         alloc: Global,
         line: LineName<'a>,
+        only: Option<&'a str>,
         options: Options,
         reader: &mut R,
         writer: &mut W,
     ) -> Result<LinkOutcome, LinkFailure<'a>>
         ensures broken { (result ≡ Err Write) ↔ IsTrue (W.broken writer.new) }
         ensures known { (ended : Result OutcomeValue FaultValue)
-            → (lines self.now).links (word_of line.entry) options ≡ Some ended
+            → (lines self.now).links (word_of line.entry) (text_of only) options ≡ Some ended
             → result ≡ ended };
 
     /// Opens two lines and passes frames on between them.
@@ -76,11 +90,12 @@ impl LineSystem for HostRuntime {
         &self,
         alloc: Global,
         line: LineName<'a>,
+        only: Option<&'a str>,
         options: Options,
         reader: &mut R,
         writer: &mut W,
     ) -> Result<LinkOutcome, LinkFailure<'a>> {
-        link_line(self, alloc, line, options, reader, writer)
+        link_line(self, alloc, line, only, options, reader, writer)
     }
 
     fn bridge<'a>(
@@ -109,10 +124,13 @@ pub(crate) fn link<S: LineSystem, R: Source, W: Sink>(
     let Some(line) = LineName::read(args.line) else {
         return usage(alloc, NO_LINE);
     };
+    if has_no_callers(line, args.only) {
+        return usage(alloc, NO_CALLERS);
+    }
     if means_nothing(&args.options) {
         return usage(alloc, NOT_IN_MAINTENANCE);
     }
-    let ended = system.link(alloc, line, args.options, reader, writer);
+    let ended = system.link(alloc, line, args.only, args.options, reader, writer);
     ending_of(alloc, ended)
 }
 

@@ -135,11 +135,12 @@ impl<S: LineSystem> LineSystem for Poor<'_, S> {
         &self,
         alloc: Global,
         line: LineName<'a>,
+        only: Option<&'a str>,
         options: Options,
         reader: &mut R,
         writer: &mut W,
     ) -> Result<LinkOutcome, LinkFailure<'a>> {
-        self.system.link(alloc, line, options, reader, writer)
+        self.system.link(alloc, line, only, options, reader, writer)
     }
 
     fn bridge<'a>(

@@ -36,6 +36,7 @@ abbrev pub event_text : LineEvent → List ℕ
 event_text (event.Listening address) = codes "listening " ++ socket_text address
 event_text (event.Connecting address) = codes "connecting " ++ socket_text address
 event_text (event.Connected address) = codes "connected " ++ socket_text address
+event_text (event.Refused address) = codes "refused " ++ socket_text address
 event_text (event.Retry fault seconds) =
     codes "ddcmp: "
     ++ (open_fault_text fault ++ (codes "; retry in " ++ (decimal seconds ++ codes " s")))

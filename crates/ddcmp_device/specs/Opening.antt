@@ -6,7 +6,7 @@ use Rattle.ddcmp_device.specs.declared.line.Line.{Line as LineValue}
 use Rattle.ddcmp_device.specs.declared.line.Line.TheVariants as line
 use Rattle.ddcmp_device.specs.declared.opener.Opened.{Opened}
 use Rattle.ddcmp_device.specs.declared.opener.Opened.TheVariants.{Line, Connected, Connecting}
-use Rattle.ddcmp_device.specs.declared.opener.Opened.TheVariants.{Listening, NotYet}
+use Rattle.ddcmp_device.specs.declared.opener.Opened.TheVariants.{Listening, NotYet, Refused}
 use Rattle.ddcmp_io.specs.declared.line_kind.LineKind.{LineKind}
 use Rattle.ddcmp_io.specs.declared.line_kind.LineKind.TheVariants as kind
 
@@ -16,6 +16,7 @@ event_of (Line it) = None
 event_of (Connected it peer) = Some (event.Connected peer)
 event_of (Connecting peer) = Some (event.Connecting peer)
 event_of (Listening address) = Some (event.Listening address)
+event_of (Refused peer) = Some (event.Refused peer)
 event_of NotYet = None
 
 -- the line, if it is open
@@ -24,6 +25,7 @@ line_of (Line it) = Some it
 line_of (Connected it peer) = Some it
 line_of (Connecting peer) = None
 line_of (Listening address) = None
+line_of (Refused peer) = None
 line_of NotYet = None
 
 -- Only a line for callers listens.
@@ -34,14 +36,15 @@ Begins kind.Datagrams NotYet = ⊤
 Begins kind.Device NotYet = ⊤
 Begins _ _ = ⊥
 
--- A connection is begun and then made; a listener waits for a caller, who then connects; other
--- lines are open at once.
+-- A connection is begun and then made; a listener waits for a caller, who then connects or is
+-- refused; other lines are open at once.
 abbrev pub Opens : LineKind → Opened → Type 0
 Opens kind.Connect (Connected (line.Stream stream) peer) = ⊤
 Opens kind.Connect (Connecting peer) = ⊤
 Opens kind.Connect NotYet = ⊤
 Opens kind.Listen (Listening address) = ⊤
 Opens kind.Listen (Connected (line.Stream stream) peer) = ⊤
+Opens kind.Listen (Refused peer) = ⊤
 Opens kind.Listen NotYet = ⊤
 Opens kind.Datagrams (Line (line.Datagrams socket peer)) = ⊤
 Opens kind.Device (Line (line.Device file)) = ⊤

@@ -58,7 +58,7 @@ impl<'a> Opening<'a> {
     ) -> Result<Opening<'a>, BridgeFault<'a>> {
         match Poller::new(net, alloc) {
             Ok(poller) => Ok(Opening {
-                opener: Opener::new(name),
+                opener: Opener::new(name, None),
                 poller,
                 line: None,
             }),

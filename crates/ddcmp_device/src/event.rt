@@ -9,6 +9,8 @@ pub enum LineEvent<'a> {
     Listening(SocketAddr),
     Connecting(SocketAddr),
     Connected(SocketAddr),
+    /// A caller at this address may not have the line.
+    Refused(SocketAddr),
     /// The line couldn't be opened; the next attempt is after this many seconds.
     Retry(OpenFault<'a>, u64),
 }
@@ -24,6 +26,7 @@ impl fmt::Display for LineEvent<'_> {
             LineEvent::Listening(addr) => write!(f, "listening {addr}"),
             LineEvent::Connecting(addr) => write!(f, "connecting {addr}"),
             LineEvent::Connected(addr) => write!(f, "connected {addr}"),
+            LineEvent::Refused(addr) => write!(f, "refused {addr}"),
             LineEvent::Retry(fault, seconds) => write!(f, "ddcmp: {fault}; retry in {seconds} s"),
         }
     }

@@ -1,5 +1,7 @@
 //! Opens a line by its name.
-ghost use Rattle.std.specs.Prelude.{◌≡◌, ◌+◌, ◌-◌, ◌^◌, IfErr, IfOk, None, Some, false, min};
+ghost use Rattle.std.specs.Prelude.{◌≡◌, ◌≢◌, ◌+◌, ◌-◌, ◌^◌, IfErr, IfOk, None, Some, false, min};
+ghost use Rattle.std.specs.Prelude.{true};
+ghost use Rattle.std.specs.declared.net.socket_addr.SocketAddr.{SocketAddr as AddrValue};
 ghost use Rattle.ddcmp_device.specs.LineNames.{line_kind, open_fault_of};
 ghost use Rattle.ddcmp_device.specs.Opening.{Begins, SameIfNotYet, Opens, event_of};
 ghost use Rattle.ddcmp_device.specs.Opening.{line_of};
@@ -14,13 +16,15 @@ use crate::socket::{prepare_datagrams, prepare_stream};
 use mio::net::{TcpListener, TcpStream, UdpSocket};
 use std::fs::{self, File, Files, OpenOptions, TryLockError};
 use std::io::{self, ErrorKind};
-use std::net::{self, Net, OpenListener, SocketAddr, ToSocketAddrs};
+use std::net::{self, IpAddr, Net, OpenListener, SocketAddr, ToSocketAddrs};
 use std::os::fd::AsRawFd;
 use std::os::unix::fs::FileTypeExt;
 
 /// Opens a line, once or repeatedly.
 pub struct Opener<'a> {
     pub name: LineName<'a>,
+    /// The host whose callers are accepted; if there is none, all are.
+    pub only: Option<&'a str>,
     /// The listener, while it listens.
     pub listener: Option<TcpListener>,
     /// The address that it listened at last: the name may leave the port to the system.
@@ -38,6 +42,7 @@ impl Drop for Opener<'_> {
     fn drop(self) {
         let Opener {
             name: _,
+            only: _,
             listener: _listener,
             bound: _,
             connecting: _connecting,
@@ -57,6 +62,8 @@ pub enum Opened {
     Connecting(SocketAddr),
     /// It listens for callers at this address.
     Listening(SocketAddr),
+    /// A caller at this address was refused.
+    Refused(SocketAddr),
     /// Nobody has connected yet, the connection isn't made yet, or the line isn't one that listens.
     NotYet,
 }
@@ -70,6 +77,7 @@ impl Opened {
             Opened::Connected(_, peer) => Some(LineEvent::Connected(*peer)),
             Opened::Connecting(peer) => Some(LineEvent::Connecting(*peer)),
             Opened::Listening(addr) => Some(LineEvent::Listening(*addr)),
+            Opened::Refused(peer) => Some(LineEvent::Refused(*peer)),
             Opened::Line(_) | Opened::NotYet => None,
         }
     }
@@ -80,7 +88,8 @@ impl Opened {
     {
         match self {
             Opened::Line(line) | Opened::Connected(line, _) => Some(line),
-            Opened::Connecting(_) | Opened::Listening(_) | Opened::NotYet => None,
+            Opened::Connecting(_) | Opened::Listening(_) | Opened::Refused(_) | Opened::NotYet =>
+                None,
         }
     }
 }
@@ -107,10 +116,15 @@ fn refused(cause: Cause) -> OpenRefusal
 }
 
 impl<'a> Opener<'a> {
-    /// Makes an opener for a line of this name.
-    pub fn new(name: LineName<'a>) -> Opener<'a> {
+    /// Makes an opener for a line of this name. Of callers it accepts those of the host `only`, or
+    /// all.
+    pub fn new(name: LineName<'a>, only: Option<&'a str>) -> Opener<'a>
+        ensures name { result.name ≡ name.entry }
+        ensures only { result.only ≡ only.entry }
+    {
         Opener {
             name,
+            only,
             listener: None,
             bound: None,
             connecting: None,
@@ -164,7 +178,7 @@ impl<'a> Opener<'a> {
             LineName::Connect(name) => self.connect(system, poller, name),
             LineName::Listen(_) => match &self.listener {
                 None => self.listen(system, poller),
-                Some(listener) => match accepted(listener, poller) {
+                Some(listener) => match accepted(system, listener, poller, self.only) {
                     Ok(opened) => Ok(opened),
                     Err(error) => Err(refused_by(&error)),
                 },
@@ -318,13 +332,48 @@ fn listening_again<N: Net<Stream = net::TcpStream, Listener = net::TcpListener>>
     }
 }
 
-/// Accepts the first caller who hasn't disconnected since.
-fn accepted(listener: &TcpListener, poller: &mut Poller) -> io::Result<Opened>
-    ensures { IfOk result (Opens kind.Listen) }
+/// Returns whether a caller may have the line: one of this host, or any.
+fn may_call<N: Net>(net: &N, only: Option<&str>, peer: SocketAddr) -> bool
+    ensures { only.entry ≡ None → result ≡ true }
+{
+    match only {
+        None => true,
+        Some(host) => is_of_host(net, host, peer.ip().to_canonical()),
+    }
+}
+
+/// Returns whether a host has this address; it is looked up unless it is an address itself.
+fn is_of_host<N: Net>(net: &N, host: &str, ip: IpAddr) -> bool {
+    let Ok(found) = (host, 0u16).to_socket_addrs(net) else {
+        return false;
+    };
+    for addr in found {
+        if addr.ip().to_canonical() == ip {
+            return true;
+        }
+    }
+    false
+}
+
+/// Accepts the first caller who hasn't disconnected since, or refuses him.
+fn accepted<N: Net>(
+    net: &N,
+    listener: &TcpListener,
+    poller: &mut Poller,
+    only: Option<&str>,
+) -> io::Result<Opened>
+    ensures opened { IfOk result (Opens kind.Listen) }
+    ensures any { only.entry ≡ None → IfOk result (λ opened. (peer : AddrValue)
+        → opened ≢ Opened.Refused peer) }
 {
     for _caller in 0..u64::MAX {
         match listener.accept() {
             Ok((mut stream, peer)) => {
+                if !may_call(net, only, peer) {
+                    // More callers may be pending, and the next wait is to report them again.
+                    poller.ask_callers(listener.as_raw_fd())?;
+                    return Ok(Opened::Refused(peer));
+                }
                 prepare_stream(&stream);
                 poller.add_socket(&mut stream)?;
                 return Ok(Opened::Connected(Line::Stream(stream), peer));

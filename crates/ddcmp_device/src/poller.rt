@@ -196,6 +196,12 @@ impl Poller {
         registry.register(listener, CALLERS, Interest::READABLE)
     }
 
+    /// Has the next wait report the pending callers of a listener again.
+    pub(crate) fn ask_callers(&mut self, number: RawFd) -> io::Result<()> {
+        let registry = self.poll.registry();
+        registry.reregister(&mut SourceFd(&number), CALLERS, Interest::READABLE)
+    }
+
     /// Forgets the line, which was closed.
     pub fn forget_line(&mut self) {
         self.socket = Ready::NOT;

@@ -15,11 +15,13 @@ use std::net::{self, Net};
 use std::time;
 
 /// Runs a link between a line and standard input and output, which `reader` and `writer` read and
-/// write, until all of the input is delivered, or the line ends.
+/// write, until all of the input is delivered, or the line ends. If the line is one for callers, only
+/// those of the host `only` are accepted, or all.
 pub fn link_line<'a, S, R: Source, W: Sink>(
     system: &S,
     alloc: Global,
     line: LineName<'a>,
+    only: Option<&'a str>,
     options: Options,
     reader: &mut R,
     writer: &mut W,
@@ -33,7 +35,7 @@ where
     ensures unread { R.state reader.new ≡ Worst.Failed → W.broken writer.new ≡ false
         → result ≡ Err LinkFailure.Read }
 {
-    let ended = run_over_devices(system, alloc, line, options, reader, writer);
+    let ended = run_over_devices(system, alloc, line, only, options, reader, writer);
     ending_of(ended, line, reader, writer)
 }
 
@@ -66,6 +68,7 @@ fn run_over_devices<S: System, R: Source, W: Sink>(
     system: &S,
     alloc: Global,
     line: LineName<'_>,
+    only: Option<&str>,
     options: Options,
     reader: &mut R,
     writer: &mut W,
@@ -78,6 +81,7 @@ fn run_over_devices<S: System, R: Source, W: Sink>(
         system,
         poller,
         name: line,
+        only,
         clock: Elapsed::new(system),
         reader,
         writer,

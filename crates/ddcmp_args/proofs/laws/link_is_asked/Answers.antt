@@ -11,6 +11,10 @@ pub returns-clause-line : goal.returns-clause-line
 unfolding clap_on_literals text_in
 returns-clause-line c = refl
 
+pub returns-clause-only : goal.returns-clause-only
+unfolding clap_on_literals text_in
+returns-clause-only c = refl
+
 pub returns-clause-window : goal.returns-clause-window
 unfolding clap_on_literals option_in
 returns-clause-window c = refl
