@@ -66,7 +66,7 @@ complete -c ddcmp -n '__fish_seen_subcommand_from link' -l syn -x -d 'SYN bytes 
 complete -c ddcmp -n '__fish_seen_subcommand_from link' -l restart -d 'Restart when the peer restarts, if no received message is waiting'
 complete -c ddcmp -n '__fish_seen_subcommand_from link' -l timer-ms -x -d 'Reply timer in milliseconds, from 1 [default: 3000]'
 complete -c ddcmp -n '__fish_seen_subcommand_from link' -l attempts -x -d 'Leave a line after N tries without progress, 0: never [default: 7 to start]'
-complete -c ddcmp -n '__fish_seen_subcommand_from link' -l linger-ms -x -d 'Once done, stay until no reply was due for N milliseconds [default: 500]'
+complete -c ddcmp -n '__fish_seen_subcommand_from link' -l linger-ms -x -d 'Once done, stay until no reply was due for N ms [default: 500 over TCP]'
 complete -c ddcmp -n '__fish_seen_subcommand_from link' -l seconds -x -d 'End after N seconds, whatever the state'
 complete -c ddcmp -n '__fish_seen_subcommand_from link' -l report -x -d 'Report the counters on standard error every N seconds'
 complete -c ddcmp -n '__fish_seen_subcommand_from link' -l binary -d 'Read and write messages as bytes after their length'

@@ -20,7 +20,8 @@ use Rattle.clap.specs.declared.parser.matches.ArgMatches.{ArgMatches}
 use Rattle.clap.specs.declared.parser.matches.ArgMatches.TheViews.{out-ArgMatches}
 use Rattle.clap.proofs.OnLiterals.{clap_on_literals}
 use Rattle.ddcmp_args.specs.Args.{program, named_by, option_in, text_in, file_of, role_of}
-use Rattle.ddcmp_args.specs.Args.{default_syn_of, MOST, HasFlag, HasForm, HasNotation, HasNumber}
+use Rattle.ddcmp_args.specs.Args.{default_linger_of, default_syn_of, MOST, HasFlag, HasForm}
+use Rattle.ddcmp_args.specs.Args.{HasNotation, HasNumber}
 use Rattle.ddcmp_args.specs.Args.{HasLinkOptions, HasMessages, HasOptions, HasScript, HasSizes}
 use Rattle.ddcmp_args.specs.Args.{HasView}
 use Rattle.ddcmp_args.specs.Args.{IsAsked}
@@ -124,7 +125,8 @@ link_as line o p made e h = record {
   timer_ms = subst (λ t. HasNumber 1 MOST 3000 t made.timer_ms) (e (codes "timer-ms")) h.timer_ms;
   attempts = subst (λ t. HasNumber 0 MOST MOST t made.attempts) (e (codes "attempts")) h.attempts;
   linger_ms =
-      subst (λ t. HasNumber 0 MOST 500 t made.linger_ms) (e (codes "linger-ms")) h.linger_ms;
+      subst (λ t. HasNumber 0 MOST (default_linger_of line made.timer_ms) t made.linger_ms)
+      (e (codes "linger-ms")) h.linger_ms;
   seconds = subst (λ t. HasNumber 1 MOST MOST t made.seconds) (e (codes "seconds")) h.seconds;
   report = subst (λ t. HasNumber 0 MOST 0 t made.report) (e (codes "report")) h.report;
   form = subst (λ t. HasMessages t made.form) (e (codes "binary")) h.form;

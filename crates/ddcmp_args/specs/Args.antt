@@ -1,7 +1,7 @@
 -- The command line, as parsed by `clap`.
 use Rattle.std.specs.Prelude.{◌∷◌, ℕ, pos, unwrap_or, if◌then◌else◌, ◌≡◌, ◌≢◌, ◌⊎◌, ◌≤◌, Bool, true}
 use Rattle.std.specs.Prelude.{false, List, [], codes, decimal, Option, Some, None, Result, Ok, Err}
-use Rattle.std.specs.Prelude.{⊤}
+use Rattle.std.specs.Prelude.{⊤, ◌+◌, ◌*◌, ◌||◌, min}
 use Rattle.std.specs.Option.{option_map, option_and_then}
 use Rattle.std.specs.List.{starts_with}
 use Rattle.std.specs.Str.{bytes_eq}
@@ -326,6 +326,17 @@ pub record HasTap (option text : Text → Option Text) (tapped : TapArgs) : Type
 abbrev pub default_syn_of : Text → ℕ
 default_syn_of line = if starts_with eqb line (codes "device:") then 4 else 0
 
+-- whether a line of this name may end without a report of that
+abbrev pub may_end_unseen : Text → Bool
+may_end_unseen line =
+    starts_with eqb line (codes "udp:") || starts_with eqb line (codes "device:")
+
+-- The default for the time in which a link that is done waits for its peer. If the end of the line
+-- isn't reported, a peer that lost the last acknowledgement has time to ask for it twice.
+abbrev pub default_linger_of : Text → ℕ → ℕ
+default_linger_of line timer_ms =
+    if may_end_unseen line then min (2 * timer_ms + 500) MOST else 500
+
 -- messages in binary, each after its length, if `--binary` is given, else as digits
 pub record HasMessages (binary : Option Text) (form : MessageForm) : Type 0 where
   pub given : binary ≡ Some (codes "true") → form ≡ Binary
@@ -338,7 +349,8 @@ pub record HasLinkOptions (line : Text) (option : Text → Option Text) (options
   pub sizes : HasSizes (default_syn_of line) option options.config
   pub timer_ms : HasNumber 1 MOST 3000 (option (codes "timer-ms")) options.timer_ms
   pub attempts : HasNumber 0 MOST MOST (option (codes "attempts")) options.attempts
-  pub linger_ms : HasNumber 0 MOST 500 (option (codes "linger-ms")) options.linger_ms
+  pub linger_ms : HasNumber 0 MOST (default_linger_of line options.timer_ms)
+      (option (codes "linger-ms")) options.linger_ms
   pub seconds : HasNumber 1 MOST MOST (option (codes "seconds")) options.seconds
   pub report : HasNumber 0 MOST 0 (option (codes "report")) options.report
   pub form : HasMessages (option (codes "binary")) options.form

@@ -2,7 +2,8 @@
 ghost use Rattle.std.specs.Prelude.{◌≡◌, ◌≤◌, codes};
 ghost use Rattle.clap.specs.Words.{first_value, found_of, one_text};
 ghost use Rattle.ddcmp_args.specs.Inside.Making.{Makes};
-ghost use Rattle.ddcmp_args.specs.Args.{HasLink, HasMessages, link_app, default_syn_of};
+ghost use Rattle.ddcmp_args.specs.Args.{HasLink, HasMessages, link_app};
+ghost use Rattle.ddcmp_args.specs.Args.{default_linger_of, default_syn_of};
 ghost use Rattle.ddcmp_proto.specs.declared.config.TheConstants.{MAX_SYN};
 
 use crate::command::{SIZE_OPTIONS, flag_given, number_given, sizes_given, text_given};
@@ -95,7 +96,7 @@ static LINK_OPTIONS: [CommandOption; 13] = [
             high: u32::MAX,
         },
         is_required: false,
-        help: "Once done, stay until no reply was due for N milliseconds [default: 500]",
+        help: "Once done, stay until no reply was due for N ms [default: 500 over TCP]",
     },
     CommandOption {
         name: "seconds",
@@ -184,6 +185,18 @@ fn default_syn(line: &str) -> u8
     if line.starts_with("device:") { 4 } else { 0 }
 }
 
+/// Returns the default for the milliseconds in which a link that is done waits for its peer. UDP and
+/// devices don't report that the peer has gone, and a lost ACK shows only when its timer expires.
+fn default_linger(line: &str, timer_ms: u32) -> u32
+    ensures { result ≡ default_linger_of line.now timer_ms }
+{
+    if line.starts_with("udp:") || line.starts_with("device:") {
+        timer_ms.saturating_mul(2).saturating_add(500)
+    } else {
+        500
+    }
+}
+
 /// Returns the form of messages.
 fn messages_given(options: &ArgMatches<'_>) -> MessageForm
     ensures { HasMessages (one_text (found_of options.now) (codes "binary")) result }
@@ -201,11 +214,13 @@ pub(crate) fn link_given<'a>(options: &ArgMatches<'a>) -> LinkArgs<'a>
         result }
 {
     let line = text_given(options, "line");
+    let timer_ms = number_given(options, "timer-ms", 1, u32::MAX, DEFAULT_TIMER_MS);
+    let linger_ms = default_linger(line, timer_ms);
     let link_options = Options {
         config: sizes_given(options, default_syn(line)),
-        timer_ms: number_given(options, "timer-ms", 1, u32::MAX, DEFAULT_TIMER_MS),
+        timer_ms,
         attempts: number_given(options, "attempts", 0, u32::MAX, DEFAULT_ATTEMPTS),
-        linger_ms: number_given(options, "linger-ms", 0, u32::MAX, 500),
+        linger_ms: number_given(options, "linger-ms", 0, u32::MAX, linger_ms),
         seconds: number_given(options, "seconds", 1, u32::MAX, u32::MAX),
         report: number_given(options, "report", 0, u32::MAX, 0),
         form: messages_given(options),
