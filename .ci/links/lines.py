@@ -286,11 +286,11 @@ def udp_pair():
     exchange("udp", one, two, messages_of(200), messages_of(200))
 
 
-def datagram_peer(*options, answer=good):
+def datagram_peer(*options, answer=good, timer=("--timer-ms", "200")):
     """A link over datagrams, and its peer in Python, once it was heard at LOCAL."""
     sock, local = socket.socket(socket.AF_INET, socket.SOCK_DGRAM), free_port(socket.SOCK_DGRAM)
     sock.bind(("127.0.0.1", 0))
-    link = Link(f"udp:127.0.0.1:{local},127.0.0.1:{sock.getsockname()[1]}", "--timer-ms", "200", *options)
+    link = Link(f"udp:127.0.0.1:{local},127.0.0.1:{sock.getsockname()[1]}", *timer, *options)
     peer = Peer(sock, answer)
     if not peer.waits(lambda it: it.remote, 5) or peer.remote != ("127.0.0.1", local):
         wrong(f"REMOTE hears {peer.remote}, LOCAL is {local}")
@@ -393,27 +393,103 @@ class Refusing:
         return nak(3, 0) if frame.name == "REP" else b""
 
 
+def most_windows(span, timer):
+    """How many windows a peer gets at most that refuses each message: the first, one at once, and one after each pause;
+    these last 10 ms, 20 ms, 40 ms and so on, up to the time of the reply timer."""
+    count, pause, at = 2, 0.01, 0.01
+    while at <= span:
+        count, pause = count + 1, min(2 * pause, timer)
+        at += pause
+    return count
+
+
 def pace():
-    """A peer that refuses each message: one window a timer at most; the first is retransmitted at once."""
+    """A peer that refuses each message gets a window after each pause, and with the defaults 8 in the first second."""
     links = []
-    for reason in (16, 8, 3):
+    for reason, timer, least in ((16, 0.2, 12), (8, 0.2, 12), (3, 0.2, 2), (16, 3, 8), (8, 3, 8)):
         with server() as it:
-            link = Link(f"connect:127.0.0.1:{it.getsockname()[1]}", "--timer-ms", "200", "--window", "7")
+            options = ("--timer-ms", "200") if timer < 3 else ()
+            link = Link(f"connect:127.0.0.1:{it.getsockname()[1]}", "--window", "7", *options)
             peer = Peer(it.accept()[0], Refusing(reason))
         peer.runs()
         link.give(b"61\n" * 7)
-        links.append((reason, link, peer, time.monotonic()))
-    time.sleep(3)
-    for reason, link, peer, begun in links:
+        links.append((reason, timer, least, link, peer, time.monotonic()))
+    time.sleep(1)
+    for reason, timer, _least, _link, peer, begun in links:
         count, span = len(peer.named("DATA")), time.monotonic() - begun
-        if not 14 <= count <= 7 * (span / 0.2 + 3):
-            wrong(f"NAK {reason}: {count} data frames in {span:.1f} s")
+        if count > 7 * most_windows(span, timer):
+            wrong(f"NAK {reason}, {timer} s: {count} data frames in {span:.2f} s")
+    time.sleep(2)
+    for reason, timer, least, link, peer, begun in links:
+        count, span = len(peer.named("DATA")), time.monotonic() - begun
+        if not 7 * least <= count <= 7 * most_windows(span, timer):
+            wrong(f"NAK {reason}, {timer} s: {count} data frames in {span:.2f} s")
         if link.processor_time() > 0.6:
             wrong(f"NAK {reason}: {link.processor_time()} s of processor time")
         peer.answer.takes = True
-        wants(f"NAK {reason}", link, 0, seconds=5)
+        wants(f"NAK {reason}", link, 0, seconds=8)
         if peer.mail != [b"a"] * 7:
             wrong(f"NAK {reason}: {peer.mail}")
+
+
+class Buffers:
+    """A peer with a few receive buffers, each free again a while after it took a message."""
+
+    def __init__(self, count, seconds):
+        self.count, self.seconds, self.taken_at = count, seconds, []
+
+    def __call__(self, peer, frame):
+        now = time.monotonic()
+        self.taken_at = [it for it in self.taken_at if now - it < self.seconds]
+        if frame.name == "DATA" and frame.num == peer.taken + 1 & 255:
+            if len(self.taken_at) >= self.count:
+                return nak(8, peer.taken)
+            self.taken_at.append(now)
+        return good(peer, frame)
+
+
+def few_buffers():
+    """With the defaults a peer that is out of buffers for a moment gets its messages soon."""
+    with server() as it:
+        link = Link(f"connect:127.0.0.1:{it.getsockname()[1]}")
+        peer = Peer(it.accept()[0], Buffers(7, 0.005))
+    peer.runs()
+    begun = time.monotonic()
+    link.give(b"".join(b"%04x\n" % it for it in range(140)))
+    if not peer.waits(lambda it: len(it.mail) == 140, 20):
+        wrong(f"{len(peer.mail)} of 140 messages")
+    if time.monotonic() - begun > 3:
+        wrong(f"{time.monotonic() - begun:.1f} s")
+    wants("140 messages", link, 0, seconds=5)
+    if peer.mail != [it.to_bytes(2, "big") for it in range(140)]:
+        wrong("the messages are others")
+
+
+def naks_for_ever(seconds, link, peer):
+    """Sends a NAK each so often while the link runs, for at most 12 s."""
+    peer.runs()
+    link.give(b"61\n", close=False)
+    begun = time.monotonic()
+    with contextlib.suppress(OSError):
+        while not link.has_ended() and time.monotonic() < begun + 12:
+            peer.send(nak(2, 0))
+            time.sleep(seconds)
+    return time.monotonic() - begun
+
+
+def refused_often():
+    """NAKs at any pace stop messages for the time of the reply timer at most, and --attempts counts such pauses."""
+    links = []
+    for seconds in (0.05, 0.2, 0.4):
+        with server() as it:
+            link = Link(f"connect:127.0.0.1:{it.getsockname()[1]}", "--timer-ms", "500", "--attempts", "3")
+            peer = Peer(it.accept()[0], no_ack)
+        links.append((seconds, link, peer))
+    for seconds, link, peer in links:
+        took, count = naks_for_ever(seconds, link, peer), len(peer.named("DATA"))
+        wants(f"a NAK each {seconds} s", link, 3, "ddcmp: 1 message lost", seconds=5)
+        if count < 7 or took > 10 or "ddcmp: peer refuses: data check" not in link.errors():
+            wrong(f"a NAK each {seconds} s: sent {count} times in {took:.1f} s, {link.errors()}")
 
 
 def first_nak():
@@ -454,5 +530,6 @@ def pace_of_lines():
 
 
 TRIALS = [again, closed_at_once, late_server, taken_address, server_away, gone_for_good, full_window, more_between_lines,
-          udp_pair, datagrams, cut_datagrams, datagram_names, no_device, pace, first_nak, pace_of_lines, seconds_in_pause]
+          udp_pair, datagrams, cut_datagrams, datagram_names, no_device, pace, few_buffers, refused_often, first_nak,
+          pace_of_lines, seconds_in_pause]
 LONG_TRIALS = [restarts, longest_pause]

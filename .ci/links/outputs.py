@@ -336,7 +336,7 @@ def seconds_unread():
             peer.close()
         if link.ended(8) != 3 or link.took > 6:
             wrong(f"{options}: status {link.run.returncode} after {link.took} s")
-        if "ddcmp: standard output isn't read: received messages are lost" not in link.errors():
+        if "ddcmp: standard output isn't read: received messages weren't written" not in link.errors():
             wrong(f"{options}: {link.errors()}")
         os.close(reading)
 

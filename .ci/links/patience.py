@@ -232,9 +232,10 @@ def lingers_while_asked():
     only acknowledges, repeats what was acknowledged or refused, or sends junk isn't waited for."""
     long, too_long = data(b"c" * 1000, 2), header(2000, 2) + b"d" * 2002
     for name, pieces, stays in (
-        ("REP", [rep(1)] * 12, True), ("STACK", [STACK] * 12, True), ("ACK", [ack(0)] * 12, False),
+        ("REP", [rep(1)] * 7, True), ("STACK", [STACK] * 7, True), ("ACK", [ack(0)] * 12, False),
         ("slow", [long[at:at + 100] for at in range(0, len(long), 100)], True),
-        ("DATA", [data(b"a", 1)] * 12, False), ("refused", [too_long] * 12, False), ("junk", [b"\x01\x81\x02\x05"] * 12, False),
+        ("REP for ever", [rep(1)] * 14, False), ("DATA", [data(b"a", 1)] * 12, False),
+        ("refused", [too_long] * 12, False), ("junk", [b"\x01\x81\x02\x05"] * 12, False),
     ):
         with server() as it:
             link = Link(f"connect:127.0.0.1:{it.getsockname()[1]}", "--max", "1500", "--linger-ms", "800",
@@ -255,6 +256,94 @@ def lingers_while_asked():
             wrong(f"{name}: status {link.run.returncode}, {link.mails()}")
 
 
+def asked_for_ever():
+    """A peer that asks again and again, with nothing new, keeps a link that is done for seven replies."""
+    for name, piece in (("REP", rep(1)), ("STACK", STACK)):
+        with server() as it:
+            link = Link(f"connect:127.0.0.1:{it.getsockname()[1]}", stdin=subprocess.DEVNULL)
+            peer = Peer(it.accept()[0])
+        peer.runs()
+        peer.send(data(b"a", 1))
+        begun, sent = time.monotonic(), 0
+        with contextlib.suppress(OSError):
+            while not link.has_ended() and time.monotonic() < begun + 8:
+                time.sleep(0.25)
+                peer.send(piece)
+                sent += 1
+        if link.ended(1) != 0 or not 2 <= time.monotonic() - begun <= 5:
+            wrong(f"{name}: status {link.run.returncode}, {time.monotonic() - begun:.2f} s, {sent} of it")
+        link.kill()
+
+
+def last_ack_lost():
+    """Over UDP, with the defaults, a peer that lost the last acknowledgement can ask for it."""
+    link, peer, _local = datagram_peer(timer=())
+    peer.runs()
+    peer.send(data(b"a", 1))
+    link.give(b"61\n")
+    if not peer.waits(lambda it: it.mail == [b"a"] and any(f.resp == 1 for f in it.frames), 5):
+        wrong("the messages don't get through")
+    time.sleep(3.2)
+    count, begun = len(peer.named("ACK")), time.monotonic()
+    peer.send(rep(1))
+    if not peer.waits(lambda it: len(it.named("ACK")) > count, 1):
+        wrong(f"it isn't there any more: {link.lines()}")
+    wants("it", link, 0, seconds=12)
+    if not 6 <= time.monotonic() - begun <= 9:
+        wrong(f"it stays for {time.monotonic() - begun:.1f} s")
+
+
+STILL, LEFT = "ddcmp: peer doesn't answer, still trying", "ddcmp: peer doesn't answer"
+
+
+def silent_at_the_end():
+    """Over UDP a peer that is silent once the input has ended is reported after seven tries, and given up as --attempts
+    has it; one that sends anything isn't silent, and over TCP its end would be reported."""
+    for options, is_heard, said, status in (((), False, [STILL], None), (("--attempts", "0"), False, [STILL], None),
+                                            (("--attempts", "9"), False, [STILL, LEFT], 3),
+                                            (("--attempts", "7"), False, [LEFT], 3), ((), True, [], None)):
+        link, peer, _local = datagram_peer(*options, answer=no_ack, timer=("--timer-ms", "100"))
+        peer.runs()
+        link.give(b"61\n")
+        begun = time.monotonic()
+        while time.monotonic() < begun + 2 and not link.has_ended():
+            time.sleep(0.2)
+            if is_heard:
+                peer.send(ack(0))
+        if link.run.returncode != status or [it for it in link.errors() if it in (STILL, LEFT)] != said:
+            wrong(f"{options} {is_heard}: status {link.run.returncode}, {link.errors()}")
+        link.kill()
+    with server() as it:
+        link = Link(f"connect:127.0.0.1:{it.getsockname()[1]}", *QUICK)
+        peer = Peer(it.accept()[0], no_ack)
+        peer.runs()
+        link.give(b"61\n")
+        time.sleep(1)
+        if not link.is_running() or STILL in link.errors():
+            wrong(f"TCP: {link.errors()}")
+        link.kill()
+
+
+def silent_for_five_minutes():
+    """That is when it is given up if --attempts isn't given; a peer that is heard now and then never is."""
+    gone, silent_one, _local = datagram_peer(answer=no_ack, timer=())
+    heard, peer, _local = datagram_peer(answer=no_ack, timer=())
+    for link, it in ((gone, silent_one), (heard, peer)):
+        it.runs()
+        link.give(b"61\n")
+    begun = time.monotonic()
+    while not gone.has_ended() and time.monotonic() < begun + 330:
+        time.sleep(10)
+        peer.send(ack(0))
+    took = time.monotonic() - begun
+    said = [it for it in gone.errors() if it in (STILL, LEFT)]
+    if gone.run.returncode != 3 or not 290 <= took <= 320 or said != [STILL, LEFT] or b"lost 1" not in gone.said:
+        wrong(f"status {gone.run.returncode} after {took:.0f} s: {gone.lines()}, {gone.errors()}")
+    if not heard.is_running() or heard.errors():
+        wrong(f"heard: status {heard.run.returncode}, {heard.errors()}")
+    heard.kill()
+
+
 def restarted_and_gone():
     """With --again a link that is done ends, idle until then, though the peer of its last line restarted."""
     with server() as it:
@@ -270,5 +359,5 @@ def restarted_and_gone():
 
 TRIALS = [absent_again, late_start, refused_then_silent, no_handshake, silent_caller, gone, absent, refused, slow_progress,
           lingers, lingers_on_a_bad_line, lingers_at_a_slow_reader, lingers_so_long, lingers_while_asked,
-          restarted_and_gone]
-LONG_TRIALS = []
+          asked_for_ever, last_ack_lost, silent_at_the_end, restarted_and_gone]
+LONG_TRIALS = [silent_for_five_minutes]

@@ -33,7 +33,7 @@ use Rattle.ddcmp_proto.specs.Bytes.{received_of}
 use Rattle.ddcmp_station.specs.Driving.{core_after_expire, core_after_take_arm, deadline_at, is_due}
 use Rattle.ddcmp_io.specs.Queue.{after_taken}
 use Rattle.ddcmp_station.specs.Linking.{LinkView, after_frame, after_frames, after_offered}
-use Rattle.ddcmp_station.specs.Linking.{after_sent, is_needed}
+use Rattle.ddcmp_station.specs.Linking.{after_sent, delivered, is_needed}
 use Rattle.ddcmp_station.specs.Linking.{after_polled, after_wake, polls, state_of, total_plus}
 use Rattle.ddcmp_station.specs.Linking.{with_state, after_offered_maintenance}
 use Rattle.ddcmp_session.specs.Calls.{SessionCall, InputRead, InputEnded, Connected, LineEnded}
@@ -53,9 +53,9 @@ use Rattle.ddcmp_session.specs.Session.{anew_in}
 use Rattle.ddcmp_session.specs.Session.{after_offered_in, has_gone, lost_by_start, lost_in}
 use Rattle.ddcmp_session.specs.Session.{starts, takes_in}
 use Rattle.ddcmp_session.specs.Course.{after_looked, after_notice, after_notices, lost_more}
-use Rattle.ddcmp_session.specs.Course.{after_acknowledged, after_refusal, after_noise}
-use Rattle.ddcmp_session.specs.Course.{after_progress, after_state, is_at, progress_of}
-use Rattle.ddcmp_session.specs.Course.{refusal_between, try_counted}
+use Rattle.ddcmp_session.specs.Course.{after_acknowledged, after_heard, after_refusal, after_noise}
+use Rattle.ddcmp_session.specs.Course.{after_progress, after_state, goes_on, is_at, progress_of}
+use Rattle.ddcmp_session.specs.Course.{next_pause, pause_begun, refusal_between, try_counted}
 use Rattle.ddcmp_session.specs.Timing.{PassesTime, after_failure, after_line}
 use Rattle.ddcmp_session.specs.Calls.{SessionStep}
 use Rattle.ddcmp_io.specs.declared.carrier.End.{End}
@@ -242,11 +242,16 @@ if-lost : (b : Bool) (x y : Course) (n : ℕ) → x.lost ≡ n → y.lost ≡ n 
 if-lost true x y n e f = e
 if-lost false x y n e f = f
 
+pause-lost : (ms : ℕ) (why : Option Nak) (c : Course) → (pause_begun ms why c).lost ≡ c.lost
+pause-lost ms why c =
+    if-lost (next_pause ms c.pause_ms == ms) (try_counted why c) c c.lost refl refl
+
 refusal-lost : (ms : ℕ) (why : Option Nak) (c : Course) → (after_refusal ms why c).lost ≡ c.lost
 refusal-lost ms None c = refl
 refusal-lost ms (Some reason) c =
-    if-lost c.is_refused _ _ c.lost
-    (if-lost (is_none c.pause) (try_counted (Some reason) c) c c.lost refl refl) refl
+    if-lost (not c.is_refused) _ _ c.lost refl
+    (if-lost (is_none c.pause) (pause_begun ms (Some reason) c) c c.lost (pause-lost ms (Some reason) c)
+    refl)
 
 state-lost : (s : State) (c : Course) → (after_state s c).lost ≡ c.lost
 state-lost state.Halted c = refl
@@ -258,8 +263,13 @@ state-lost state.Maintenance c = refl
 progress-lost : (p : Progress) (c : Course) → (after_progress p c).lost ≡ c.lost
 progress-lost p c = if-lost (is_at p c.progress) _ _ c.lost refl refl
 
-noise-lost : (needed : Bool) (p : Progress) (c : Course) → (after_noise needed p c).lost ≡ c.lost
-noise-lost needed p c = if-lost _ (record c { quiet_since = c.moment }) c c.lost refl refl
+noise-lost : (d : LinkView) (p : Progress) (c : Course) → (after_noise d p c).lost ≡ c.lost
+noise-lost d p c =
+    if-lost (goes_on p c.progress) _ _ c.lost refl
+    (if-lost (not (is_needed d)) c _ c.lost refl
+    (if-lost (nat_lt 0 (length d.station.core.station.out)) _ _ c.lost refl
+    (if-lost (delivered d) _ _ c.lost refl
+    (if-lost (nat_lt c.replies 7) _ c c.lost refl refl))))
 
 acknowledged-lost : (n : ℕ) (c : Course) → (after_acknowledged n c).lost ≡ c.lost
 acknowledged-lost n c = if-lost _ c _ c.lost refl refl
@@ -268,14 +278,14 @@ looked-lost : (ms : ℕ) (before : NakCounts) (d : LinkView) (c : Course)
     → (after_looked ms before d c).lost ≡ c.lost
 unfolding after_looked
 looked-lost ms before d c =
-    let one = after_acknowledged d.totals.acknowledged c in
+    let one = after_acknowledged d.totals.acknowledged (after_heard c) in
     let why = refusal_between before d.station.core.counters.nak_received in
     let two = after_refusal ms why one in
-    let three = after_noise (is_needed d) (progress_of d) two in
+    let three = after_noise d (progress_of d) two in
     let four = after_progress (progress_of d) three in
     state-lost (state_of d).state four ∙ progress-lost (progress_of d) three
-    ∙ noise-lost (is_needed d) (progress_of d) two ∙ refusal-lost ms why one
-    ∙ acknowledged-lost d.totals.acknowledged c
+    ∙ noise-lost d (progress_of d) two ∙ refusal-lost ms why one
+    ∙ acknowledged-lost d.totals.acknowledged (after_heard c)
 
 notice-lost : (n : Notice) (c : Course) → (after_notice n c).lost ≡ 0 → c.lost ≡ 0
 notice-lost notice.Running c e = e
@@ -314,8 +324,10 @@ received-lost s d ns = by (wants_line s)
 timeout-lost : (now : ℕ) (s : SessionView) → (after_timeout now s).course.lost ≡ s.course.lost
 timeout-lost now s =
     if-lost _ _ _ s.course.lost
-    (if-lost (expires now s && not (awaits_peer s)) _ _ s.course.lost refl refl)
-    (if-lost (expires now s && not (awaits_peer s)) _ _ s.course.lost refl refl)
+    (if-lost (expires now s && not (awaits_peer s)) _ _ s.course.lost
+    (if-lost s.is_read _ _ s.course.lost refl refl) refl)
+    (if-lost (expires now s && not (awaits_peer s)) _ _ s.course.lost
+    (if-lost s.is_read _ _ s.course.lost refl refl) refl)
 
 line-lost : (s : SessionView) → (after_line s).course.lost ≡ s.course.lost
 line-lost s =

@@ -22,10 +22,11 @@ use Rattle.ddcmp_station.specs.Linking.{with_state}
 use Rattle.ddcmp_streams.specs.Messages.{after_input, entries_of_input}
 use Rattle.ddcmp_session.specs.declared.course.Course.{Course}
 use Rattle.ddcmp_session.specs.Course.{after_looked, after_moment, after_notices}
-use Rattle.ddcmp_session.specs.Course.{after_opening_failed, after_pause, try_counted}
+use Rattle.ddcmp_session.specs.Course.{after_opening_failed, after_pause, after_unheard}
+use Rattle.ddcmp_session.specs.Course.{expiry_counted}
 use Rattle.ddcmp_session.specs.Session.{SessionView, after_last_line, after_time, after_timeout}
-use Rattle.ddcmp_session.specs.Session.{after_tried, after_unfinished, after_unheard, awaits_peer}
-use Rattle.ddcmp_session.specs.Session.{expires, form_of, wants_line}
+use Rattle.ddcmp_session.specs.Session.{after_tried, after_unfinished, awaits_peer}
+use Rattle.ddcmp_session.specs.Session.{expires, form_of, unless_read, wants_line}
 use Rattle.ddcmp_streams.specs.Options.{report_ms}
 use Rattle.ddcmp_session.specs.Timing.{after_failure, after_line, is_listener}
 use Rattle.ddcmp_session.specs.Calls.{Closed, Connected, Delivered, Filled, HasDelivered}
@@ -140,7 +141,8 @@ wake-inbox now d halted =
 timed-run : (now : ℕ) (s : SessionView)
     → (after_timeout now s).course.has_run ≡ s.course.has_run
 timed-run now s =
-    unheard (after_tried (expires now s) passed) ∙ tried (expires now s && not (awaits_peer passed))
+    unheard (after_tried (expires now s) passed)
+    ∙ tried (expires now s && not (awaits_peer passed)) s.is_read
   where
     passed : SessionView
     passed = record s {
@@ -148,19 +150,20 @@ timed-run now s =
       course = after_pause (after_moment (report_ms s.options) now s.course);
     }
 
-    unheard : (x : SessionView) → (after_unheard x).course.has_run ≡ x.course.has_run
+    unheard : (x : SessionView) → (unless_read x).course.has_run ≡ x.course.has_run
     unheard x = by (wants_line x)
       where
         by : (b : Bool)
-            → (cond b x.course (record x.course { quiet_since = x.course.moment })).has_run
+            → (cond b x.course (after_unheard x.course)).has_run
             ≡ x.course.has_run
         by true = refl
         by false = refl
 
-    tried : (b : Bool)
-        → (cond b (try_counted None passed.course) passed.course).has_run ≡ s.course.has_run
-    tried true = refl
-    tried false = refl
+    tried : (b is_read : Bool)
+        → (cond b (expiry_counted is_read passed.course) passed.course).has_run ≡ s.course.has_run
+    tried true true = refl
+    tried true false = refl
+    tried false is_read = refl
 
 passed-run : (s : SessionView) (c : Course) (now : ℕ)
     → (c ≡ (after_time now s).course)

@@ -8,7 +8,7 @@ use Rattle.ddcmp_station.specs.Linking.{LinkView, after_wake}
 use Rattle.ddcmp_session.specs.declared.course.Course.{Course}
 use Rattle.ddcmp_session.specs.declared.session.EndReason.TheVariants.{Time}
 use Rattle.ddcmp_session.specs.Course.{after_looked, after_moment, after_notice, after_notices}
-use Rattle.ddcmp_session.specs.Course.{after_pause, try_counted}
+use Rattle.ddcmp_session.specs.Course.{after_pause, after_unheard, expiry_counted, try_counted}
 use Rattle.ddcmp_session.specs.Session.{SessionView, after_timeout, after_tried, awaits_peer}
 use Rattle.ddcmp_session.specs.Session.{course_received, expires}
 use Rattle.ddcmp_streams.specs.Options.{report_ms}
@@ -56,8 +56,10 @@ moment-is now s =
     let c = after_pause (after_moment (report_ms s.options) now s.course) in
     let t = record s { link = after_wake now s.link; course = c } in
     let u = after_tried (expires now s) t in
-    let at = either (expires now s && not (awaits_peer t)) (try_counted None c) c now refl refl in
-    either (wants_line u) u.course (record u.course { quiet_since = u.course.moment }) now at at
+    let at =
+    either (expires now s && not (awaits_peer t)) (expiry_counted s.is_read c) c now
+    (either s.is_read _ (try_counted None c) now refl refl) refl in
+    either (wants_line u) u.course (after_unheard u.course) now at at
 
 pub time-is-over : (s new : SessionView) (now : ℕ) → now ≡ run_ends_at s
     → new ≡ after_timeout now s → end new ≡ Some Time

@@ -16,6 +16,7 @@ pub mod LoggedLaws
 pub mod NewRunLaws
 pub mod NoticeLaws
 pub mod OrderLaws
+pub mod PauseLaws
 pub mod RestLaws
 pub mod StopLaws
 pub mod TextLaws

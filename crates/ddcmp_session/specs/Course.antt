@@ -1,6 +1,6 @@
 -- How the run of a session proceeds: what its line has done, in moments and in tries.
 use Rattle.std.specs.Prelude.{ℕ, ◌+◌, ◌-◌, ◌*◌, ◌%◌, Bool, true, false, ◌&&◌, ◌||◌, not, ◌==◌}
-use Rattle.std.specs.Prelude.{nat_le, if◌then◌else◌, min, max, List, [], ◌∷◌}
+use Rattle.std.specs.Prelude.{nat_le, nat_lt, if◌then◌else◌, min, max, List, [], ◌∷◌, length}
 use Rattle.std.specs.Prelude.{Option, Some, None, is_none}
 use Rattle.ddcmp_frame.specs.declared.nak.Nak.{Nak}
 use Rattle.ddcmp_frame.specs.declared.nak.Nak.TheVariants as nak
@@ -11,7 +11,7 @@ use Rattle.ddcmp_core.specs.declared.state.State.{State}
 use Rattle.ddcmp_core.specs.declared.state.State.TheVariants.{Halted, IStart, AStart, Running}
 use Rattle.ddcmp_core.specs.declared.state.State.TheVariants.{Maintenance}
 use Rattle.ddcmp_station.specs.Driving.{is_due, later}
-use Rattle.ddcmp_station.specs.Linking.{LinkView, is_needed, state_of, total_plus}
+use Rattle.ddcmp_station.specs.Linking.{LinkView, delivered, is_needed, state_of, total_plus}
 use Rattle.ddcmp_session.specs.declared.course.Course.{Course}
 use Rattle.ddcmp_session.specs.declared.course.Progress.{Progress}
 
@@ -24,12 +24,16 @@ course_begun report_ms = record {
   moment = 0;
   report_at = if report_ms == 0 then never else report_ms;
   quiet_since = 0;
+  replies = 0;
   tries = 0;
   refusal = None;
+  unanswered = 0;
+  unanswered_since = 0;
   progress = None;
   acknowledged = 0;
   is_refused = false;
   pause = None;
+  pause_ms = 0;
   retry_seconds = 0;
   opens_at = 0;
   peer_has_started = false;
@@ -67,9 +71,11 @@ abbrev pub after_connecting : Course → Course
 after_connecting c = record c {
   tries = 0;
   refusal = None;
+  unanswered = 0;
   progress = None;
   is_refused = false;
   pause = None;
+  pause_ms = 0;
   peer_has_started = false;
   has_run_here = false;
   peer_restarted = false;
@@ -86,6 +92,25 @@ after_entering enters c = record (after_connecting c) {
 abbrev pub try_counted : Option Nak → Course → Course
 try_counted refusal c = record c { tries = min (c.tries + 1) 4294967295; refusal = refusal }
 
+-- An expiry of the reply timer is a try. Once all of the input was read it is noted since when the
+-- timer has expired without a byte of the peer.
+abbrev pub expiry_counted : Bool → Course → Course
+expiry_counted is_read c =
+    let tried = try_counted None c in if is_read
+    then record tried {
+      unanswered = min (c.unanswered + 1) 4294967295;
+      unanswered_since = if c.unanswered == 0 then c.moment else c.unanswered_since;
+    }
+    else tried
+
+-- The line isn't read, so the peer isn't heard: it counts neither as quiet nor as silent.
+abbrev pub after_unheard : Course → Course
+after_unheard c = record c { quiet_since = c.moment; unanswered = 0 }
+
+-- A byte was received.
+abbrev pub after_heard : Course → Course
+after_heard c = record c { unanswered = 0 }
+
 -- The reason of a NAK, other than a reply to REP, that was received between these two counts.
 abbrev pub refusal_between : NakCounts → NakCounts → Option Nak
 refusal_between before now =
@@ -98,21 +123,34 @@ refusal_between before now =
     else if not (before.other == now.other) then Some (nak.Other 0)
     else None
 
--- an acknowledged message ends a pause
+-- an acknowledged message ends a pause, and the next one is short again
 abbrev pub after_acknowledged : ℕ → Course → Course
 after_acknowledged acknowledged c =
     if acknowledged == c.acknowledged then c
-    else record c { acknowledged = acknowledged; is_refused = false; pause = None }
+    else record c { acknowledged = acknowledged; is_refused = false; pause = None; pause_ms = 0 }
 
--- From the second refusal on messages are held back; the beginning of such a pause counts as a try.
+-- A pause lasts 10 ms at first, then twice as long as the last one, and as long as the reply timer
+-- at most.
+abbrev pub next_pause : ℕ → ℕ → ℕ
+next_pause timer_ms last = min (max (2 * min last timer_ms) 10) timer_ms
+
+-- A pause as long as the reply timer counts as a try from its beginning on.
+abbrev pub pause_begun : ℕ → Option Nak → Course → Course
+pause_begun timer_ms refusal c =
+    let ms = next_pause timer_ms c.pause_ms in
+    record (if ms == timer_ms then try_counted refusal c else c) {
+      pause = Some (later c.moment ms);
+      pause_ms = ms;
+    }
+
+-- From the second refusal on messages are held back for a while. A refusal during such a pause
+-- changes nothing.
 abbrev pub after_refusal : ℕ → Option Nak → Course → Course
 after_refusal timer_ms None c = c
 after_refusal timer_ms (Some reason) c =
-    if c.is_refused
-    then record (if is_none c.pause then try_counted (Some reason) c else c) {
-      pause = Some (later c.moment timer_ms);
-    }
-    else record c { is_refused = true }
+    if not c.is_refused then record c { is_refused = true }
+    else if is_none c.pause then pause_begun timer_ms (Some reason) c
+    else c
 
 -- how far the startup handshake is
 abbrev pub step_of : State → ℕ
@@ -141,12 +179,19 @@ abbrev pub goes_on : Progress → Option Progress → Bool
 goes_on p None = true
 goes_on p (Some before) = not (p.step == before.step && p.received == before.received)
 
--- The line isn't quiet while the peer isn't done, nor just after the first bytes, a step of the
--- handshake or a received message.
-abbrev pub after_noise : Bool → Progress → Course → Course
-after_noise is_needed p c =
-    if is_needed || goes_on p c.progress
-    then record c { quiet_since = c.moment }
+-- The line isn't quiet just after the first bytes, a step of the handshake or a received message,
+-- nor while the peer isn't done: it is in the middle of a frame, or a reply to it is pending. Once
+-- all messages of this end are acknowledged, seven such replies count, until the peer brings
+-- something new.
+abbrev pub after_noise : LinkView → Progress → Course → Course
+after_noise d p c =
+    if goes_on p c.progress then record c { quiet_since = c.moment; replies = 0 }
+    else if not (is_needed d) then c
+    else if nat_lt 0 (length d.station.core.station.out)
+    then record c { quiet_since = c.moment; replies = 0 }
+    else if delivered d then record c { quiet_since = c.moment }
+    else if nat_lt c.replies 7
+    then record c { quiet_since = c.moment; replies = c.replies + 1 }
     else c
 
 -- any progress resets the number of tries
@@ -168,9 +213,9 @@ unfoldable pub after_looked : ℕ → NakCounts → LinkView → Course → Cour
 after_looked timer_ms before d c =
     after_state (state_of d).state
     (after_progress (progress_of d)
-    (after_noise (is_needed d) (progress_of d)
+    (after_noise d (progress_of d)
     (after_refusal timer_ms (refusal_between before d.station.core.counters.nak_received)
-    (after_acknowledged d.totals.acknowledged c))))
+    (after_acknowledged d.totals.acknowledged (after_heard c)))))
 
 -- messages that were read and will never be acknowledged
 abbrev pub lost_more : ℕ → Course → Course

@@ -37,4 +37,4 @@ pause_text seconds = codes "retry in " ++ decimal seconds ++ codes " s\n"
 -- Standard output was blocked after the time of the run was over.
 abbrev pub unread_text : List ℕ
 unread_text =
-    codes "ddcmp: " ++ codes "standard output isn't read: received messages are lost" ++ codes "\n"
+    codes "ddcmp: " ++ codes "standard output isn't read: received messages weren't written" ++ codes "\n"

@@ -16,13 +16,13 @@ use Rattle.ddcmp_session.specs.declared.text.TheConstants.{END_ROOM}
 use Rattle.ddcmp_session.specs.Course.{after_moment, after_pause, reports_at}
 use Rattle.ddcmp_session.specs.EndText.{end_line, line_down_text}
 use Rattle.ddcmp_streams.specs.Errors.{ErrorsView, HasLine, HasObject}
-use Rattle.ddcmp_session.specs.Reports.{given_up_text, report_members, report_text}
+use Rattle.ddcmp_session.specs.Reports.{given_up_text, report_members, report_text, silence_text}
 use Rattle.ddcmp_streams.specs.Messages.{after_last, entry_of_last, is_message_unfinished}
 use Rattle.ddcmp_streams.specs.Messages.{is_question}
 use Rattle.ddcmp_session.specs.Session.{SessionView, after_tried, expires, is_delivered}
 use Rattle.ddcmp_streams.specs.Options.{report_ms}
 use Rattle.ddcmp_session.specs.Text.{dropped_by, lost_line}
-use Rattle.ddcmp_session.specs.Timing.{is_given_up, stays}
+use Rattle.ddcmp_session.specs.Timing.{is_first_silence, is_given_up, stays}
 use Rattle.ddcmp_streams.specs.Trace.{TraceView, HasLines, timer_lines}
 
 -- The queued lines, the trace of the line if there is one, and how many messages of the input were
@@ -124,6 +124,12 @@ ReportsGivenUp s old new =
     MatchBool (is_given_up s) (HasLine SHORT_LINE (given_up_text s.course.refusal) old new)
     (new ≡ old)
 
+-- The peer is silent, and the tries go on.
+abbrev pub ReportsSilence : Bool → SessionView → ErrorsView → ErrorsView → Type 0
+ReportsSilence has_expired s old new =
+    MatchBool (is_first_silence has_expired s) (HasLine SHORT_LINE silence_text old new)
+    (new ≡ old)
+
 -- why the line is down, unless all is delivered and the session ends with that
 abbrev pub ReportsDown : Down → SessionView → ErrorsView → ErrorsView → Type 0
 ReportsDown why s old new =
@@ -143,4 +149,6 @@ pub record HandlesTimeout (now : ℕ) (s : SessionView) (old new : LogView) : Ty
   pub moment : PassesMoment now s old passed
   pub left : ErrorsView
   pub given_up : ReportsGivenUp (tried now s) passed left
-  pub traced : Traces (Wakes now (expires now s)) old.trace (record old { errors = left }) new
+  pub goes_on : ErrorsView
+  pub silence : ReportsSilence (expires now s) (tried now s) left goes_on
+  pub traced : Traces (Wakes now (expires now s)) old.trace (record old { errors = goes_on }) new

@@ -27,3 +27,7 @@ abbrev pub given_up_text : Option Nak → List ℕ
 given_up_text None = codes "ddcmp: peer " ++ codes "doesn't answer" ++ codes "\n"
 given_up_text (Some reason) =
     codes "ddcmp: peer refuses: " ++ reason_in_words reason ++ codes "\n"
+
+-- the peer is silent, and the tries go on
+abbrev pub silence_text : List ℕ
+silence_text = codes "ddcmp: peer " ++ codes "doesn't answer, still trying" ++ codes "\n"

@@ -27,7 +27,8 @@ use Rattle.ddcmp_streams.specs.Options.{report_ms}
 use Rattle.ddcmp_session.specs.declared.text.TheConstants.{LINE_ROOM, LOST_ROOM, NOTICES_ROOM}
 use Rattle.ddcmp_session.specs.Course.{course_begun, after_connecting, after_moment, after_pause}
 use Rattle.ddcmp_session.specs.Course.{after_entering, lost_more}
-use Rattle.ddcmp_session.specs.Course.{try_counted, after_looked, after_notices}
+use Rattle.ddcmp_session.specs.Course.{after_looked, after_notices, after_unheard}
+use Rattle.ddcmp_session.specs.Course.{expiry_counted}
 use Rattle.ddcmp_streams.specs.Messages.{messages_begun, message_in, after_input}
 use Rattle.ddcmp_streams.specs.Messages.{entries_of_input, after_last, entry_of_last}
 use Rattle.ddcmp_streams.specs.Messages.{is_message_unfinished, is_question, count_of}
@@ -205,17 +206,18 @@ after_time now s = record s { course = after_moment (report_ms s.options) now s.
 -- An expiry counts as a try if a peer is there.
 abbrev pub after_tried : Bool → SessionView → SessionView
 after_tried has_expired s = record s {
-  course = if has_expired && not (awaits_peer s) then try_counted None s.course else s.course;
+  course =
+      if has_expired && not (awaits_peer s) then expiry_counted s.is_read s.course else s.course;
 }
 
--- While the line isn't read the peer doesn't count as quiet.
-abbrev pub after_unheard : SessionView → SessionView
-after_unheard s = record s {
-  course = if wants_line s then s.course else record s.course { quiet_since = s.course.moment };
+-- While the line isn't read the peer isn't heard.
+abbrev pub unless_read : SessionView → SessionView
+unless_read s = record s {
+  course = if wants_line s then s.course else after_unheard s.course;
 }
 
 abbrev pub after_timeout : ℕ → SessionView → SessionView
-after_timeout now s = after_unheard (after_tried (expires now s) (record s {
+after_timeout now s = unless_read (after_tried (expires now s) (record s {
   link = after_wake now s.link;
   course = after_pause (after_moment (report_ms s.options) now s.course);
 }))

@@ -5,6 +5,7 @@ use Rattle.std.specs.Prelude.{min, if◌then◌else◌, Option, None, Some}
 use Rattle.ddcmp_core.specs.Table.{is_running}
 use Rattle.ddcmp_station.specs.Driving.{later}
 use Rattle.ddcmp_station.specs.Linking.{wakes_at as timer_at}
+use Rattle.ddcmp_io.specs.LineKinds.{is_connection}
 use Rattle.ddcmp_io.specs.declared.line_kind.LineKind.{LineKind}
 use Rattle.ddcmp_io.specs.declared.line_kind.LineKind.TheVariants.{Listen}
 use Rattle.ddcmp_session.specs.declared.session.EndReason.{EndReason}
@@ -47,10 +48,28 @@ most_tries attempts runs =
 abbrev pub too_many : ℕ → ℕ → Bool
 too_many most tries = nat_lt 0 most && nat_le most tries
 
+-- A line that doesn't report its end, and seven tries in a row without a byte of the peer: all of the
+-- input was read, so only the peer can go on.
+abbrev pub is_silent : SessionView → Bool
+is_silent s = not (is_connection s.kind) && nat_le 7 s.course.unanswered
+
+-- By default such a peer is given up five minutes after the first of these tries.
+abbrev pub is_gone : SessionView → Bool
+is_gone s =
+    s.options.attempts == 4294967295
+    && is_silent s
+    && nat_le (later s.course.unanswered_since 300000) s.course.moment
+
 abbrev pub is_given_up : SessionView → Bool
 is_given_up s =
     too_many (most_tries s.options.attempts (is_running s.link.station.core.station.state))
     s.course.tries
+    || is_gone s
+
+-- The seventh try has just expired, and it isn't the last one.
+abbrev pub is_first_silence : Bool → SessionView → Bool
+is_first_silence has_expired s =
+    has_expired && is_silent s && s.course.unanswered == 7 && not (is_given_up s)
 
 -- the moment when the run ends
 abbrev pub run_ends_at : SessionView → ℕ

@@ -1,11 +1,11 @@
 //! How the run of a session proceeds: when its line is left, and when it is opened again.
 ghost use Rattle.std.specs.Prelude.{◌≡◌};
 ghost use Rattle.ddcmp_session.specs.Course.{after_acknowledged, after_connecting, after_entering};
-ghost use Rattle.ddcmp_session.specs.Course.{after_looked};
+ghost use Rattle.ddcmp_session.specs.Course.{after_looked, after_unheard, expiry_counted};
 ghost use Rattle.ddcmp_session.specs.Course.{after_moment, after_noise, after_opening_failed};
 ghost use Rattle.ddcmp_session.specs.Course.{after_pause, after_progress, after_refusal};
 ghost use Rattle.ddcmp_session.specs.Course.{after_state, course_begun, goes_on, is_at};
-ghost use Rattle.ddcmp_session.specs.Course.{lost_more};
+ghost use Rattle.ddcmp_session.specs.Course.{lost_more, pause_begun};
 ghost use Rattle.ddcmp_session.specs.Course.{progress_of, refusal_between, reports_at, step_of};
 ghost use Rattle.ddcmp_session.specs.Course.{try_counted};
 
@@ -16,6 +16,12 @@ use ddcmp_station::{Link, NakCounts, State};
 const LEAST_SECONDS: u64 = 1;
 
 const MOST_SECONDS: u64 = 30;
+
+/// The first pause before messages that the peer refuses are retransmitted, in milliseconds.
+const FIRST_PAUSE_MS: u64 = 10;
+
+/// How many replies to frames that bring nothing new keep a line whose session is done.
+const MOST_REPLIES: u8 = 7;
 
 /// The progress of a link.
 #[derive(Clone, Copy)]
@@ -32,13 +38,15 @@ pub(crate) struct Progress {
 ///
 /// The line is to be left after too many tries in a row without progress: no message was
 /// acknowledged, none was received and the startup handshake made no step. A try is an expiry of
-/// the reply timer, or a pause since the peer refuses messages.
+/// the reply timer, or a pause of the same length since the peer refuses messages.
 ///
 /// After a NAK the station retransmits its messages at once, which repairs what a line has damaged.
 /// If a second NAK is received before the peer has acknowledged a message, they are held back for
-/// the time of the reply timer: a peer that refuses a message, such as one that is too long for it,
-/// gets at most a window of messages in that time. NAKs in reply to REP don't count, since REPs are
-/// sent at that pace anyway.
+/// 10 ms: a peer that is out of buffers for a moment gets them soon. Each further pause is twice as
+/// long, up to the time of the reply timer, until the peer acknowledges a message: a peer that
+/// refuses a message, such as one that is too long for it, gets at most a window of messages in
+/// each pause. A NAK during a pause doesn't prolong it. NAKs in reply to REP don't count, since REPs
+/// are sent at the pace of the reply timer anyway.
 #[derive(Clone, Copy)]
 pub(crate) struct Course {
     /// The last moment that was passed.
@@ -47,10 +55,16 @@ pub(crate) struct Course {
     pub(crate) report_at: u64,
     /// The moment since when the peer seems to be done.
     pub(crate) quiet_since: u64,
+    /// How many replies there were since then to frames that brought nothing new, at most 7.
+    pub(crate) replies: u8,
     /// How many tries there were in a row.
     pub(crate) tries: u32,
     /// Why the peer refused the last message, if that was the last try.
     pub(crate) refusal: Option<Nak>,
+    /// How many times the reply timer expired since a byte was received and all of the input was
+    /// read, and when it did so first.
+    pub(crate) unanswered: u32,
+    pub(crate) unanswered_since: u64,
     /// The progress of the link over this line.
     pub(crate) progress: Option<Progress>,
     /// How many messages had been acknowledged before the last NAK.
@@ -59,6 +73,8 @@ pub(crate) struct Course {
     pub(crate) is_refused: bool,
     /// Until when messages are held back, if they are.
     pub(crate) pause: Option<u64>,
+    /// The last such pause since a message was acknowledged, in milliseconds; 0 if there was none.
+    pub(crate) pause_ms: u64,
     /// The last pause before the line was opened again, in seconds.
     pub(crate) retry_seconds: u64,
     /// When the line may be opened.
@@ -83,12 +99,16 @@ impl Course {
             moment: 0,
             report_at: if report_ms == 0 { u64::MAX } else { report_ms },
             quiet_since: 0,
+            replies: 0,
             tries: 0,
             refusal: None,
+            unanswered: 0,
+            unanswered_since: 0,
             progress: None,
             acknowledged: 0,
             is_refused: false,
             pause: None,
+            pause_ms: 0,
             retry_seconds: 0,
             opens_at: 0,
             peer_has_started: false,
@@ -131,9 +151,11 @@ impl Course {
     {
         self.tries = 0;
         self.refusal = None;
+        self.unanswered = 0;
         self.progress = None;
         self.is_refused = false;
         self.pause = None;
+        self.pause_ms = 0;
         self.peer_has_started = false;
         self.has_run_here = false;
         self.peer_restarted = false;
@@ -157,19 +179,42 @@ impl Course {
         self.refusal = refusal;
     }
 
+    /// Counts an expiry of the reply timer as a try. `is_read` means that all of the input was read.
+    pub(crate) fn count_expiry(&mut self, is_read: bool)
+        ensures { self.new ≡ expiry_counted is_read self.old }
+    {
+        self.count_try(None);
+        if !is_read {
+            return;
+        }
+        if self.unanswered == 0 {
+            self.unanswered_since = self.moment;
+        }
+        self.unanswered = self.unanswered.saturating_add(1);
+    }
+
+    /// Notes that the line isn't read: what the peer may have to send isn't heard.
+    pub(crate) fn stop_hearing(&mut self)
+        ensures { self.new ≡ after_unheard self.old }
+    {
+        self.quiet_since = self.moment;
+        self.unanswered = 0;
+    }
+
     /// Looks at a link after it was fed. `before` are the NAKs that it had received before;
-    /// messages that the peer refuses again are held back for `timer_ms`.
+    /// messages that the peer refuses again are held back for `timer_ms` at most.
     #[tactic(auto, unfolding(crate::specs::Course::after_looked))]
     pub(crate) fn look(&mut self, before: &NakCounts, link: &Link, timer_ms: u32)
         ensures { self.new ≡ after_looked timer_ms before.now link.now self.old }
     {
+        self.unanswered = 0;
         self.note_acknowledged(link.totals().acknowledged);
         self.note_refusal(
             refusal_between(before, &link.counters().nak_received),
             timer_ms,
         );
         let progress = progress_of(link);
-        self.note_noise(link.is_needed(), progress);
+        self.note_noise(link, progress);
         self.note_progress(progress);
         self.note_state(link.state());
     }
@@ -182,10 +227,11 @@ impl Course {
             self.acknowledged = acknowledged;
             self.is_refused = false;
             self.pause = None;
+            self.pause_ms = 0;
         }
     }
 
-    /// Holds messages back if the peer refuses them again.
+    /// Begins a pause if the peer refuses messages again, and there is none.
     fn note_refusal(&mut self, refusal: Option<Nak>, timer_ms: u32)
         ensures { self.new ≡ after_refusal timer_ms refusal self.old }
     {
@@ -197,18 +243,50 @@ impl Course {
             return;
         }
         if self.pause.is_none() {
-            self.count_try(refusal);
+            self.begin_pause(refusal, timer_ms);
         }
-        self.pause = Some(self.moment.saturating_add(timer_ms as u64));
     }
 
-    /// Notes the moment if the peer isn't done, the handshake made a step or a message was
-    /// received, and after the first bytes of a line.
-    fn note_noise(&mut self, is_needed: bool, progress: Progress)
-        ensures { self.new ≡ after_noise is_needed progress self.old }
+    /// Holds messages back: for 10 ms at first, then twice as long as the last time, and for
+    /// `timer_ms` at most, which counts as a try.
+    fn begin_pause(&mut self, refusal: Option<Nak>, timer_ms: u32)
+        ensures { self.new ≡ pause_begun timer_ms refusal self.old }
     {
-        if is_needed || goes_on(progress, self.progress) {
+        let most = timer_ms as u64;
+        let doubled = 2 * self.pause_ms.min(most);
+        self.pause_ms = doubled.max(FIRST_PAUSE_MS).min(most);
+        self.pause = Some(self.moment.saturating_add(self.pause_ms));
+        if self.pause_ms == most {
+            self.count_try(refusal);
+        }
+    }
+
+    /// Notes the moment if the handshake made a step or a message was received, after the first
+    /// bytes of a line, and if the peer isn't done. A peer that asks again and again counts as done
+    /// after 7 replies.
+    fn note_noise(&mut self, link: &Link, progress: Progress)
+        ensures { self.new ≡ after_noise link.now progress self.old }
+    {
+        if goes_on(progress, self.progress) {
             self.quiet_since = self.moment;
+            self.replies = 0;
+            return;
+        }
+        if !link.is_needed() {
+            return;
+        }
+        if link.lost() > 0 {
+            self.quiet_since = self.moment;
+            self.replies = 0;
+            return;
+        }
+        if link.is_delivered() {
+            self.quiet_since = self.moment;
+            return;
+        }
+        if self.replies < MOST_REPLIES {
+            self.quiet_since = self.moment;
+            self.replies += 1;
         }
     }
 

@@ -6,6 +6,7 @@ mod buffers;
 mod chunk;
 mod course;
 mod devices;
+pub mod laws;
 mod link;
 mod report;
 mod session;

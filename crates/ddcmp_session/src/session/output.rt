@@ -135,7 +135,7 @@ impl Session {
             self.old.log.errors self.new.log.errors }
         ensures log { self.new.log ≡ record self.old.log { errors = self.new.log.errors } }
     {
-        let why = b"standard output isn't read: received messages are lost";
+        let why = b"standard output isn't read: received messages weren't written";
         self.errors.write_line(b"ddcmp: ", why, b"\n");
     }
 

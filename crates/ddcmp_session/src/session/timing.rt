@@ -13,9 +13,11 @@ impl Session {
     ghost use Rattle.std.specs.Prelude.{◌≡◌, ◌&&◌, not, Some, if◌then◌else◌};
     ghost use Rattle.ddcmp_session.specs.Course.{after_opening_failed};
     ghost use Rattle.ddcmp_session.specs.Logged.{HandlesTimeout, PassesMoment, ReportsGivenUp};
+    ghost use Rattle.ddcmp_session.specs.Logged.{ReportsSilence};
     ghost use Rattle.ddcmp_session.specs.Session.{after_time, after_timeout, after_tried};
-    ghost use Rattle.ddcmp_session.specs.Session.{after_unheard, awaits_peer, is_delivered};
-    ghost use Rattle.ddcmp_session.specs.Timing.{after_line, end, is_done, is_given_up, is_spent};
+    ghost use Rattle.ddcmp_session.specs.Session.{awaits_peer, is_delivered, unless_read};
+    ghost use Rattle.ddcmp_session.specs.Timing.{after_line, end, is_done, is_given_up, is_gone};
+    ghost use Rattle.ddcmp_session.specs.Timing.{is_silent, is_spent};
     ghost use Rattle.ddcmp_session.specs.Timing.{lingers_until, next_timeout, reopens, run_ends_at};
     ghost use Rattle.ddcmp_session.specs.Timing.{seconds_after_line, stays, unless_done, wait_ms};
     ghost use Rattle.ddcmp_session.specs.Timing.{wakes_at, wakes_without_line_at};
@@ -81,6 +83,7 @@ impl Session {
         let has_expired = self.link.wake(now);
         self.count_expiry(has_expired);
         self.report_given_up();
+        self.report_silence(has_expired);
         self.note_unheard();
         if let Some(trace) = &mut self.trace {
             trace.wake(now, has_expired, &mut self.errors);
@@ -93,16 +96,16 @@ impl Session {
             ≡ record self.old { state = after_tried has_expired self.old.state } }
     {
         if has_expired && !self.awaits_peer() {
-            self.course.count_try(None);
+            self.course.count_expiry(self.input_is_read);
         }
     }
 
-    /// Notes that the peer doesn't count as quiet, if the line isn't read.
+    /// Notes that the peer isn't heard, if the line isn't read.
     fn note_unheard(&mut self)
-        ensures { self.new ≡ record self.old { state = after_unheard self.old.state } }
+        ensures { self.new ≡ record self.old { state = unless_read self.old.state } }
     {
         if !self.wants_line() {
-            self.course.quiet_since = self.course.moment;
+            self.course.stop_hearing();
         }
     }
 
@@ -181,11 +184,45 @@ impl Session {
         !self.kind.is_connection() && !self.course.peer_has_started
     }
 
+    /// Returns whether the line is left since the peer doesn't reply or refuses messages.
     fn is_given_up(&self) -> bool
         ensures { result ≡ is_given_up self.now.state }
     {
         let most = most_tries(self.options.attempts, self.link.state() == State::Running);
-        most > 0 && most <= self.course.tries
+        (most > 0 && most <= self.course.tries) || self.is_gone()
+    }
+
+    /// Returns whether only the peer can go on and nothing was received of it for seven tries, on a
+    /// line that doesn't report its end.
+    fn is_silent(&self) -> bool
+        ensures { result ≡ is_silent self.now.state }
+    {
+        !self.kind.is_connection() && SILENT_TRIES <= self.course.unanswered
+    }
+
+    /// Returns whether such a peer is given up, which is the default after five minutes.
+    fn is_gone(&self) -> bool
+        ensures { result ≡ is_gone self.now.state }
+    {
+        let until = self.course.unanswered_since.saturating_add(SILENT_MS);
+        self.options.attempts == u32::MAX && self.is_silent() && until <= self.course.moment
+    }
+
+    /// Reports once that the peer is silent, and that the tries go on.
+    fn report_silence(&mut self, has_expired: bool)
+        ensures state { self.new.state ≡ self.old.state }
+        ensures errors { ReportsSilence has_expired self.old.state self.old.log.errors
+            self.new.log.errors }
+        ensures log { self.new.log ≡ record self.old.log { errors = self.new.log.errors } }
+    {
+        let is_first = has_expired
+            && self.is_silent()
+            && self.course.unanswered == SILENT_TRIES
+            && !self.is_given_up();
+        if is_first {
+            let text = b"doesn't answer, still trying";
+            self.errors.write_line(b"ddcmp: peer ", text, b"\n");
+        }
     }
 
     /// Reports why the line is left, if the peer doesn't reply or refuses messages.
@@ -288,6 +325,12 @@ impl Session {
 
 /// The number of tries after which a line is left if the station doesn't come to run, by default.
 const START_ATTEMPTS: u32 = 7;
+
+/// The number of tries without a received byte after which a peer counts as silent.
+const SILENT_TRIES: u32 = 7;
+
+/// How long a silent peer is tried by default, in milliseconds from the first try on.
+const SILENT_MS: u64 = 300_000;
 
 /// Returns the number of tries after which a line is left; 0 is never.
 fn most_tries(attempts: u32, runs: bool) -> u32

@@ -57,3 +57,7 @@ returns-in-Err-Line-clause-gone g c = λ e.
           (c.in-Err-Line.ensures.reports (Line c.in-Err-Line.why)
           (ap (λ f. Err f) c.in-Err-Line.field-0-is)),
     ))
+
+pub returns-in-Ok-false-clause-well : goal.returns-in-Ok-false-clause-well
+returns-in-Ok-false-clause-well g c = λ e.
+    may-at-end c.begin.new.session.state (c.begin.ensures.ended cc)

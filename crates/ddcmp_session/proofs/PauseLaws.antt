@@ -1,0 +1,370 @@
+-- What each call does to a pause of messages that the peer refuses.
+use Rattle.std.proofs.Common.{◌≡◌, ◌⊎◌, inl, inr, ◌∙◌, ap, sym, subst, refl, ℕ, ◌+◌, ◌≤◌, arith}
+use Rattle.std.proofs.Common.{Bool, true, false, cond, not, List, [], ◌∷◌, length}
+use Rattle.std.proofs.Common.{Option, Some, None, option_to_list}
+use Rattle.std.specs.Prelude.{◌==◌, ◌&&◌, is_none, nat_lt}
+use Rattle.std.proofs.lemmas.Bool.{le-leb}
+use Rattle.ddcmp_frame.specs.declared.nak.Nak.{Nak}
+use Rattle.ddcmp_input.specs.declared.entry.Entry.{Entry}
+use Rattle.ddcmp_input.specs.declared.entry.Entry.TheVariants as entry
+use Rattle.ddcmp_core.specs.declared.counters.NakCounts.{NakCounts}
+use Rattle.ddcmp_core.specs.declared.notice.Notice.{Notice}
+use Rattle.ddcmp_core.specs.declared.notice.Notice.TheVariants as notice
+use Rattle.ddcmp_core.specs.declared.state.State.{State}
+use Rattle.ddcmp_core.specs.declared.state.State.TheVariants as state
+use Rattle.ddcmp_proto.specs.Bytes.{notices_of_piece}
+use Rattle.ddcmp_station.specs.Driving.{is_due, later}
+use Rattle.ddcmp_station.specs.Linking.{LinkView, after_wake, delivered, is_needed, state_of}
+use Rattle.ddcmp_streams.specs.Messages.{after_input, after_last, entries_of_input, entry_of_last}
+use Rattle.ddcmp_streams.specs.Messages.{is_message_unfinished}
+use Rattle.ddcmp_streams.specs.Options.{report_ms}
+use Rattle.ddcmp_session.specs.declared.course.Course.{Course}
+use Rattle.ddcmp_session.specs.declared.course.Progress.{Progress}
+use Rattle.ddcmp_session.specs.Course.{after_acknowledged, after_looked, after_moment, after_noise}
+use Rattle.ddcmp_session.specs.Course.{after_heard, after_notice, after_notices}
+use Rattle.ddcmp_session.specs.Course.{after_opening_failed, after_unheard, expiry_counted}
+use Rattle.ddcmp_session.specs.Course.{after_pause, after_progress, after_refusal, after_state}
+use Rattle.ddcmp_session.specs.Course.{goes_on, is_at, lost_more, next_pause, pause_at, pause_begun}
+use Rattle.ddcmp_session.specs.Course.{progress_of, refusal_between, try_counted}
+use Rattle.ddcmp_session.specs.Session.{SessionView, after_connected, after_connecting_in}
+use Rattle.ddcmp_session.specs.Session.{after_entries, after_entry, after_input_end}
+use Rattle.ddcmp_session.specs.Session.{after_last_line, after_time, after_timeout, after_tried}
+use Rattle.ddcmp_session.specs.Session.{after_unfinished, awaits_peer, expires, lost_by_start, starts}
+use Rattle.ddcmp_session.specs.Session.{takes_end, wants_line}
+use Rattle.ddcmp_session.specs.Timing.{PassesTime, after_failure, after_line, is_listener}
+use Rattle.ddcmp_session.specs.Calls.{SessionCall, SessionDoes, InputRead, InputEnded, Connected}
+use Rattle.ddcmp_session.specs.Calls.{LineEnded, Received, Filled, LineTook, TimedOut, TimePassed}
+use Rattle.ddcmp_session.specs.Calls.{Delivered, OutputTook, Closed}
+
+-- A pause begins and ends within this time.
+record Begins (timer_ms : ℕ) (old new : Course) : Type 0 where
+  pub before : old.pause ≡ None
+  pub until : ℕ
+  pub pause : new.pause ≡ Some until
+  pub short : until ≤ new.moment + timer_ms
+
+-- It stays as it is, is over, or begins.
+abbrev PauseGoes : ℕ → Course → Course → Type 0
+PauseGoes timer_ms old new =
+    (new.pause ≡ old.pause) ⊎ ((new.pause ≡ None) ⊎ Begins timer_ms old new)
+
+record Keeps (old new : Course) : Type 0 where
+  pub pause : new.pause ≡ old.pause
+  pub moment : new.moment ≡ old.moment
+
+keeps : (old new : Course) → new ≡ old → Keeps old new
+keeps old new e =
+    record { pause = ap (λ (c : Course). c.pause) e; moment = ap (λ (c : Course). c.moment) e }
+
+then-keeps : (a b c : Course) → Keeps a b → Keeps b c → Keeps a c
+then-keeps a b c k l =
+    record { pause = l.pause ∙ k.pause; moment = l.moment ∙ k.moment }
+
+goes-on : (ms : ℕ) (a b c : Course) → PauseGoes ms a b → Keeps b c → PauseGoes ms a c
+goes-on ms a b c (inl e) k = inl (k.pause ∙ e)
+goes-on ms a b c (inr (inl e)) k = inr (inl (k.pause ∙ e))
+goes-on ms a b c (inr (inr g)) k =
+    inr
+    (inr
+    (record {
+      before = g.before;
+      until = g.until;
+      pause = k.pause ∙ g.pause;
+      short = (let e = k.moment in omega (arith, g.short, e));
+    }))
+
+either-pause : (b : Bool) (x y : Course) (p : Option ℕ) → x.pause ≡ p → y.pause ≡ p
+    → (cond b x y).pause ≡ p
+either-pause true x y p e f = e
+either-pause false x y p e f = f
+
+either-moment : (b : Bool) (x y : Course) (n : ℕ) → x.moment ≡ n → y.moment ≡ n
+    → (cond b x y).moment ≡ n
+either-moment true x y n e f = e
+either-moment false x y n e f = f
+
+either : (b : Bool) (x y c : Course) → Keeps c x → Keeps c y → Keeps c (cond b x y)
+either b x y c k l =
+    record {
+      pause = either-pause b x y c.pause k.pause l.pause;
+      moment = either-moment b x y c.moment k.moment l.moment;
+    }
+
+-- ---- bytes of the line
+
+begun : (ms : ℕ) (why : Option Nak) (c : Course) → c.pause ≡ None → Begins ms c (pause_begun ms why c)
+begun ms why c e =
+    let length = next_pause ms c.pause_ms in
+    let at =
+    either-moment (length == ms) (try_counted why c) c c.moment refl refl in
+    record {
+      before = e;
+      until = later c.moment length;
+      pause = refl;
+      short = omega (arith, at);
+    }
+
+refused : (ms : ℕ) (why : Option Nak) (n : ℕ) (c : Course)
+    → PauseGoes ms c (after_refusal ms why (after_acknowledged n c))
+refused ms why n c = by (n == c.acknowledged) why
+  where
+    begins : (reason : Nak) (p : Option ℕ) → c.pause ≡ p
+        → PauseGoes ms c (cond (is_none p) (pause_begun ms (Some reason) c) c)
+    begins reason None e = inr (inr (begun ms (Some reason) c e))
+    begins reason (Some until) e = inl refl
+
+    again : (reason : Nak) (first : Bool)
+        → PauseGoes ms c
+        (cond first (record c { is_refused = true })
+        (cond (is_none c.pause) (pause_begun ms (Some reason) c) c))
+    again reason true = inl refl
+    again reason false = begins reason c.pause refl
+
+    by : (same : Bool) (why : Option Nak)
+        → PauseGoes ms c
+        (after_refusal ms why
+        (cond same c
+        (record c { acknowledged = n; is_refused = false; pause = None; pause_ms = 0 })))
+    by true None = inl refl
+    by true (Some reason) = again reason (not c.is_refused)
+    by false None = inr (inl refl)
+    by false (Some reason) = inr (inl refl)
+
+heard : (ms : ℕ) (c new : Course) → PauseGoes ms (after_heard c) new → PauseGoes ms c new
+heard ms c new (inl e) = inl e
+heard ms c new (inr (inl e)) = inr (inl e)
+heard ms c new (inr (inr b)) =
+    inr
+    (inr (record { before = b.before; until = b.until; pause = b.pause; short = b.short }))
+
+in-state : (s : State) (c : Course) → Keeps c (after_state s c)
+in-state state.Halted c = keeps c c refl
+in-state state.IStart c = keeps c c refl
+in-state state.AStart c = record { pause = refl; moment = refl }
+in-state state.Running c = record { pause = refl; moment = refl }
+in-state state.Maintenance c = record { pause = refl; moment = refl }
+
+noise : (d : LinkView) (p : Progress) (c : Course) → Keeps c (after_noise d p c)
+noise d p c =
+    either (goes_on p c.progress) _ _ c (record { pause = refl; moment = refl })
+    (either (not (is_needed d)) c _ c (keeps c c refl)
+    (either (nat_lt 0 (length d.station.core.station.out)) _ _ c
+    (record { pause = refl; moment = refl })
+    (either (delivered d) _ _ c (record { pause = refl; moment = refl })
+    (either (nat_lt c.replies 7) _ c c (record { pause = refl; moment = refl })
+    (keeps c c refl)))))
+
+looked : (ms : ℕ) (before : NakCounts) (d : LinkView) (c : Course)
+    → PauseGoes ms c (after_looked ms before d c)
+unfolding after_looked
+looked ms before d c =
+    let p = progress_of d in
+    let why = refusal_between before d.station.core.counters.nak_received in
+    let one = after_refusal ms why (after_acknowledged d.totals.acknowledged (after_heard c)) in
+    let two = after_noise d p one in
+    let three = after_progress p two in
+    let four = after_state (state_of d).state three in
+    let progress =
+    either (is_at p two.progress) two (record two { progress = Some p; tries = 0; refusal = None })
+    two (keeps two two refl) (record { pause = refl; moment = refl }) in
+    goes-on ms c one four (heard ms c one (refused ms why d.totals.acknowledged (after_heard c)))
+    (then-keeps one three four (then-keeps one two three (noise d p one) progress)
+    (in-state (state_of d).state three))
+
+noticed : (n : Notice) (c : Course) → Keeps c (after_notice n c)
+noticed notice.Running c = keeps c c refl
+noticed notice.RunningAndHandedUp c = keeps c c refl
+noticed (notice.Acknowledged m) c = keeps c c refl
+noticed notice.HandedUp c = keeps c c refl
+noticed (notice.HandedUpAndAcknowledged m) c = keeps c c refl
+noticed notice.PeerStarts c = keeps c c refl
+noticed notice.PeerRestarted c = record { pause = refl; moment = refl }
+noticed (notice.Restarted count) c = record { pause = refl; moment = refl }
+noticed notice.MaintenanceSeen c = keeps c c refl
+noticed notice.MaintenanceHandedUp c = keeps c c refl
+noticed notice.MaintenanceDropped c = keeps c c refl
+
+all-noticed : (ns : List Notice) (c : Course) → Keeps c (after_notices ns c)
+unfolding after_notices
+all-noticed [] c = keeps c c refl
+all-noticed (n ∷ rest) c =
+    then-keeps c (after_notice n c) (after_notices rest (after_notice n c)) (noticed n c)
+    (all-noticed rest (after_notice n c))
+
+received : (s : SessionView) (d : LinkView) (ns : List Notice) (new : Course)
+    → new
+    ≡ cond (wants_line s)
+    (after_notices ns
+    (after_looked s.options.timer_ms s.link.station.core.counters.nak_received d s.course)) s.course
+    → PauseGoes s.options.timer_ms s.course new
+received s d ns new e =
+    subst (PauseGoes s.options.timer_ms s.course) (sym e) (by (wants_line s))
+  where
+    after : Course
+    after = after_looked s.options.timer_ms s.link.station.core.counters.nak_received d s.course
+
+    by : (b : Bool)
+        → PauseGoes s.options.timer_ms s.course (cond b (after_notices ns after) s.course)
+    by true =
+        goes-on s.options.timer_ms s.course after (after_notices ns after)
+        (looked s.options.timer_ms s.link.station.core.counters.nak_received d s.course)
+        (all-noticed ns after)
+    by false = inl refl
+
+-- ---- moments
+
+timed-pause : (now : ℕ) (s : SessionView)
+    → (after_timeout now s).course.pause ≡ pause_at now s.course.pause
+timed-pause now s =
+    let c = after_pause (after_moment (report_ms s.options) now s.course) in
+    let t = record s { link = after_wake now s.link; course = c } in
+    let u = after_tried (expires now s) t in
+    let p = pause_at now s.course.pause in
+    let at =
+    either-pause (expires now s && not (awaits_peer t)) (expiry_counted s.is_read c) c p
+    (either-pause s.is_read _ (try_counted None c) p refl refl) refl in
+    either-pause (wants_line u) u.course (after_unheard u.course) p at at
+
+ended-pause : (now until : ℕ) (p : Option ℕ) → p ≡ Some until → until ≤ now → pause_at now p ≡ None
+ended-pause now until p e at =
+    ap (pause_at now) e ∙ ap (λ b. cond b None (Some until)) (le-leb until now at)
+
+passed-pause : (now : ℕ) (p : Option ℕ) → (pause_at now p ≡ p) ⊎ (pause_at now p ≡ None)
+passed-pause now p = by (is_due now p)
+  where
+    by : (b : Bool) → (cond b None p ≡ p) ⊎ (cond b None p ≡ None)
+    by true = inr refl
+    by false = inl refl
+
+-- ---- each call
+
+entry-keeps : (e : Entry) (s : SessionView) → (after_entry e s).course ≡ s.course
+entry-keeps entry.Message s = refl
+entry-keeps entry.NotHexadecimal s = refl
+entry-keeps entry.TooLong s = refl
+entry-keeps entry.Empty s = refl
+
+entries-keep : (es : List Entry) (s : SessionView) → (after_entries es s).course ≡ s.course
+entries-keep [] s = refl
+entries-keep (e ∷ rest) s = entry-keeps e s
+
+input-end-keeps : (s : SessionView) → (after_input_end s).course ≡ s.course
+input-end-keeps s = by (takes_end s)
+  where
+    last : SessionView
+    last = record s { messages = after_last s.messages; is_read = true }
+
+    unfinished : (b : Bool) (x : SessionView)
+        → (cond b (record x { was_refused = true }) x).course ≡ x.course
+    unfinished true x = refl
+    unfinished false x = refl
+
+    by : (b : Bool) → (cond b (after_unfinished (after_last_line s)) s).course ≡ s.course
+    by true =
+        unfinished (is_message_unfinished (after_last_line s).messages) (after_last_line s)
+        ∙ entries-keep (option_to_list (entry_of_last s.messages)) last
+    by false = refl
+
+connected-pause : (b enters : Bool) (c : Course) → (after_connecting_in b enters c).pause ≡ None
+connected-pause true enters c = refl
+connected-pause false enters c = refl
+
+line-pause : (s : SessionView) → (after_line s).course.pause ≡ s.course.pause
+line-pause s =
+    either-pause s.course.has_run_here
+    (record s.course { retry_seconds = 0; opens_at = 0; quiet_since = s.course.moment })
+    (cond (is_listener s.kind) s.course (after_opening_failed s.course)) s.course.pause refl
+    (either-pause (is_listener s.kind) s.course (after_opening_failed s.course) s.course.pause refl
+    refl)
+
+time-passed : (old new : SessionView) → PassesTime old new → new.course.pause ≡ old.course.pause
+time-passed old new p = by p.course
+  where
+    passed : SessionView
+    passed = after_time p.now old
+
+    by : (new.course ≡ passed.course)
+        ⊎ ((new.course ≡ (after_failure passed).course) ⊎ (new.course ≡ (after_line passed).course))
+        → new.course.pause ≡ old.course.pause
+    by (inl e) = ap (λ (c : Course). c.pause) e
+    by (inr (inl e)) = ap (λ (c : Course). c.pause) e
+    by (inr (inr e)) = ap (λ (c : Course). c.pause) e ∙ line-pause passed
+
+same : (old new to : SessionView) → new ≡ to → to.course.pause ≡ old.course.pause
+    → PauseGoes old.options.timer_ms old.course new.course
+same old new to e f = inl (ap (λ (x : SessionView). x.course.pause) e ∙ f)
+
+pause-goes : (call : SessionCall) (text : List ℕ) (old new : SessionView)
+    → SessionDoes call text old new → PauseGoes old.options.timer_ms old.course new.course
+pause-goes (InputRead used) text old new d =
+    let es = entries_of_input used old.messages in
+    let s : SessionView = record old { messages = after_input used old.messages } in
+    same old new (after_entries es s) d.state
+    (ap (λ (c : Course). c.pause) (entries-keep es s))
+pause-goes InputEnded text old new d =
+    same old new (after_input_end old) d (ap (λ (c : Course). c.pause) (input-end-keeps old))
+pause-goes Connected text old new d =
+    inr
+    (inl
+    (ap (λ (x : SessionView). x.course.pause) d.0
+    ∙ connected-pause old.options.maintenance (starts old)
+    (lost_more (lost_by_start old) old.course)))
+pause-goes (LineEnded r) text old new d = inl (ap (λ (x : SessionView). x.course.pause) d.stays)
+pause-goes (Received used) text old new d =
+    received old new.link (notices_of_piece text used old.link.station.core) new.course d.course
+pause-goes (Filled frames) text old new d = inl (ap (λ (x : SessionView). x.course.pause) d.0)
+pause-goes (LineTook n) text old new d = inl (ap (λ (x : SessionView). x.course.pause) d)
+pause-goes (TimedOut now) text old new d = by (passed-pause now old.course.pause)
+  where
+    is : new.course.pause ≡ pause_at now old.course.pause
+    is = ap (λ (x : SessionView). x.course.pause) d ∙ timed-pause now old
+
+    by : (pause_at now old.course.pause ≡ old.course.pause)
+        ⊎ (pause_at now old.course.pause ≡ None)
+        → PauseGoes old.options.timer_ms old.course new.course
+    by (inl e) = inl (is ∙ e)
+    by (inr e) = inr (inl (is ∙ e))
+pause-goes TimePassed text old new d = inl (time-passed old new d)
+pause-goes (Delivered true) text old new d = inl (ap (λ (x : SessionView). x.course.pause) d.stays)
+pause-goes (Delivered false) text old new d =
+    inl (ap (λ (x : SessionView). x.course.pause) d.stays)
+pause-goes (OutputTook n) text old new d = inl (ap (λ (x : SessionView). x.course.pause) d)
+pause-goes (Closed left at reported) text old new d = inl (ap (λ (c : Course). c.pause) d.course)
+
+-- ---- the law
+
+some-none : {P : Type 0} {n : ℕ} → None ≡ Some n → P
+some-none e = cc
+
+same-some : {m n : ℕ} → Some m ≡ Some n → m ≡ n
+same-some e = cc
+
+pub never-prolonged : (call : SessionCall) (text : List ℕ) (old new : SessionView) (until : ℕ)
+    → SessionDoes call text old new → old.course.pause ≡ Some until
+    → (new.course.pause ≡ Some until) ⊎ (new.course.pause ≡ None)
+never-prolonged call text old new until d e = by (pause-goes call text old new d)
+  where
+    by : PauseGoes old.options.timer_ms old.course new.course
+        → (new.course.pause ≡ Some until) ⊎ (new.course.pause ≡ None)
+    by (inl same) = inl (same ∙ e)
+    by (inr (inl over)) = inr over
+    by (inr (inr b)) = some-none (sym b.before ∙ e)
+
+pub ends-in-time : (call : SessionCall) (text : List ℕ) (old new : SessionView) (until : ℕ)
+    → SessionDoes call text old new → old.course.pause ≡ None → new.course.pause ≡ Some until
+    → until ≤ new.course.moment + old.options.timer_ms
+ends-in-time call text old new until d e f = by (pause-goes call text old new d)
+  where
+    by : PauseGoes old.options.timer_ms old.course new.course
+        → until ≤ new.course.moment + old.options.timer_ms
+    by (inl same) = some-none (sym e ∙ sym same ∙ f)
+    by (inr (inl over)) = some-none (sym over ∙ f)
+    by (inr (inr b)) =
+        let is = same-some (sym b.pause ∙ f) in omega (arith, b.short, is)
+
+pub is-over : (text : List ℕ) (old new : SessionView) (now until : ℕ)
+    → SessionDoes (TimedOut now) text old new → old.course.pause ≡ Some until → until ≤ now
+    → new.course.pause ≡ None
+is-over text old new now until d e at =
+    ap (λ (x : SessionView). x.course.pause) d ∙ timed-pause now old
+    ∙ ended-pause now until old.course.pause e at
