@@ -299,7 +299,8 @@ fn ends(rt: &impl Abort, two: &mut Two, now: u64) {
     assert!(rt; two.b.end() == Some(EndReason::Done));
 }
 
-/// A message that the peer refuses is retransmitted once in each period of the reply timer.
+/// A message that the peer refuses is retransmitted after each pause: 13 of them double from 10 ms
+/// on, and the others are as long as the reply timer.
 #[test]
 fn sixty_days_of_refusals(rt: HostRuntime) {
     let rt = &rt;
@@ -308,17 +309,19 @@ fn sixty_days_of_refusals(rt: HostRuntime) {
     short.config.max = 1;
     let mut two = Two::new(rt, long, short);
     assert!(rt; two.a.input_read(b"6162\n") == 5);
-    let (mut wakes, mut now) = (0u64, 0u64);
+    let (mut wakes, mut now, mut pause) = (0u64, 0u64, 10u64);
     for _wake in 0..1_000_000u32 {
         two.wake(now);
         if two.a.end().is_some() {
             break;
         }
         assert!(rt; two.b.wakes_at() == SIXTY_MS);
-        now = now.saturating_add(TIMER_MS);
+        now = now.saturating_add(pause).min(SIXTY_MS);
+        pause = pause.saturating_mul(2).min(TIMER_MS);
         assert!(rt; two.a.wakes_at() == now);
         wakes = wakes.saturating_add(1);
     }
-    assert!(rt; (wakes, now, two.mails) == (86_400, SIXTY_MS, 0));
+    // The last pause begins 38,090 ms before the end.
+    assert!(rt; (wakes, now, two.mails) == (13 + 86_398 + 1, SIXTY_MS, 0));
     assert!(rt; (two.a.end(), two.b.end()) == (Some(EndReason::Time), Some(EndReason::Time)));
 }
