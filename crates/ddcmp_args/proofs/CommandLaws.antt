@@ -179,6 +179,7 @@ has_options_as o p t u (Tap tapped) e w h = record {
 }
 has_options_as o p t u (Link linked) e w h = record {
   line = h.line ∙ ap (λ x. unwrap_or x []) (w (codes "line"));
+  only = h.only ∙ w (codes "only");
   options = link_as linked.line.now o p linked.options e h.options;
 }
 has_options_as o p t u (Bridge bridged) e w h = record {
