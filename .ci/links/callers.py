@@ -110,8 +110,9 @@ def second_caller():
     link = Link("listen:127.0.0.1:0", "--again")
     port = listening(link)
     for count in range(3):
-        peer = Peer(connected(port), good)
+        first = connected(port)
         waiting = socket.create_connection(("127.0.0.1", port), 5)
+        peer = Peer(first, good)
         if not peer.runs(5):
             wrong(f"line {count} doesn't start: {link.errors()}")
             break

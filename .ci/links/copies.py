@@ -50,7 +50,7 @@ def beside_a_copier(form, window):
         for it in (*from_copier, *to_copier):
             os.close(it)
         two = Link(f"connect:127.0.0.1:{listening(one)}", *options)
-        sent = messages_in_all()
+        sent = messages_in_all(SIZE if form is binary else SIZE // 2)  # a byte is two digits
         two.give(form(sent), close=False)
         all_received(f"{form.__name__}, window {window}", two, form, sent)
         for it in (one, two):
