@@ -24,7 +24,7 @@ const NO_CALLERS: &str = "'--only' is for a line listen:HOST:PORT";
 
 /// Returns whether the callers of a line that has none are restricted.
 fn has_no_callers(line: LineName<'_>, only: Option<&str>) -> bool
-    ensures { result ≡ has_no_callers line.entry only }
+    ensures { result ≡ has_no_callers line.entry only.entry }
 {
     match line.kind() {
         LineKind::Listen => false,
@@ -68,7 +68,7 @@ pub trait LineSystem {
     ) -> Result<LinkOutcome, LinkFailure<'a>>
         ensures broken { (result ≡ Err Write) ↔ IsTrue (W.broken writer.new) }
         ensures known { (ended : Result OutcomeValue FaultValue)
-            → (lines self.now).links (word_of line.entry) (text_of only) options ≡ Some ended
+            → (lines self.now).links (word_of line.entry) (text_of only.entry) options ≡ Some ended
             → result ≡ ended };
 
     /// Opens two lines and passes frames on between them.
