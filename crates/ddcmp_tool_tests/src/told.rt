@@ -65,9 +65,12 @@ fn take_some(bytes: &[u8], taken: &mut ByteQueue) -> usize
 /// Appends an act to the log; returns false if an allocation fails.
 fn note(acts: &mut Vec<LineAct>, act: LineAct) -> bool
     ensures noted { result ≡ true → acts.new.items ≡ acts.old.items ++ act ∷ [] }
-    ensures failed { result ≡ false → acts.new ≡ acts.old }
+    ensures failed { result ≡ false → acts.new.items ≡ acts.old.items }
 {
-    acts.push(act).is_ok()
+    match acts.push(act) {
+        Ok(()) => true,
+        Err(_refused) => false,
+    }
 }
 
 impl KnownDevices {
@@ -276,30 +279,30 @@ fn devices_report_what_moved(rt: HostRuntime) {
     assert!(rt; sent.len() >= 29);
 }
 
-/// How many bytes each of two ends has received and sent at some moment.
+/// How many bytes an end has received and sent at some moment.
 #[derive(Clone, Copy)]
-struct Moment {
-    received: [usize; 2],
-    sent: [usize; 2],
+struct Progress {
+    received: usize,
+    sent: usize,
 }
 
-impl Moment {
+impl Progress {
     /// Takes the next act of an end, unless it would then have received more than the other has
     /// sent.
-    fn takes(&mut self, end: usize, act: Option<&LineAct>) -> bool {
+    fn takes(&mut self, other: Progress, act: Option<&LineAct>) -> bool {
         let Some(act) = act else {
             return false;
         };
         let n = act.bytes.len();
         if act.is_sent {
-            self.sent[end] = self.sent[end].saturating_add(n);
+            self.sent = self.sent.saturating_add(n);
             return true;
         }
-        let received = self.received[end].saturating_add(n);
-        if received > self.sent[1 - end] {
+        let received = self.received.saturating_add(n);
+        if received > other.sent {
             return false;
         }
-        self.received[end] = received;
+        self.received = received;
         true
     }
 }
@@ -307,15 +310,16 @@ impl Moment {
 /// Returns whether the acts of two ends have an order in which at each moment neither has received
 /// more bytes than the other has sent.
 fn have_order(first: &[LineAct], second: &[LineAct]) -> bool {
-    let mut now = Moment {
-        received: [0, 0],
-        sent: [0, 0],
+    let none = Progress {
+        received: 0,
+        sent: 0,
     };
+    let (mut one, mut other) = (none, none);
     let (mut i, mut j) = (0usize, 0usize);
     for _act in 0..first.len().saturating_add(second.len()) {
-        if now.takes(0, first.get(i)) {
+        if one.takes(other, first.get(i)) {
             i = i.saturating_add(1);
-        } else if now.takes(1, second.get(j)) {
+        } else if other.takes(one, second.get(j)) {
             j = j.saturating_add(1);
         } else {
             return false;
