@@ -26,11 +26,11 @@ _ddcmp() {
     station:*) words='--role --addr --turns --timer-ms --send --restart --counters -h --help' ;;
     tap:--listen | tap:--connect | tap:--max) ;;
     tap:*) words='--listen --connect --again --json --ladder --time --max -h --help' ;;
-    link:--only | link:--window | link:--inbox | link:--max | link:--syn | link:--timer-ms | link:--attempts | link:--linger-ms | link:--seconds | link:--report) ;;
+    link:--only | link:--window | link:--inbox | link:--max | link:--syn | link:--timer-ms | link:--attempts | link:--linger-ms | link:--baud | link:--seconds | link:--report) ;;
     link:--line) words='connect: listen: udp: device:' ;;
-    link:*) words='--line --only --window --inbox --max --syn --restart --timer-ms --attempts --linger-ms --seconds --report --binary --maintenance --stay --again --counters --trace --clock --json -h --help' ;;
+    link:*) words='--line --only --window --inbox --max --syn --restart --timer-ms --attempts --linger-ms --baud --seconds --report --binary --maintenance --stay --again --counters --trace --clock --json -h --help' ;;
     bridge:--seconds | bridge:--lose | bridge:--damage | bridge:--delay | bridge:--seed | bridge:--save-first | bridge:--save-second) ;;
-    bridge:*) words='--seconds --lose --damage --delay --seed --trace --ladder --json --save-first --save-second -h --help' ;;
+    bridge:*) words='--seconds --again --lose --damage --delay --seed --trace --ladder --json --save-first --save-second -h --help' ;;
   esac
   mapfile -t COMPREPLY < <(compgen -W "$words" -- "$word")
   if [ -n "$files" ] && [[ $word != -* ]]; then

@@ -128,11 +128,13 @@ link_as line o p made e h = record {
       subst (λ t. HasNumber 0 MOST (default_linger_of line made.timer_ms) t made.linger_ms)
       (e (codes "linger-ms")) h.linger_ms;
   seconds = subst (λ t. HasNumber 1 MOST MOST t made.seconds) (e (codes "seconds")) h.seconds;
+  baud = subst (λ t. HasNumber 0 MOST 0 t made.baud) (e (codes "baud")) h.baud;
   report = subst (λ t. HasNumber 0 MOST 0 t made.report) (e (codes "report")) h.report;
   form = subst (λ t. HasMessages t made.form) (e (codes "binary")) h.form;
   maintenance =
       subst (λ t. HasFlag t made.maintenance) (e (codes "maintenance")) h.maintenance;
   stay = subst (λ t. HasFlag t made.stay) (e (codes "stay")) h.stay;
+  awaits_end = h.awaits_end;
   again = subst (λ t. HasFlag t made.again) (e (codes "again")) h.again;
   counters = subst (λ t. HasFlag t made.counters) (e (codes "counters")) h.counters;
   trace = subst (λ t. HasFlag t made.trace) (e (codes "trace")) h.trace;
@@ -186,6 +188,7 @@ has_options_as o p t u (Bridge bridged) e w h = record {
   first = h.first ∙ ap (λ x. unwrap_or x []) (w (codes "first"));
   second = h.second ∙ ap (λ x. unwrap_or x []) (w (codes "second"));
   seconds = subst (λ t. HasNumber 1 MOST MOST t bridged.seconds) (e (codes "seconds")) h.seconds;
+  again = subst (λ t. HasFlag t bridged.again) (e (codes "again")) h.again;
   faults = record {
     lose = subst (λ t. HasNumber 0 100 0 t bridged.faults.lose) (e (codes "lose")) h.faults.lose;
     damage =

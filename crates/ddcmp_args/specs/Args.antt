@@ -144,10 +144,11 @@ line_app =
 abbrev pub link_app : App
 link_app =
     with_rule (with_rule (with_rule (with_rule (with_rule (with_rule (with_rule (with_rule
-    (with_rule (with_rule (with_rule (with_rule (with_rule (with_sizes line_app)
+    (with_rule (with_rule (with_rule (with_rule (with_rule (with_rule (with_sizes line_app)
     (number_rule (codes "timer-ms") 1 MOST))
     (number_rule (codes "attempts") 0 MOST))
     (number_rule (codes "linger-ms") 0 MOST))
+    (number_rule (codes "baud") 0 MOST))
     (number_rule (codes "seconds") 1 MOST))
     (number_rule (codes "report") 0 MOST))
     (flag_rule (codes "binary")))
@@ -163,11 +164,12 @@ link_app =
 abbrev pub bridge_app : App
 bridge_app =
     with_rule (with_rule (with_rule (with_rule (with_rule (with_rule (with_rule (with_rule
-    (with_rule (with_rule (with_rule (with_rule
+    (with_rule (with_rule (with_rule (with_rule (with_rule
     (new_app (codes "bridge"))
     (required (place_rule (codes "first"))))
     (required (place_rule (codes "second"))))
     (number_rule (codes "seconds") 1 MOST))
+    (flag_rule (codes "again")))
     (number_rule (codes "lose") 0 100))
     (number_rule (codes "damage") 0 100))
     (number_rule (codes "delay") 0 MOST))
@@ -352,10 +354,12 @@ pub record HasLinkOptions (line : Text) (option : Text → Option Text) (options
   pub linger_ms : HasNumber 0 MOST (default_linger_of line options.timer_ms)
       (option (codes "linger-ms")) options.linger_ms
   pub seconds : HasNumber 1 MOST MOST (option (codes "seconds")) options.seconds
+  pub baud : HasNumber 0 MOST 0 (option (codes "baud")) options.baud
   pub report : HasNumber 0 MOST 0 (option (codes "report")) options.report
   pub form : HasMessages (option (codes "binary")) options.form
   pub maintenance : HasFlag (option (codes "maintenance")) options.maintenance
   pub stay : HasFlag (option (codes "stay")) options.stay
+  pub awaits_end : options.awaits_end ≡ true
   pub again : HasFlag (option (codes "again")) options.again
   pub counters : HasFlag (option (codes "counters")) options.counters
   pub trace : HasFlag (option (codes "trace")) options.trace
@@ -379,6 +383,7 @@ pub record HasBridge (option text : Text → Option Text) (bridged : BridgeArgs)
   pub first : bridged.first.now ≡ unwrap_or (text (codes "first")) []
   pub second : bridged.second.now ≡ unwrap_or (text (codes "second")) []
   pub seconds : HasNumber 1 MOST MOST (option (codes "seconds")) bridged.seconds
+  pub again : HasFlag (option (codes "again")) bridged.again
   pub faults : HasFaults option bridged.faults
   pub delay : HasNumber 0 MOST 0 (option (codes "delay")) bridged.delay
   pub trace : HasFlag (option (codes "trace")) bridged.trace

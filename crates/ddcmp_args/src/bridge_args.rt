@@ -19,6 +19,8 @@ pub struct BridgeArgs<'a> {
     pub second: &'a str,
     /// After how many seconds it ends, if no line has ended before.
     pub seconds: u32,
+    /// Whether both lines are opened again if one ends, or can't be opened.
+    pub again: bool,
     pub faults: Faults,
     /// By how many milliseconds each frame is delayed.
     pub delay: u32,
@@ -44,7 +46,7 @@ LINE is one of:
   udp:LOCAL,REMOTE       datagrams between two addresses
   device:PATH            a serial device that is set up already, as by stty
 Only whole good frames are passed on, unchanged but for the faults that are asked for;
-it ends with one of its lines.
+it ends with one of its lines, unless --again is given.
 Output, at the end:
   > frames=F skipped=S damaged=D lost=L altered=A
       from the first line to the second: good frames, bytes that are in none, damaged
@@ -54,7 +56,7 @@ Output, at the end:
 };
 
 /// The options of a bridge.
-static BRIDGE_OPTIONS: [CommandOption; 12] = [
+static BRIDGE_OPTIONS: [CommandOption; 13] = [
     CommandOption {
         name: "first",
         takes: Takes::Place("LINE"),
@@ -75,6 +77,12 @@ static BRIDGE_OPTIONS: [CommandOption; 12] = [
         },
         is_required: false,
         help: "End after N seconds, whatever the state",
+    },
+    CommandOption {
+        name: "again",
+        takes: Takes::Nothing,
+        is_required: false,
+        help: "Open both lines again if one ends or can't be opened",
     },
     CommandOption {
         name: "lose",
@@ -154,6 +162,7 @@ pub(crate) fn bridge_given<'a>(options: &ArgMatches<'a>) -> BridgeArgs<'a>
         first: text_given(options, "first"),
         second: text_given(options, "second"),
         seconds: number_given(options, "seconds", 1, u32::MAX, u32::MAX),
+        again: flag_given(options, "again"),
         faults: Faults {
             lose: number_given(options, "lose", 0, 100, 0),
             damage: number_given(options, "damage", 0, 100, 0),

@@ -136,8 +136,8 @@ pub fn link_is_asked()
 
 /// The words `ddcmp bridge` with two lines ask for the command that passes frames on between them.
 /// The names of the lines are used as they were written, and `--seconds`, `--lose`, `--damage`,
-/// `--delay` and `--seed` as numbers; `--trace`, `--ladder` and `--json` are accepted, and the
-/// names of `--save-first` and `--save-second`.
+/// `--delay` and `--seed` as numbers; `--again`, `--trace`, `--ladder` and `--json` are accepted,
+/// and the names of `--save-first` and `--save-second`.
 pub fn bridge_is_asked()
     ensures plain { IsAsked (codes "ddcmp" ∷ codes "bridge" ∷ codes "listen:127.0.0.1:7000"
         ∷ codes "device:/dev/ttyS0" ∷ []) (codes "bridge") }
@@ -156,6 +156,7 @@ pub fn bridge_is_asked()
     ensures seed { option_in (codes "ddcmp" ∷ codes "bridge" ∷ codes "--seed=7" ∷ [])
         (codes "seed") ≡ Some (codes "7") }
     ensures no_seed { option_in (codes "ddcmp" ∷ codes "bridge" ∷ []) (codes "seed") ≡ None }
+    ensures again { IsSwitch (codes "bridge") (codes "--again") (codes "again") }
     ensures trace { IsSwitch (codes "bridge") (codes "--trace") (codes "trace") }
     ensures ladder { IsSwitch (codes "bridge") (codes "--ladder") (codes "ladder") }
     ensures json { IsSwitch (codes "bridge") (codes "--json") (codes "json") }

@@ -70,7 +70,7 @@ static LINE_OPTIONS: [CommandOption; 2] = [
 ];
 
 /// The options of a link apart from its line and its sizes.
-static LINK_OPTIONS: [CommandOption; 13] = [
+static LINK_OPTIONS: [CommandOption; 14] = [
     CommandOption {
         name: "timer-ms",
         takes: Takes::Number {
@@ -97,6 +97,15 @@ static LINK_OPTIONS: [CommandOption; 13] = [
         },
         is_required: false,
         help: "Once done, stay until no reply was due for N ms [default: 500 over TCP]",
+    },
+    CommandOption {
+        name: "baud",
+        takes: Takes::Number {
+            low: 0,
+            high: u32::MAX,
+        },
+        is_required: false,
+        help: "Write to a device at this speed, 0: as it takes them [default: 0]",
     },
     CommandOption {
         name: "seconds",
@@ -221,11 +230,13 @@ pub(crate) fn link_given<'a>(options: &ArgMatches<'a>) -> LinkArgs<'a>
         timer_ms,
         attempts: number_given(options, "attempts", 0, u32::MAX, DEFAULT_ATTEMPTS),
         linger_ms: number_given(options, "linger-ms", 0, u32::MAX, linger_ms),
+        baud: number_given(options, "baud", 0, u32::MAX, 0),
         seconds: number_given(options, "seconds", 1, u32::MAX, u32::MAX),
         report: number_given(options, "report", 0, u32::MAX, 0),
         form: messages_given(options),
         maintenance: flag_given(options, "maintenance"),
         stay: flag_given(options, "stay"),
+        awaits_end: true,
         again: flag_given(options, "again"),
         counters: flag_given(options, "counters"),
         trace: flag_given(options, "trace"),

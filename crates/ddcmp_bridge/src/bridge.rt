@@ -70,6 +70,19 @@ impl Bridge {
         Some(Bridge { there, back })
     }
 
+    /// Drops all that was received and not passed on, and counts from 0 again, for two other lines:
+    /// nothing of a frame that was half passed on goes to them. The faults go on, as if the lines
+    /// were the same.
+    pub fn restart(&mut self)
+        ensures joins { Joins self.old.there.direction.relay.draws
+            self.old.back.direction.relay.draws self.new no_traffic }
+        ensures faults { (from : EndValue) → faults_on from self.new ≡ faults_on from self.old }
+        ensures delay { (from : EndValue) → delay_on from self.new ≡ delay_on from self.old }
+    {
+        self.there.restart();
+        self.back.restart();
+    }
+
     /// Passes frames on both ways, until a line is down and all that was received over it was
     /// passed on, the time is over, or the lines stop it.
     pub fn run<L: LinePair>(&mut self, lines: &mut L, ends_at: u64) -> BridgeStop

@@ -1,6 +1,6 @@
 //! Delayed frames.
 ghost use Rattle.std.specs.Prelude.{◌≡◌, ◌↔◌, ◌<◌, ◌≤◌, [], ◌∷◌, ◌++◌, length, IfSome, IsTrue};
-ghost use Rattle.std.specs.Prelude.{Some};
+ghost use Rattle.std.specs.Prelude.{Some, false};
 ghost use Rattle.ddcmp_bridge.specs.Delaying.{after_taking, due_at, first_length, next_due};
 
 use crate::relay::FRAME;
@@ -78,6 +78,28 @@ impl DelayLine {
             from: 0,
             spare,
         })
+    }
+
+    /// Drops all frames.
+    pub(crate) fn clear(&mut self)
+        ensures held { self.new.held ≡ [] }
+        ensures limit { self.new.limit ≡ self.old.limit }
+    {
+        while self.drop_first() {}
+    }
+
+    /// Drops the first frame; returns whether there was one.
+    fn drop_first(&mut self) -> bool
+        ensures some { IsTrue result → length self.new.held < length self.old.held }
+        ensures none { result ≡ false → self.new.held ≡ [] }
+        ensures limit { self.new.limit ≡ self.old.limit }
+    {
+        let Some(first) = self.held.front() else {
+            return false;
+        };
+        let left = first.frame.len() - self.from;
+        self.took(left);
+        true
     }
 
     /// Returns whether one more frame fits.

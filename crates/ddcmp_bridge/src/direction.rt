@@ -84,6 +84,19 @@ impl Direction {
         })
     }
 
+    /// Drops all bytes and frames, and counts from 0 again. The faults go on as if nothing was
+    /// dropped.
+    pub fn restart(&mut self)
+        ensures directs { Directs self.old.relay.draws self.new [] [] }
+        ensures faults { self.new.relay.faults ≡ self.old.relay.faults }
+        ensures delay { self.new.delay ≡ self.old.delay }
+        ensures held { self.new.held ≡ [] }
+        ensures limit { self.new.limit ≡ self.old.limit }
+    {
+        self.relay.restart();
+        self.line.clear();
+    }
+
     /// Returns how many more bytes may be received.
     pub fn countable(&self) -> u64
         ensures { result + self.now.relay.frames.offset + 1 ≡ 2 ^ 64 }

@@ -75,6 +75,17 @@ impl Flow {
         })
     }
 
+    /// Drops all that was received, for another line.
+    pub(crate) fn restart(&mut self)
+        ensures flows { Flows self.old.direction.relay.draws self.new
+            (record { came = []; gone = [] }) }
+        ensures faults { self.new.direction.relay.faults ≡ self.old.direction.relay.faults }
+        ensures delay { self.new.direction.delay ≡ self.old.direction.delay }
+    {
+        self.direction.restart();
+        (self.start, self.end) = (0, 0);
+    }
+
     /// Reads once and writes once, without blocking; returns whether anything moved. `now` is the
     /// moment of what is received.
     pub(crate) fn pass<L: LinePair>(&mut self, from: End, lines: &mut L, now: u64) -> bool

@@ -159,6 +159,22 @@ impl Relay {
         })
     }
 
+    /// Drops all bytes, and counts from 0 again. The faults go on as if no bytes were dropped.
+    pub fn restart(&mut self)
+        ensures relays { Relays self.old.draws self.new [] [] }
+        ensures faults { self.new.faults ≡ self.old.faults }
+        ensures idle { self.new.waiting ≡ [] }
+    {
+        self.frames.reset();
+        self.from = 0;
+        self.end = 0;
+        self.good = 0;
+        self.bytes = 0;
+        self.items = 0;
+        self.lost = 0;
+        self.altered = 0;
+    }
+
     /// Returns how many more bytes may be received.
     pub fn countable(&self) -> u64
         ensures { result + self.now.frames.offset + 1 ≡ 2 ^ 64 }

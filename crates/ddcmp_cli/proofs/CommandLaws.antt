@@ -211,6 +211,11 @@ is_tap (Tap tapped) = true
 is_tap (Link linked) = false
 is_tap (Bridge bridged) = false
 
+-- the arguments of a link; of another command, others
+abbrev pub linked_or : LinkArgs → Command → LinkArgs
+linked_or other (Link linked) = linked
+linked_or other _ = other
+
 abbrev pub is_link : Command → Bool
 is_link (Explain explained) = false
 is_link (Simulate scripted) = false

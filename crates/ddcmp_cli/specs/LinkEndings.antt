@@ -8,7 +8,7 @@ use Rattle.ddcmp_device.specs.Events.{open_fault_text}
 use Rattle.ddcmp_link.specs.declared.fault.LinkFailure.{LinkFailure}
 use Rattle.ddcmp_link.specs.declared.fault.LinkFailure.TheVariants as failure
 use Rattle.ddcmp_device.specs.declared.line_name.LineName.{LineName}
-use Rattle.ddcmp_device.specs.declared.line_name.LineName.TheVariants.{Listen}
+use Rattle.ddcmp_device.specs.declared.line_name.LineName.TheVariants.{Device, Listen}
 use Rattle.ddcmp_session.specs.declared.link.LinkOutcome.{LinkOutcome}
 use Rattle.ddcmp_session.specs.declared.link.LinkOutcome.TheVariants as outcome
 use Rattle.ddcmp_args.specs.declared.link_args.LinkArgs.{LinkArgs}
@@ -35,6 +35,7 @@ no_lines_known = record { links = λ word only options. None }
 abbrev pub LinkEnds : Result LinkOutcome LinkFailure → Ending → Type 0
 LinkEnds (Ok outcome.Delivered) ending = ending ≡ Done
 LinkEnds (Ok outcome.SomeRefused) ending = ending ≡ SomeRefused
+LinkEnds (Ok outcome.TooLong) ending = ending ≡ Faulted Ended
 LinkEnds (Err (failure.Open why)) ending = IsLineUnopened (open_fault_text why) ending
 LinkEnds (Err failure.Ended) ending = ending ≡ Faulted Ended
 LinkEnds (Err (failure.Lost count)) ending = ending ≡ Faulted (Lost count)
@@ -55,6 +56,11 @@ abbrev pub has_no_callers : LineName → Option (Bor (List ℕ)) → Bool
 has_no_callers (Listen at) only = false
 has_no_callers _ only = is_some only
 
+-- A speed is given, and the line is no device.
+abbrev pub has_no_speed : LineName → Options → Bool
+has_no_speed (Device path) o = false
+has_no_speed _ o = not (o.baud == 0)
+
 -- The result of `link`. A LINE that isn't one is a usage error, and so are options that can't be
 -- used; else a link was run over the line of that name, with the callers of that host and with these
 -- options, and the program ends as the link did.
@@ -63,9 +69,12 @@ Links lines linked ending =
     (((line : LineName) → word_of line ≢ linked.line.now) × (is_refusal ending ≡ true))
     ⊎ ((line : LineName) × (word_of line ≡ linked.line.now)
     × (has_no_callers line linked.only ≡ true) × (is_refusal ending ≡ true))
+    ⊎ ((line : LineName) × (word_of line ≡ linked.line.now)
+    × (has_no_speed line linked.options ≡ true) × (is_refusal ending ≡ true))
     ⊎ ((means_nothing linked.options ≡ true) × (is_refusal ending ≡ true))
     ⊎ ((line : LineName) × (word_of line ≡ linked.line.now)
-    × (has_no_callers line linked.only ≡ false) × (means_nothing linked.options ≡ false)
+    × (has_no_callers line linked.only ≡ false) × (has_no_speed line linked.options ≡ false)
+    × (means_nothing linked.options ≡ false)
     × (ended : Result LinkOutcome LinkFailure)
     × ((known : Result LinkOutcome LinkFailure)
     → lines.links (word_of line) (text_of linked.only) linked.options ≡ Some known → ended ≡ known)

@@ -83,6 +83,7 @@ pub(crate) fn bridge<S: LineSystem, W: Sink>(
     };
     let options = BridgeOptions {
         seconds: args.seconds,
+        again: args.again,
         faults: args.faults,
         delay_ms: args.delay,
         trace: traced_as(args),

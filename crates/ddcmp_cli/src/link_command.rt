@@ -1,6 +1,7 @@
 //! `link`: messages between a line and the program's streams.
 ghost use Rattle.std.specs.Prelude.{◌≡◌, ◌↔◌, Err, IsTrue, false};
-ghost use Rattle.ddcmp_cli.specs.LinkEndings.{LinkEnds, Links, has_no_callers, means_nothing};
+ghost use Rattle.ddcmp_cli.specs.LinkEndings.{LinkEnds, Links, has_no_callers, has_no_speed};
+ghost use Rattle.ddcmp_cli.specs.LinkEndings.{means_nothing};
 
 use ddcmp_args::link_args::{DEFAULT_ATTEMPTS, DEFAULT_TIMER_MS, LinkArgs};
 use ddcmp_commands::usage::{no_line, usage};
@@ -21,6 +22,19 @@ const NOT_IN_MAINTENANCE: &str = "'--maintenance' can't be used with \
 
 /// The usage error for `--only` with a line that has no callers.
 const NO_CALLERS: &str = "'--only' is for a line listen:HOST:PORT";
+
+/// The usage error for `--baud` with a line that is no device.
+const NO_DEVICE: &str = "'--baud' is for a line device:PATH";
+
+/// Returns whether a speed is given for a line that has none.
+fn has_no_speed(line: LineName<'_>, options: &Options) -> bool
+    ensures { result ≡ has_no_speed line.entry options.now }
+{
+    match line.kind() {
+        LineKind::Device => false,
+        LineKind::Connect | LineKind::Listen | LineKind::Datagrams => options.baud != 0,
+    }
+}
 
 /// Returns whether the callers of a line that has none are restricted.
 fn has_no_callers(line: LineName<'_>, only: Option<&str>) -> bool
@@ -127,6 +141,9 @@ pub(crate) fn link<S: LineSystem, R: Source, W: Sink>(
     if has_no_callers(line, args.only) {
         return usage(alloc, NO_CALLERS);
     }
+    if has_no_speed(line, &args.options) {
+        return usage(alloc, NO_DEVICE);
+    }
     if means_nothing(&args.options) {
         return usage(alloc, NOT_IN_MAINTENANCE);
     }
@@ -142,6 +159,7 @@ fn ending_of(alloc: Global, ended: Result<LinkOutcome, LinkFailure<'_>>) -> Endi
     match ended {
         Ok(LinkOutcome::Delivered) => Ending::Done,
         Ok(LinkOutcome::SomeRefused) => Ending::SomeRefused,
+        Ok(LinkOutcome::TooLong) => Ending::Fault(Fault::Ended),
         Err(LinkFailure::Open(fault)) => no_line(alloc, &fault),
         Err(LinkFailure::Ended) => Ending::Fault(Fault::Ended),
         Err(LinkFailure::Lost(count)) => Ending::Fault(Fault::Lost(count)),

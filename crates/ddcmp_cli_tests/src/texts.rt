@@ -215,8 +215,20 @@ fn lines(rt: HostRuntime) -> Result<(), Fail> {
 
 #[test]
 fn links(rt: HostRuntime) -> Result<(), Fail> {
-    reads(&rt, &Fault::Lost(1), "1 message lost")?;
-    reads(&rt, &Fault::Lost(2), "2 messages lost")?;
+    reads(
+        &rt,
+        &Fault::Lost(1),
+        "1 message not acknowledged: it may have arrived",
+    )?;
+    reads(
+        &rt,
+        &Fault::Lost(2),
+        "2 messages not acknowledged: they may have arrived",
+    )?;
     let most = Fault::Lost(u64::MAX);
-    reads(&rt, &most, "18446744073709551615 messages lost")
+    reads(
+        &rt,
+        &most,
+        "18446744073709551615 messages not acknowledged: they may have arrived",
+    )
 }

@@ -92,8 +92,11 @@ impl fmt::Display for Fault {
             Fault::Memory => ScriptFault::Memory.fmt(f),
             Fault::Carrier => ScriptFault::Carrier.fmt(f),
             Fault::Ended => ServeFault::Line(LineFault::Ended).fmt(f),
-            Fault::Lost(1) => f.write_str("1 message lost"),
-            Fault::Lost(count) => write!(f, "{count} messages lost"),
+            Fault::Lost(1) => f.write_str("1 message not acknowledged: it may have arrived"),
+            Fault::Lost(count) => write!(
+                f,
+                "{count} messages not acknowledged: they may have arrived"
+            ),
         }
     }
 }

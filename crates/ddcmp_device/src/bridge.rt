@@ -3,12 +3,13 @@ ghost use Rattle.std.specs.Prelude.{◌≡◌, ◌*◌};
 
 use crate::bridge_errors::BridgeErrors;
 use crate::bridge_intake::Intake;
-use crate::bridge_line::BridgeLines;
+use crate::bridge_line::{BridgeLines, BridgePoll};
 use crate::bridge_live::LiveLines;
-use crate::bridge_opening::{Opening, no_poller};
+use crate::bridge_opening::{Openings, no_poller};
 use crate::bridge_save::{Save, remove};
 use crate::bridge_trace::BridgeTrace;
 use crate::fault::{Attempt, Cause, OpenFault};
+use crate::line::Line;
 use crate::line_name::LineName;
 use crate::system::System;
 use ddcmp_bridge::{Bridge, BridgeStop, Counts, Faults, LinePair};
@@ -45,6 +46,8 @@ pub enum BridgeFault<'a> {
 pub struct BridgeOptions<'a> {
     /// After how many seconds it ends, if no line has ended before.
     pub seconds: u32,
+    /// Whether both lines are opened again if one has ended, or can't be opened.
+    pub again: bool,
     pub faults: Faults,
     /// By how many milliseconds each frame is delayed.
     pub delay_ms: u32,
@@ -56,7 +59,7 @@ pub struct BridgeOptions<'a> {
 }
 
 /// Passes the good frames received over each line on to the other, with the faults that are set,
-/// until a line ends or the time is over.
+/// until a line ends, and isn't opened again, or the time is over.
 pub fn bridge_lines<'a, S>(
     system: &S,
     alloc: Global,
@@ -78,9 +81,9 @@ where
             return Err(fault);
         }
     };
-    let ended = match Ways::new(system, alloc, &options, save_first, save_second) {
-        Some(ways) => ways.bridge(system, alloc, first, second, &options),
-        None => Err(BridgeFault::Memory),
+    let ended = match prepare(system, alloc, &options, save_first, save_second) {
+        Ok(ways) => ways.bridge(system, alloc, first, second, &options),
+        Err(fault) => Err(fault),
     };
     if ended.is_err() {
         remove(system, options.save_first);
@@ -109,11 +112,24 @@ fn save_in<'a, S: Files<File = File>>(
 
 /// All that a bridge needs apart from its lines.
 #[derive(Drop)]
-struct Ways {
+struct Ways<C> {
+    clock: C,
+    poll: BridgePoll,
     bridge: Bridge,
     there: Intake,
     back: Intake,
     errors: BridgeErrors,
+    /// The counters of the lines before these, from the first to the second and back.
+    earlier_there: Counts,
+    earlier_back: Counts,
+}
+
+/// How a bridge between two lines ended.
+#[derive(Clone, Copy)]
+struct Joined {
+    /// Whether a line ended, so that both can be opened again.
+    line_ended: bool,
+    has_failed: bool,
 }
 
 /// Makes the log of a side's bytes, if one is requested.
@@ -128,26 +144,57 @@ fn trace_of(
     }
 }
 
-impl Ways {
-    /// Allocates all memory that both directions will need; returns none if an allocation failed.
-    fn new<F: Files<File = File>>(
-        files: &F,
-        alloc: Global,
-        options: &BridgeOptions<'_>,
-        save_first: Option<Save>,
-        save_second: Option<Save>,
-    ) -> Option<Ways> {
-        let there = trace_of(alloc, options, Side::Caller).ok()?;
-        let back = trace_of(alloc, options, Side::Called).ok()?;
-        Some(Ways {
-            bridge: Bridge::new(alloc, options.faults, options.delay_ms)?,
-            there: Intake::new(alloc, there, save_first)?,
-            back: Intake::new(alloc, back, save_second)?,
-            errors: BridgeErrors::new(files, alloc)?,
-        })
-    }
+/// Allocates all memory that both directions will need, and begins to measure the time.
+fn prepare<'a, 's, S: System>(
+    system: &'s S,
+    alloc: Global,
+    options: &BridgeOptions<'a>,
+    save_first: Option<Save>,
+    save_second: Option<Save>,
+) -> Result<Ways<Elapsed<'s, S>>, BridgeFault<'a>> {
+    let poll = match BridgePoll::new(system, alloc) {
+        Ok(poll) => poll,
+        Err(error) => return Err(no_poller(error.kind())),
+    };
+    let Some((there, back)) = intakes(alloc, options, save_first, save_second) else {
+        return Err(BridgeFault::Memory);
+    };
+    let Some(bridge) = Bridge::new(alloc, options.faults, options.delay_ms) else {
+        return Err(BridgeFault::Memory);
+    };
+    let Some(errors) = BridgeErrors::new(system, alloc) else {
+        return Err(BridgeFault::Memory);
+    };
+    Ok(Ways {
+        clock: Elapsed::new(system),
+        poll,
+        bridge,
+        there,
+        back,
+        errors,
+        earlier_there: Counts::NONE,
+        earlier_back: Counts::NONE,
+    })
+}
 
-    /// Opens both lines, and passes frames on between them.
+/// Allocates what takes the bytes of each line; returns none if an allocation failed.
+fn intakes(
+    alloc: Global,
+    options: &BridgeOptions<'_>,
+    save_first: Option<Save>,
+    save_second: Option<Save>,
+) -> Option<(Intake, Intake)> {
+    let there = trace_of(alloc, options, Side::Caller).ok()?;
+    let back = trace_of(alloc, options, Side::Called).ok()?;
+    Some((
+        Intake::new(alloc, there, save_first)?,
+        Intake::new(alloc, back, save_second)?,
+    ))
+}
+
+impl<C: Clock + Drop> Ways<C> {
+    /// Passes frames on between two lines, or one pair of them after the other, until the time is
+    /// over, or a line has ended and isn't opened again.
     fn bridge<'a, S: System>(
         self,
         system: &S,
@@ -156,61 +203,118 @@ impl Ways {
         second: LineName<'a>,
         options: &BridgeOptions<'a>,
     ) -> Result<BridgeEnd, BridgeFault<'a>> {
-        let mut clock = Elapsed::new(system);
-        let ends_at = ends_at(options);
-        let mut one = Opening::new(system, alloc, first)?;
-        let mut two = Opening::new(system, alloc, second)?;
-        one.listen(system)?;
-        two.listen(system)?;
-        let Some(first) = one.open(system, &mut clock, ends_at)? else {
-            return Ok(end_of(&self.bridge, &self.there, &self.back, false));
-        };
-        let Some(second) = two.open(system, &mut clock, ends_at)? else {
-            return Ok(end_of(&self.bridge, &self.there, &self.back, false));
-        };
-        match BridgeLines::new(system, alloc, first, second) {
-            Ok(sides) => Ok(self.run(system, sides, clock, options)),
-            Err(error) => Err(no_poller(error.kind())),
+        let mut ways = self;
+        let mut openings = Openings::new(system, alloc, first, second, options.again)?;
+        for _pair in 0..u64::MAX {
+            let Some((first, second)) = ways.open(system, &mut openings, options)? else {
+                break;
+            };
+            let (after, joined) = ways.join(system, first, second, options);
+            ways = after;
+            if !options.again || !joined.line_ended {
+                return Ok(ways.end(joined.has_failed));
+            }
+            openings.lines_ended(ways.has_passed(), ways.clock.now(), &mut ways.errors);
+            ways.restart(alloc);
         }
+        Ok(ways.end(false))
     }
 
-    /// Passes frames on both ways; then prints which line is down, and which file can't be written.
-    fn run<E: Eprint, C: Clock + Drop>(
+    /// Opens both lines. If there are none, prints the queued lines.
+    fn open<'a, S: System>(
+        &mut self,
+        system: &S,
+        openings: &mut Openings<'a>,
+        options: &BridgeOptions<'a>,
+    ) -> Result<Option<(Line, Line)>, BridgeFault<'a>> {
+        let ends_at = ends_at(options);
+        let opened = openings.open(system, &mut self.clock, &mut self.errors, ends_at);
+        if !matches!(opened, Ok(Some(_))) {
+            self.poll
+                .print_rest(system, &mut self.clock, &mut self.errors);
+        }
+        opened
+    }
+
+    /// Passes frames on both ways; then prints which line is down, and which file can't be written,
+    /// and closes both lines.
+    fn join<E: Eprint>(
         self,
         system: &E,
-        sides: BridgeLines,
-        clock: C,
+        first: Line,
+        second: Line,
         options: &BridgeOptions<'_>,
-    ) -> BridgeEnd {
-        let Ways {
-            mut bridge,
-            there,
-            back,
-            errors,
-        } = self;
+    ) -> (Ways<C>, Joined) {
+        let mut bridge = self.bridge;
         let mut lines = LiveLines {
             system,
-            clock,
+            clock: self.clock,
             moment: 0,
-            sides,
-            there,
-            back,
-            errors,
+            sides: BridgeLines::new(self.poll, first, second),
+            there: self.there,
+            back: self.back,
+            errors: self.errors,
         };
-        let ended = bridge.run(&mut lines, ends_at(options));
-        let first = lines.sides.first.down;
-        let second = lines.sides.second.down;
-        let first_unsaved = lines.there.unsaved();
-        let second_unsaved = lines.back.unsaved();
-        report_down(&mut lines.errors, "first", first);
-        report_down(&mut lines.errors, "second", second);
-        report_unsaved(&mut lines.errors, options.save_first, first_unsaved);
-        report_unsaved(&mut lines.errors, options.save_second, second_unsaved);
-        lines.print_rest();
-        let was_stopped = ended == BridgeStop::Stopped || lines.is_stopped();
-        let has_failed = has_failed(first) || has_failed(second) || was_stopped;
-        lines.sides.close(&mut lines.clock);
-        end_of(&bridge, &lines.there, &lines.back, has_failed)
+        let stop = bridge.run(&mut lines, ends_at(options));
+        let was_stopped = stop == BridgeStop::Stopped || lines.is_stopped();
+        let has_failed = lines.report_end(options) || was_stopped;
+        let ways = Ways {
+            poll: lines.sides.close(&mut lines.clock),
+            clock: lines.clock,
+            bridge,
+            there: lines.there,
+            back: lines.back,
+            errors: lines.errors,
+            earlier_there: self.earlier_there,
+            earlier_back: self.earlier_back,
+        };
+        let joined = Joined {
+            line_ended: stop == BridgeStop::Line && !was_stopped,
+            has_failed,
+        };
+        (ways, joined)
+    }
+
+    /// Returns whether a good frame came over one of these lines.
+    fn has_passed(&self) -> bool {
+        self.bridge.counts(End::A).frames > 0 || self.bridge.counts(End::B).frames > 0
+    }
+
+    /// Prepares for two other lines: drops what wasn't passed on, and keeps the counters.
+    fn restart(&mut self, alloc: Global) {
+        self.earlier_there = self.earlier_there.plus(self.bridge.counts(End::A));
+        self.earlier_back = self.earlier_back.plus(self.bridge.counts(End::B));
+        self.bridge.restart();
+        self.there.restart(alloc);
+        self.back.restart(alloc);
+    }
+
+    /// Returns the counters of all lines.
+    fn end(&self, has_failed: bool) -> BridgeEnd {
+        let there = self.earlier_there.plus(self.bridge.counts(End::A));
+        let back = self.earlier_back.plus(self.bridge.counts(End::B));
+        BridgeEnd {
+            there: self.there.counts(there),
+            back: self.back.counts(back),
+            has_failed,
+        }
+    }
+}
+
+impl<E: Eprint, C: Clock> LiveLines<'_, E, C> {
+    /// Prints which line is down, and which file can't be written; returns whether a line failed.
+    fn report_end(&mut self, options: &BridgeOptions<'_>) -> bool {
+        let first = self.sides.first.down;
+        let second = self.sides.second.down;
+        let first_unsaved = self.there.unsaved();
+        let second_unsaved = self.back.unsaved();
+        report_down(&mut self.errors, "first", first);
+        report_down(&mut self.errors, "second", second);
+        report_unsaved(&mut self.errors, options.save_first, first_unsaved);
+        report_unsaved(&mut self.errors, options.save_second, second_unsaved);
+        let poll = &mut self.sides.poll;
+        poll.print_rest(self.system, &mut self.clock, &mut self.errors);
+        has_failed(first) || has_failed(second)
     }
 }
 
@@ -219,14 +323,6 @@ fn ends_at(options: &BridgeOptions<'_>) -> u64
     ensures { result ≡ 1000 * options.now.seconds }
 {
     1000 * u64::from(options.seconds)
-}
-
-fn end_of(bridge: &Bridge, there: &Intake, back: &Intake, has_failed: bool) -> BridgeEnd {
-    BridgeEnd {
-        there: there.counts(bridge.counts(End::A)),
-        back: back.counts(bridge.counts(End::B)),
-        has_failed,
-    }
 }
 
 fn has_failed(down: Option<Down>) -> bool {

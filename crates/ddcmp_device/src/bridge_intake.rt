@@ -78,6 +78,16 @@ impl Intake {
         }
     }
 
+    /// Prepares for another line: the log begins anew, unless an allocation fails, which ends it.
+    pub(crate) fn restart(&mut self, alloc: Global)
+        ensures { self.new.cut ≡ self.old.cut }
+    {
+        self.trace = match &self.trace {
+            Some(trace) => trace.restarted(alloc).ok(),
+            None => None,
+        };
+    }
+
     /// Returns why received bytes couldn't be saved, if that failed.
     pub(crate) fn unsaved(&self) -> Option<Cause> {
         match &self.save {

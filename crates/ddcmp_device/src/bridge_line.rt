@@ -3,14 +3,16 @@ ghost use Rattle.std.specs.Prelude.{◌≡◌, ◌≤◌, ◌&&◌, is_none, len
 ghost use Rattle.ddcmp_bridge.specs.Joining.{count_of};
 ghost use Rattle.ddcmp_device.specs.Inside.Lines.{has_datagrams};
 
+use crate::bridge_errors::BridgeErrors;
 use crate::line::Line;
 use crate::poller::{Descriptor, Ready};
 use ddcmp_bridge::Needs;
 use ddcmp_io::{Down, Transfer};
 use ddcmp_station::Clock;
+use mio::event::Event;
 use mio::{Events, Interest, Poll, Token};
 use std::alloc::Global;
-use std::io;
+use std::io::{self, Eprint};
 use std::net::Net;
 use std::time::Duration;
 
@@ -22,6 +24,9 @@ const ERRORS: Token = Token(2);
 
 /// The longest single wait, in milliseconds.
 const HOUR_MS: u64 = 3_600_000;
+
+/// For how long lines for standard error are printed once a bridge has ended, in milliseconds.
+const PRINTING_MS: u64 = 1000;
 
 /// A line of a bridge.
 pub(crate) struct BridgeLine {
@@ -124,11 +129,81 @@ impl BridgeLine {
     }
 }
 
-/// Both lines, and standard error.
-pub(crate) struct BridgeLines {
+/// What waits for both lines and standard error, one pair of lines after the other.
+pub(crate) struct BridgePoll {
     poll: Poll,
     events: Events,
     pub(crate) errors: Descriptor,
+}
+
+// Manual, since a derived `Drop` would be expanded wherever a value is dropped.
+impl Drop for BridgePoll {
+    fn drop(self) {
+        let BridgePoll {
+            poll: _poll,
+            events: _events,
+            errors: _,
+        } = self;
+    }
+}
+
+impl BridgePoll {
+    pub(crate) fn new<N: Net>(net: &N, alloc: Global) -> io::Result<BridgePoll> {
+        let poll = Poll::new(net)?;
+        let events = Events::with_capacity(alloc, 3)?;
+        let errors = Descriptor::new(&poll, 2, ERRORS, Interest::WRITABLE);
+        Ok(BridgePoll {
+            poll,
+            events,
+            errors,
+        })
+    }
+
+    /// Waits until something that was asked for is ready, or standard error if that is needed, at
+    /// most this many milliseconds; returns whether it could wait.
+    fn wait(&mut self, errors: bool, most_ms: u64) -> bool {
+        self.errors.ask(&self.poll, false, errors);
+        let most = Some(Duration::from_millis(most_ms.min(HOUR_MS)));
+        if self.poll.poll(&mut self.events, most).is_err() {
+            return false;
+        }
+        for event in self.events.iter() {
+            if event.token() == ERRORS {
+                self.errors.ready.add(reported_by(event));
+            }
+        }
+        true
+    }
+
+    /// Prints the queued lines, for a second at most.
+    pub(crate) fn print_rest<E: Eprint, C: Clock>(
+        &mut self,
+        system: &E,
+        clock: &mut C,
+        lines: &mut BridgeErrors,
+    ) {
+        let ends_at = clock.now().saturating_add(PRINTING_MS);
+        for _piece in 0..u64::MAX {
+            lines.print(system, &mut self.errors);
+            let left = ends_at.saturating_sub(clock.now());
+            if left == 0 || !lines.is_waiting() || !self.wait(true, left) {
+                return;
+            }
+        }
+    }
+}
+
+/// Returns what an event reports to be ready.
+fn reported_by(event: &Event) -> Ready {
+    Ready {
+        to_read: event.is_readable() || event.is_read_closed() || event.is_error(),
+        to_write: event.is_writable() || event.is_write_closed() || event.is_error(),
+    }
+}
+
+/// Both lines, and standard error.
+pub(crate) struct BridgeLines {
+    pub(crate) poll: BridgePoll,
     pub(crate) first: BridgeLine,
     pub(crate) second: BridgeLine,
 }
@@ -138,8 +213,6 @@ impl Drop for BridgeLines {
     fn drop(self) {
         let BridgeLines {
             poll: _poll,
-            events: _events,
-            errors: _,
             first: _first,
             second: _second,
         } = self;
@@ -160,32 +233,20 @@ fn side_of(poll: &Poll, line: Line, token: Token) -> BridgeLine {
 }
 
 impl BridgeLines {
-    pub(crate) fn new<N: Net>(
-        net: &N,
-        alloc: Global,
-        first: Line,
-        second: Line,
-    ) -> io::Result<BridgeLines> {
-        let poll = Poll::new(net)?;
-        let events = Events::with_capacity(alloc, 3)?;
-        let errors = Descriptor::new(&poll, 2, ERRORS, Interest::WRITABLE);
-        let first = side_of(&poll, first, FIRST);
-        let second = side_of(&poll, second, SECOND);
-        Ok(BridgeLines {
+    pub(crate) fn new(poll: BridgePoll, first: Line, second: Line) -> BridgeLines {
+        let first = side_of(&poll.poll, first, FIRST);
+        let second = side_of(&poll.poll, second, SECOND);
+        BridgeLines {
             poll,
-            events,
-            errors,
             first,
             second,
-        })
+        }
     }
 
-    /// Closes both lines.
-    pub(crate) fn close<C: Clock>(self, clock: &mut C) {
+    /// Closes both lines, and returns what waited for them.
+    pub(crate) fn close<C: Clock>(self, clock: &mut C) -> BridgePoll {
         let BridgeLines {
-            poll: _poll,
-            events: _events,
-            errors: _,
+            poll,
             first,
             second,
         } = self;
@@ -194,6 +255,7 @@ impl BridgeLines {
         let _is_up = second.line.shut();
         first.close(clock);
         second.close(clock);
+        poll
     }
 
     /// Sets both lines down if neither takes bytes any more, since then nothing can be passed on.
@@ -207,28 +269,18 @@ impl BridgeLines {
     /// Waits until something that is needed of a line is ready, or standard error if that is
     /// needed, at most this many milliseconds; returns whether it could wait.
     pub(crate) fn wait(&mut self, first: Needs, second: Needs, errors: bool, most_ms: u64) -> bool {
-        self.errors.ask(&self.poll, false, errors);
-        self.first
-            .ready
-            .ask(&self.poll, first.to_read, first.to_write);
-        self.second
-            .ready
-            .ask(&self.poll, second.to_read, second.to_write);
+        let (reads, writes) = (first.to_read, first.to_write);
+        self.first.ready.ask(&self.poll.poll, reads, writes);
+        let (reads, writes) = (second.to_read, second.to_write);
+        self.second.ready.ask(&self.poll.poll, reads, writes);
         let is_ready = self.first.has_more(first) || self.second.has_more(second);
-        let most_ms = if is_ready { 0 } else { most_ms.min(HOUR_MS) };
-        let most = Some(Duration::from_millis(most_ms));
-        if self.poll.poll(&mut self.events, most).is_err() {
+        if !self.poll.wait(errors, if is_ready { 0 } else { most_ms }) {
             return false;
         }
-        for event in self.events.iter() {
-            let reported = Ready {
-                to_read: event.is_readable() || event.is_read_closed() || event.is_error(),
-                to_write: event.is_writable() || event.is_write_closed() || event.is_error(),
-            };
+        for event in self.poll.events.iter() {
             match event.token() {
-                FIRST => self.first.ready.ready.add(reported),
-                SECOND => self.second.ready.ready.add(reported),
-                ERRORS => self.errors.ready.add(reported),
+                FIRST => self.first.ready.ready.add(reported_by(event)),
+                SECOND => self.second.ready.ready.add(reported_by(event)),
                 _ => {}
             }
         }

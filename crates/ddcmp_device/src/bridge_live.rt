@@ -23,32 +23,10 @@ pub(crate) struct LiveLines<'a, E, C> {
     pub(crate) errors: BridgeErrors,
 }
 
-/// For how long lines for standard error are printed once the bridge has ended, in milliseconds.
-const PRINTING_MS: u64 = 1000;
-
-/// Nothing is needed of a line.
-const NOTHING: Needs = Needs {
-    to_read: false,
-    to_write: false,
-};
-
 impl<E: Eprint, C: Clock> LiveLines<'_, E, C> {
     /// Prints queued lines, as far as standard error has room.
     fn print(&mut self) {
-        self.errors.print(self.system, &mut self.sides.errors);
-    }
-
-    /// Prints the queued lines, for a second at most.
-    pub(crate) fn print_rest(&mut self) {
-        let ends_at = self.clock.now().saturating_add(PRINTING_MS);
-        for _piece in 0..u64::MAX {
-            self.print();
-            let left = ends_at.saturating_sub(self.clock.now());
-            let is_over = left == 0 || !self.errors.is_waiting();
-            if is_over || !self.sides.wait(NOTHING, NOTHING, true, left) {
-                return;
-            }
-        }
+        self.errors.print(self.system, &mut self.sides.poll.errors);
     }
 }
 

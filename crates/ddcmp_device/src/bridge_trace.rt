@@ -39,6 +39,11 @@ impl BridgeTrace {
         })
     }
 
+    /// Makes the log of another line on the same side.
+    pub(crate) fn restarted(&self, alloc: Global) -> Result<BridgeTrace, NoMemory> {
+        BridgeTrace::new(alloc, self.notation, self.side)
+    }
+
     /// Queues the lines of received bytes, and the fate of the frame that they completed. Lines for
     /// which an allocation failed are missing.
     pub(crate) fn log(

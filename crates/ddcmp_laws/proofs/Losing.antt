@@ -3,7 +3,7 @@
 use Rattle.std.proofs.Common.{◌≡◌, ◌∙◌, ◌⊎◌, inl, inr, ap, sym, refl, ℕ, Bool, true, false}
 use Rattle.std.proofs.Common.{cond, List, [], ◌∷◌, length, zero, suc, Option, Some, None, arith}
 use Rattle.std.proofs.Common.{option_to_list}
-use Rattle.std.specs.Prelude.{◌&&◌, ◌||◌, ◌==◌, not, nat_lt, is_none, is_ok}
+use Rattle.std.specs.Prelude.{◌&&◌, ◌||◌, ◌==◌, not, nat_lt, is_none, is_ok, is_some}
 use Rattle.ddcmp_frame.proofs.Tests.{eqb-true}
 use Rattle.ddcmp_frame.specs.Reader.{ReaderView}
 use Rattle.ddcmp_frame.specs.Reading.{ReadItem}
@@ -55,7 +55,8 @@ use Rattle.ddcmp_session.specs.Session.{starts, takes_in}
 use Rattle.ddcmp_session.specs.Course.{after_looked, after_notice, after_notices, lost_more}
 use Rattle.ddcmp_session.specs.Course.{after_acknowledged, after_heard, after_refusal, after_noise}
 use Rattle.ddcmp_session.specs.Course.{after_progress, after_state, goes_on, is_at, progress_of}
-use Rattle.ddcmp_session.specs.Course.{next_pause, pause_begun, refusal_between, try_counted}
+use Rattle.ddcmp_session.specs.Course.{after_naks, naks_of, next_pause, pause_begun}
+use Rattle.ddcmp_session.specs.Course.{refusal_between, try_counted}
 use Rattle.ddcmp_session.specs.Timing.{PassesTime, after_failure, after_line}
 use Rattle.ddcmp_session.specs.Calls.{SessionStep}
 use Rattle.ddcmp_io.specs.declared.carrier.End.{End}
@@ -271,6 +272,11 @@ noise-lost d p c =
     (if-lost (delivered d) _ _ c.lost refl
     (if-lost (nat_lt c.replies 7) _ c c.lost refl refl))))
 
+naks-lost : (ms n : ℕ) (p : Progress) (c : Course) → (after_naks ms n p c).lost ≡ c.lost
+naks-lost ms n p c =
+    if-lost (goes_on p c.progress) _ _ c.lost refl
+    (if-lost (n == c.naks || is_some c.nak_pause) c _ c.lost refl refl)
+
 acknowledged-lost : (n : ℕ) (c : Course) → (after_acknowledged n c).lost ≡ c.lost
 acknowledged-lost n c = if-lost _ c _ c.lost refl refl
 
@@ -281,10 +287,13 @@ looked-lost ms before d c =
     let one = after_acknowledged d.totals.acknowledged (after_heard c) in
     let why = refusal_between before d.station.core.counters.nak_received in
     let two = after_refusal ms why one in
-    let three = after_noise d (progress_of d) two in
+    let sent = naks_of d.station.core.counters.nak_sent in
+    let held = after_naks ms sent (progress_of d) two in
+    let three = after_noise d (progress_of d) held in
     let four = after_progress (progress_of d) three in
     state-lost (state_of d).state four ∙ progress-lost (progress_of d) three
-    ∙ noise-lost d (progress_of d) two ∙ refusal-lost ms why one
+    ∙ noise-lost d (progress_of d) held ∙ naks-lost ms sent (progress_of d) two
+    ∙ refusal-lost ms why one
     ∙ acknowledged-lost d.totals.acknowledged (after_heard c)
 
 notice-lost : (n : Notice) (c : Course) → (after_notice n c).lost ≡ 0 → c.lost ≡ 0
@@ -323,11 +332,11 @@ received-lost s d ns = by (wants_line s)
 
 timeout-lost : (now : ℕ) (s : SessionView) → (after_timeout now s).course.lost ≡ s.course.lost
 timeout-lost now s =
-    if-lost _ _ _ s.course.lost
-    (if-lost (expires now s && not (awaits_peer s)) _ _ s.course.lost
-    (if-lost s.is_read _ _ s.course.lost refl refl) refl)
-    (if-lost (expires now s && not (awaits_peer s)) _ _ s.course.lost
-    (if-lost s.is_read _ _ s.course.lost refl refl) refl)
+    let counted =
+    if-lost _ _ _ s.course.lost refl (if-lost s.is_read _ _ s.course.lost refl refl) in
+    let tried =
+    if-lost (expires now s && not (awaits_peer s)) _ _ s.course.lost counted refl in
+    if-lost _ _ _ s.course.lost tried tried
 
 line-lost : (s : SessionView) → (after_line s).course.lost ≡ s.course.lost
 line-lost s =

@@ -1,9 +1,9 @@
 -- Two sessions that sleep.
 use Rattle.std.proofs.Common.{◌≡◌, ◌≢◌, ◌⊎◌, inl, inr, ℕ, Bool, true, false, List, [], ◌∷◌}
 use Rattle.std.proofs.Common.{◌++◌, length, refl, sym, ◌∙◌, ap, subst, arith, Option, None, Some}
-use Rattle.std.specs.Prelude.{◌&&◌, is_some, not}
+use Rattle.std.specs.Prelude.{◌&&◌, ◌||◌, is_some, not}
 use Rattle.ddcmp_proto.specs.Config.{first_refusal}
-use Rattle.ddcmp_station.specs.Linking.{carries_message, owes_ack, puts_frame}
+use Rattle.ddcmp_station.specs.Linking.{carries_message, carries_refusal, owes_ack, puts_frame}
 use Rattle.ddcmp_io.specs.declared.carrier.End.{End}
 use Rattle.ddcmp_pair.specs.Run.{new_pair}
 use Rattle.ddcmp_session.specs.Session.{SessionView, IsFilled}
@@ -19,9 +19,11 @@ use Rattle.ddcmp_laws.proofs.Pipes.{Keeps, keeps_steps, links_of}
 use Rattle.ddcmp_laws.proofs.Outcomes.{made_links, new_hold, are_once, links_after}
 use Rattle.ddcmp_laws.proofs.Sleeping.{asleep_a, asleep_b}
 
-none-paused : (o : Option ℕ) (b c : Bool) → o ≡ None → (is_some o && b) && c ≡ true → ⊥
-none-paused None b c e p = cc p
-none-paused (Some n) b c e p = cc e
+none-paused : (o q : Option ℕ) (b c d : Bool) → o ≡ None → q ≡ None
+    → ((is_some o && b) && c) || (is_some q && d) ≡ true → ⊥
+none-paused None None b c d e f p = cc p
+none-paused None (Some n) b c d e f p = cc f
+none-paused (Some n) q b c d e f p = cc e
 
 no-frame : (s : SessionView) → SessionIsAsleep s → puts_frame s.link ≡ false
 no-frame s z = by z.filled
@@ -31,8 +33,8 @@ no-frame s z = by z.filled
     by (inr (inl e)) = e
     by (inr (inr paused)) =
         absurd
-        (none-paused s.course.pause (carries_message s.link) (not (owes_ack s.link)) z.no_pause
-        paused)
+        (none-paused s.course.pause s.course.nak_pause (carries_message s.link)
+        (not (owes_ack s.link)) (carries_refusal s.link) z.no_pause z.no_nak_pause paused)
 
 link-asleep : (s : SessionView) → SessionIsAsleep s → LinkIsAsleep s.link
 link-asleep s z =

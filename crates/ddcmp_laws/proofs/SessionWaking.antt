@@ -26,3 +26,10 @@ wakes-by-pause s moment e =
     let at : or_never s.course.pause ≡ moment = ap or_never e in
     let soon = sooner (next_timeout s) s in
     grind (arith, soon, at)
+
+pub wakes-by-nak-pause : (s : SessionView) (moment : ℕ) → s.course.nak_pause ≡ Some moment
+    → wakes_at s ≤ moment
+wakes-by-nak-pause s moment e =
+    let at : or_never s.course.nak_pause ≡ moment = ap or_never e in
+    let soon = sooner (next_timeout s) s in
+    grind (arith, soon, at)

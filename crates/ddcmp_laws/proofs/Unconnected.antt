@@ -22,12 +22,12 @@ use Rattle.ddcmp_station.specs.Linking.{with_state}
 use Rattle.ddcmp_streams.specs.Messages.{after_input, entries_of_input}
 use Rattle.ddcmp_session.specs.declared.course.Course.{Course}
 use Rattle.ddcmp_session.specs.Course.{after_looked, after_moment, after_notices}
-use Rattle.ddcmp_session.specs.Course.{after_opening_failed, after_pause, after_unheard}
+use Rattle.ddcmp_session.specs.Course.{after_opening_failed, after_pauses, after_unheard, after_writing}
 use Rattle.ddcmp_session.specs.Course.{expiry_counted}
 use Rattle.ddcmp_session.specs.Session.{SessionView, after_last_line, after_time, after_timeout}
-use Rattle.ddcmp_session.specs.Session.{after_tried, after_unfinished, awaits_peer}
-use Rattle.ddcmp_session.specs.Session.{expires, form_of, unless_read, wants_line}
-use Rattle.ddcmp_streams.specs.Options.{report_ms}
+use Rattle.ddcmp_session.specs.Session.{after_telling, after_tried, after_unfinished, awaits_peer}
+use Rattle.ddcmp_session.specs.Session.{expires, form_of, is_sending, unless_read, wants_line}
+use Rattle.ddcmp_streams.specs.Options.{report_ms, speed_of}
 use Rattle.ddcmp_session.specs.Timing.{after_failure, after_line, is_listener}
 use Rattle.ddcmp_session.specs.Calls.{Closed, Connected, Delivered, Filled, HasDelivered}
 use Rattle.ddcmp_session.specs.Calls.{HasReceived, HasReadInput, InputEnded, LineEnded, LineTook}
@@ -141,13 +141,15 @@ wake-inbox now d halted =
 timed-run : (now : ℕ) (s : SessionView)
     → (after_timeout now s).course.has_run ≡ s.course.has_run
 timed-run now s =
-    unheard (after_tried (expires now s) passed)
-    ∙ tried (expires now s && not (awaits_peer passed)) s.is_read
+    unheard (after_telling (after_tried (expires now s) passed))
+    ∙ tried (expires now s && not (awaits_peer passed)) (is_sending passed) s.is_read
   where
     passed : SessionView
     passed = record s {
       link = after_wake now s.link;
-      course = after_pause (after_moment (report_ms s.options) now s.course);
+      course =
+          after_writing (speed_of s.options) s.link.totals.written
+          (after_pauses (after_moment (report_ms s.options) now s.course));
     }
 
     unheard : (x : SessionView) → (unless_read x).course.has_run ≡ x.course.has_run
@@ -159,11 +161,17 @@ timed-run now s =
         by true = refl
         by false = refl
 
-    tried : (b is_read : Bool)
-        → (cond b (expiry_counted is_read passed.course) passed.course).has_run ≡ s.course.has_run
-    tried true true = refl
-    tried true false = refl
-    tried false is_read = refl
+    tried : (b sends is_read : Bool)
+        → (cond b
+        (record (cond sends passed.course (expiry_counted is_read passed.course)) {
+          written_then = passed.course.written;
+        })
+        passed.course).has_run
+        ≡ s.course.has_run
+    tried true true is_read = refl
+    tried true false true = refl
+    tried true false false = refl
+    tried false sends is_read = refl
 
 passed-run : (s : SessionView) (c : Course) (now : ℕ)
     → (c ≡ (after_time now s).course)

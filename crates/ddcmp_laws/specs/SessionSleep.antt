@@ -13,13 +13,14 @@ pub record SessionsAreUp (p : Sessions) : Type 0 where
   pub b : p.b.session.link.station.core.station.state ≢ Halted
 
 -- A session sleeps if its frames were filled, as before each wait (`Rests`), nothing is queued for
--- its line though there is room for a frame, its reply timer is off, and it doesn't pause.
+-- its line though there is room for a frame, its reply timer is off, and it holds nothing back.
 pub record SessionIsAsleep (s : SessionView) : Type 0 where
   pub filled : IsFilled s
   pub sent : s.link.outbox.waiting ≡ []
   pub room : fits s.link ≡ true
   pub no_moment : wakes_at s.link ≡ None
   pub no_pause : s.course.pause ≡ None
+  pub no_nak_pause : s.course.nak_pause ≡ None
 
 -- A session runs, and the other has received all messages that were read from its input.
 pub record SessionIsDelivered (made : Made) (giver taker : SessionHistory) : Type 0 where

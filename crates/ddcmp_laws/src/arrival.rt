@@ -22,8 +22,6 @@ pub fn bytes_arrive<D: Devices, E: Devices>(
     other_options: Options,
     kind: LineKind,
     other_kind: LineKind,
-    began: Option<u64>,
-    other_began: Option<u64>,
     devices: &mut D,
     other_devices: &mut E,
 ) -> (
@@ -46,8 +44,8 @@ pub fn bytes_arrive<D: Devices, E: Devices>(
         → IsBinary options → IsBinary other_options → IsOneLine options other_options t u
         → BytesArrive options t u }
 {
-    let first = run_link(alloc, options, kind, began, devices);
-    let second = run_link(alloc, other_options, other_kind, other_began, other_devices);
+    let first = run_link(alloc, options, kind, devices);
+    let second = run_link(alloc, other_options, other_kind, other_devices);
     (first, second)
 }
 

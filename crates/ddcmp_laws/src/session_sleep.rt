@@ -17,10 +17,12 @@ pub fn sessions_sleep_when_done()
         → SessionIsDelivered second p.b p.a) }
 {}
 
-/// A session wakes no later than its reply timer expires or its pause ends.
+/// A session wakes no later than its reply timer expires or a pause of it ends.
 pub fn sessions_wake_in_time()
     ensures timer { (s : SessionView) (moment : ℕ) → timer_at s.link ≡ Some moment
         → wakes_at s ≤ moment }
     ensures pause { (s : SessionView) (moment : ℕ) → s.course.pause ≡ Some moment
+        → wakes_at s ≤ moment }
+    ensures nak_pause { (s : SessionView) (moment : ℕ) → s.course.nak_pause ≡ Some moment
         → wakes_at s ≤ moment }
 {}

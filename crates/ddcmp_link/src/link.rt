@@ -4,7 +4,7 @@ ghost use Rattle.std.specs.Prelude.{◌≡◌, ◌≢◌, ◌↔◌, Err, IsTrue
 use crate::ending::LinkStop;
 use crate::fault::LinkFailure;
 use crate::live::{Live, Parts};
-use ddcmp_device::{LineName, Poller, System};
+use ddcmp_device::{LineName, Poller, StandardInput, System};
 use ddcmp_io::{LineKind, Sink, Source, Worst};
 use ddcmp_session::{LinkFault, LinkOutcome, Options, run_link};
 use ddcmp_station::Elapsed;
@@ -15,8 +15,9 @@ use std::net::{self, Net};
 use std::time;
 
 /// Runs a link between a line and standard input and output, which `reader` and `writer` read and
-/// write, until all of the input is delivered, or the line ends. If the line is one for callers, only
-/// those of the host `only` are accepted, or all.
+/// write, until all of the input is delivered, or the line ends. The end of the input is waited for
+/// only if it has one; with `stay` a FIFO has none. If the line is one for callers, only those of
+/// the host `only` are accepted, or all.
 pub fn link_line<'a, S, R: Source, W: Sink>(
     system: &S,
     alloc: Global,
@@ -35,6 +36,11 @@ where
     ensures unread { R.state reader.new ≡ Worst.Failed → W.broken writer.new ≡ false
         → result ≡ Err LinkFailure.Read }
 {
+    let input = StandardInput::new(system, alloc, options.stay);
+    let options = Options {
+        awaits_end: options.awaits_end && input.has_end(),
+        ..options
+    };
     let ended = run_over_devices(system, alloc, line, only, options, reader, writer);
     ending_of(ended, line, reader, writer)
 }
@@ -82,6 +88,7 @@ fn run_over_devices<S: System, R: Source, W: Sink>(
         poller,
         name: line,
         only,
+        baud: options.baud,
         clock: Elapsed::new(system),
         reader,
         writer,
@@ -93,11 +100,7 @@ fn run_over_devices<S: System, R: Source, W: Sink>(
     let Ok(mut devices) = Live::new(parts, alloc, datagrams) else {
         return Err(LinkStop::Memory);
     };
-    let began = match system.since_1970() {
-        Ok(since_1970) => u64::try_from(since_1970.as_millis()).ok(),
-        Err(_) => None,
-    };
-    match run_link(alloc, options, line.kind(), began, &mut devices) {
+    match run_link(alloc, options, line.kind(), &mut devices) {
         Ok(outcome) => Ok(outcome),
         Err(LinkFault::Refused(_)) => Err(LinkStop::Memory),
         Err(LinkFault::Stopped(stop)) => Err(LinkStop::Stopped(stop)),

@@ -6,8 +6,8 @@ ghost use Rattle.ddcmp_link.specs.Events.{Reports};
 ghost use Rattle.ddcmp_session.specs.Traffic.{count_read};
 
 use ddcmp_device::{
-    Descriptor, Framing, Line, LineEvent, LineName, OpenRefusal, Opener, Poller, StandardStream,
-    System,
+    Descriptor, Framing, Line, LineEvent, LineName, OpenRefusal, Opener, Pace, Poller,
+    StandardStream, System,
 };
 use ddcmp_frame::ReaderRefusal;
 use ddcmp_io::{Down, Got, Sink, Source, Transfer, Wanted, Worst};
@@ -29,6 +29,8 @@ pub(crate) struct Live<'a, S, C, R, W> {
     writer: &'a mut W,
     output: StandardStream,
     errors: StandardStream,
+    /// The pace at which a device is written to.
+    pace: Pace,
     /// Finds the end of the last whole frame in a datagram, if the line is one of datagrams.
     framing: Option<Framing>,
 }
@@ -47,6 +49,7 @@ impl<S, C: Drop, R, W> Drop for Live<'_, S, C, R, W> {
             writer: _,
             output: _output,
             errors: _errors,
+            pace: _,
             framing: _framing,
         } = self;
     }
@@ -59,6 +62,8 @@ pub(crate) struct Parts<'a, S, C, R, W> {
     pub(crate) name: LineName<'a>,
     /// The host whose callers are accepted; if there is none, all are.
     pub(crate) only: Option<&'a str>,
+    /// The speed at which a device is written to; 0 if it isn't known.
+    pub(crate) baud: u32,
     pub(crate) clock: C,
     pub(crate) reader: &'a mut R,
     pub(crate) writer: &'a mut W,
@@ -77,6 +82,7 @@ impl<'a, S: System, C: Clock + Drop, R: Source, W: Sink> Live<'a, S, C, R, W> {
             poller,
             name,
             only,
+            baud,
             clock,
             reader,
             writer,
@@ -96,6 +102,7 @@ impl<'a, S: System, C: Clock + Drop, R: Source, W: Sink> Live<'a, S, C, R, W> {
             writer,
             output: StandardStream::new(system, "/dev/stdout"),
             errors: StandardStream::new(system, "/dev/stderr"),
+            pace: Pace::new(baud),
             framing,
         })
     }
@@ -257,7 +264,18 @@ impl<S: System, C: Clock + Drop, R: Source, W: Sink> Devices for Live<'_, S, C, 
         if !self.poller.may_write_line() {
             return Transfer::Nothing;
         }
-        let took = line.write(bytes);
+        if !self.pace.is_on() {
+            let took = line.write(bytes);
+            self.poller.line_was_written(took == Transfer::Nothing);
+            return took;
+        }
+        let now = self.clock.now();
+        let most = self.pace.room(now).min(bytes.len());
+        if most == 0 {
+            return Transfer::Nothing;
+        }
+        let took = line.write(&bytes[..most]);
+        self.pace.given(now, took.count());
         self.poller.line_was_written(took == Transfer::Nothing);
         took
     }
@@ -287,7 +305,16 @@ impl<S: System, C: Clock + Drop, R: Source, W: Sink> Devices for Live<'_, S, C, 
         if session.peer_has_started() {
             self.opener.refuse_callers();
         }
-        self.poller.wait(buffers.wanted(session), most_ms)
+        let mut wanted = buffers.wanted(session);
+        if !self.pace.is_on() {
+            return self.poller.wait(wanted, most_ms);
+        }
+        let paced_ms = self.pace.wait_ms(self.clock.now());
+        if wanted.to_line && paced_ms > 0 {
+            wanted.to_line = false;
+            return self.poller.wait(wanted, most_ms.min(paced_ms));
+        }
+        self.poller.wait(wanted, most_ms)
     }
 
     fn wait(&mut self, wanted: Wanted, most_ms: u64) -> bool {
@@ -296,5 +323,10 @@ impl<S: System, C: Clock + Drop, R: Source, W: Sink> Devices for Live<'_, S, C, 
 
     fn now(&mut self) -> u64 {
         self.clock.now()
+    }
+
+    fn time_of_day(&mut self) -> Option<u64> {
+        let since_1970 = self.system.since_1970().ok()?;
+        u64::try_from(since_1970.as_millis()).ok()
     }
 }

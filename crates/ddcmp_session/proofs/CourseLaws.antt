@@ -8,10 +8,11 @@ use Rattle.ddcmp_station.specs.Linking.{LinkView, after_wake}
 use Rattle.ddcmp_session.specs.declared.course.Course.{Course}
 use Rattle.ddcmp_session.specs.declared.session.EndReason.TheVariants.{Time}
 use Rattle.ddcmp_session.specs.Course.{after_looked, after_moment, after_notice, after_notices}
-use Rattle.ddcmp_session.specs.Course.{after_pause, after_unheard, expiry_counted, try_counted}
-use Rattle.ddcmp_session.specs.Session.{SessionView, after_timeout, after_tried, awaits_peer}
-use Rattle.ddcmp_session.specs.Session.{course_received, expires}
-use Rattle.ddcmp_streams.specs.Options.{report_ms}
+use Rattle.ddcmp_session.specs.Course.{after_pauses, after_unheard, after_writing}
+use Rattle.ddcmp_session.specs.Course.{expiry_counted, try_counted}
+use Rattle.ddcmp_session.specs.Session.{SessionView, after_telling, after_timeout, awaits_peer}
+use Rattle.ddcmp_session.specs.Session.{course_received, expires, is_sending, timed_out}
+use Rattle.ddcmp_streams.specs.Options.{report_ms, speed_of}
 use Rattle.ddcmp_session.specs.Timing.{end, run_ends_at}
 use Rattle.ddcmp_session.specs.Session.{wants_line}
 
@@ -53,13 +54,16 @@ either false x y n p q = q
 
 moment-is : (now : ℕ) (s : SessionView) → (after_timeout now s).course.moment ≡ now
 moment-is now s =
-    let c = after_pause (after_moment (report_ms s.options) now s.course) in
+    let c =
+    after_writing (speed_of s.options) s.link.totals.written
+    (after_pauses (after_moment (report_ms s.options) now s.course)) in
     let t = record s { link = after_wake now s.link; course = c } in
-    let u = after_tried (expires now s) t in
-    let at =
-    either (expires now s && not (awaits_peer t)) (expiry_counted s.is_read c) c now
-    (either s.is_read _ (try_counted None c) now refl refl) refl in
-    either (wants_line u) u.course (after_unheard u.course) now at at
+    let u = timed_out now s in
+    let counted =
+    either (is_sending t) c (expiry_counted s.is_read c) now refl
+    (either s.is_read _ (try_counted None c) now refl refl) in
+    let at = either (expires now s && not (awaits_peer t)) _ c now counted refl in
+    either (wants_line u) _ (after_unheard (after_telling u).course) now at at
 
 pub time-is-over : (s new : SessionView) (now : ℕ) → now ≡ run_ends_at s
     → new ≡ after_timeout now s → end new ≡ Some Time

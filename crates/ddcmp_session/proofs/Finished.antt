@@ -251,6 +251,7 @@ ran-to-end {ran} {finished} {closed = closed} {k1 = k1} is ends finishes drains 
     over = ends.over;
     closes = ends.closes;
     well = λ e. ends.well (both ran finished (sym is ∙ e)).0;
+    read = λ e. ends.read (both ran finished (sym is ∙ e)).0;
   };
   finishes = record {
     delivered = finishes.delivered;

@@ -1,7 +1,7 @@
 -- How a session goes on over one line after the other.
 use Rattle.std.proofs.Common.{◌≡◌, ◌∙◌, ap, sym, subst, refl, ℕ, Bool, true, List, [], ◌∷◌, ◌++◌}
 use Rattle.std.proofs.Common.{◌⊎◌, append-nil, inl, inr, false, Option, None, Result, Ok, Err}
-use Rattle.std.specs.Prelude.{is_ok}
+use Rattle.std.specs.Prelude.{◌&&◌, is_ok, not}
 use Rattle.ddcmp_frame.specs.Reader.{StandsFor}
 use Rattle.ddcmp_station.specs.Linking.{LinkView}
 use Rattle.ddcmp_session.specs.Session.{SessionView, after_connected, after_time, form_of}
@@ -15,7 +15,7 @@ use Rattle.ddcmp_session.specs.Devices.{Agrees, AreOfRun, BuffersView, GoesOn}
 use Rattle.ddcmp_session.specs.Traffic.{Becomes, Traffic, line_begun}
 use Rattle.ddcmp_session.specs.Devices.{IsOfRun, Reports}
 use Rattle.ddcmp_session.specs.Lines.{AllKeepOpen, AllReady, Closes, GoesIf, GoesOver, IsReady}
-use Rattle.ddcmp_session.specs.Lines.{KeepsOpen, MayEndWell, ReadyIf, ReportsOver, StaysOver}
+use Rattle.ddcmp_session.specs.Lines.{IsReadToEnd, KeepsOpen, MayEndWell, ReadyIf, ReportsOver, StaysOver}
 use Rattle.ddcmp_session.specs.Lines.{none_received}
 use Rattle.ddcmp_session.specs.Timing.{PassesTime, after_failure, after_line}
 use Rattle.ddcmp_session.specs.declared.buffers.lines.Stop.TheVariants.{the_data, Device}
@@ -450,3 +450,23 @@ may-end {R} {ran} {result} {has_run} s well may is ok = by (well e)
     by : (ran ≡ result) ⊎ (has_run ≡ true) → MayEndWell s
     by (inl same) = may (same ∙ e)
     by (inr has) = inr (sym is ∙ has)
+
+-- whether more may be to be read: the input isn't over and is one whose end is awaited
+none-more : (over awaits : Bool) → not over && awaits ≡ false → (over ≡ true) ⊎ (awaits ≡ false)
+none-more true awaits e = inl refl
+none-more false awaits e = inr e
+
+pub read-to-end : {R : Type 0} {ran result : Result (Unit {0}) R} {more : Bool}
+    (held : BuffersView) (s : SessionView)
+    → (result ≡ Ok tt → (ran ≡ result) ⊎ (more ≡ false))
+    → (ran ≡ Ok tt → s.is_read ≡ true)
+    → more ≡ (not held.is_over && s.options.awaits_end)
+    → is_ok result ≡ true → IsReadToEnd held s
+read-to-end {R} {ran} {result} {more} held s read done is ok = by (read e)
+  where
+    e : result ≡ Ok tt
+    e = is-unit result ok
+
+    by : (ran ≡ result) ⊎ (more ≡ false) → IsReadToEnd held s
+    by (inl same) = inl (done (same ∙ e))
+    by (inr none) = inr (none-more held.is_over s.options.awaits_end (sym is ∙ none))

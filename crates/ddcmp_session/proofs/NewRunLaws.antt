@@ -1,12 +1,11 @@
 -- The run of a new session.
 use Rattle.std.proofs.Common.{◌≡◌, ◌∙◌, ap, sym, subst, Bool, [], Option}
-use Rattle.std.specs.Prelude.{Result, Ok, Err, if◌then◌else◌}
+use Rattle.std.specs.Prelude.{Result, Ok, Err}
 use Rattle.ddcmp_frame.specs.Reader.{StandsFor}
 use Rattle.ddcmp_session.specs.declared.buffers.lines.Stop.TheVariants.{the_data as Stop}
 use Rattle.ddcmp_session.specs.declared.devices.DeviceFault.{DeviceFault}
 use Rattle.ddcmp_session.specs.declared.link.LinkFault.TheVariants.{the_data as LinkFault, Stopped}
 use Rattle.ddcmp_session.specs.declared.link.LinkOutcome.{LinkOutcome}
-use Rattle.ddcmp_session.specs.declared.link.LinkOutcome.TheVariants.{Delivered, SomeRefused}
 use Rattle.ddcmp_io.specs.declared.line_kind.LineKind.{LineKind}
 use Rattle.ddcmp_streams.specs.declared.options.Options.{Options}
 use Rattle.ddcmp_session.specs.Session.{SessionView, session_made}
@@ -14,7 +13,7 @@ use Rattle.ddcmp_session.specs.Devices.{BuffersView, nothing_read}
 use Rattle.ddcmp_session.specs.Traffic.{Traffic}
 use Rattle.ddcmp_session.specs.Finishing.{RunsToEnd}
 use Rattle.ddcmp_session.specs.Lines.{ReportsOver}
-use Rattle.ddcmp_session.specs.NewRun.{ReportsNew, RunsNew, served_of}
+use Rattle.ddcmp_session.specs.NewRun.{ReportsNew, RunsNew}
 
 pub runs-new : {well : Bool} {options : Options} {kind : LineKind} {held new_held : BuffersView}
     {s last : SessionView} {before after : Option Traffic}
@@ -48,13 +47,6 @@ reports-new {options} {kind} {held} {s} {before} {after} {fault} none made clear
 abbrev pub stop-of : {R : Type 0} → Result LinkOutcome (LinkFault R) → Result (Unit {0}) (Stop R)
 stop-of (Err (Stopped stop)) = Err stop
 stop-of _ = Ok tt
-
--- how a run is reported that ended well, by whether a part of its input was refused
-pub reported-as : {served : LinkOutcome} {is_refused : Bool} (s : SessionView)
-    → (if is_refused then SomeRefused else Delivered) ≡ served → s.was_refused ≡ is_refused
-    → served ≡ served_of s
-reported-as s told is =
-    sym told ∙ ap (λ b. if b then SomeRefused else Delivered) (sym is)
 
 abbrev or-else : {R : Type 0} → LinkOutcome → Result LinkOutcome (LinkFault R) → LinkOutcome
 or-else other (Ok served) = served

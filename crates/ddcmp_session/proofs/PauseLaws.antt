@@ -2,7 +2,7 @@
 use Rattle.std.proofs.Common.{◌≡◌, ◌⊎◌, inl, inr, ◌∙◌, ap, sym, subst, refl, ℕ, ◌+◌, ◌≤◌, arith}
 use Rattle.std.proofs.Common.{Bool, true, false, cond, not, List, [], ◌∷◌, length}
 use Rattle.std.proofs.Common.{Option, Some, None, option_to_list}
-use Rattle.std.specs.Prelude.{◌==◌, ◌&&◌, is_none, nat_lt}
+use Rattle.std.specs.Prelude.{◌==◌, ◌&&◌, ◌||◌, is_none, is_some, nat_lt}
 use Rattle.std.proofs.lemmas.Bool.{le-leb}
 use Rattle.ddcmp_frame.specs.declared.nak.Nak.{Nak}
 use Rattle.ddcmp_input.specs.declared.entry.Entry.{Entry}
@@ -17,20 +17,21 @@ use Rattle.ddcmp_station.specs.Driving.{is_due, later}
 use Rattle.ddcmp_station.specs.Linking.{LinkView, after_wake, delivered, is_needed, state_of}
 use Rattle.ddcmp_streams.specs.Messages.{after_input, after_last, entries_of_input, entry_of_last}
 use Rattle.ddcmp_streams.specs.Messages.{is_message_unfinished}
-use Rattle.ddcmp_streams.specs.Options.{report_ms}
+use Rattle.ddcmp_streams.specs.Options.{report_ms, speed_of}
 use Rattle.ddcmp_session.specs.declared.course.Course.{Course}
 use Rattle.ddcmp_session.specs.declared.course.Progress.{Progress}
 use Rattle.ddcmp_session.specs.Course.{after_acknowledged, after_looked, after_moment, after_noise}
 use Rattle.ddcmp_session.specs.Course.{after_heard, after_notice, after_notices}
 use Rattle.ddcmp_session.specs.Course.{after_opening_failed, after_unheard, expiry_counted}
-use Rattle.ddcmp_session.specs.Course.{after_pause, after_progress, after_refusal, after_state}
+use Rattle.ddcmp_session.specs.Course.{after_pauses, after_progress, after_refusal, after_state}
 use Rattle.ddcmp_session.specs.Course.{goes_on, is_at, lost_more, next_pause, pause_at, pause_begun}
-use Rattle.ddcmp_session.specs.Course.{progress_of, refusal_between, try_counted}
+use Rattle.ddcmp_session.specs.Course.{after_naks, after_writing, naks_of, progress_of, refusal_between}
+use Rattle.ddcmp_session.specs.Course.{try_counted}
 use Rattle.ddcmp_session.specs.Session.{SessionView, after_connected, after_connecting_in}
 use Rattle.ddcmp_session.specs.Session.{after_entries, after_entry, after_input_end}
-use Rattle.ddcmp_session.specs.Session.{after_last_line, after_time, after_timeout, after_tried}
-use Rattle.ddcmp_session.specs.Session.{after_unfinished, awaits_peer, expires, lost_by_start, starts}
-use Rattle.ddcmp_session.specs.Session.{takes_end, wants_line}
+use Rattle.ddcmp_session.specs.Session.{after_last_line, after_telling, after_time, after_timeout}
+use Rattle.ddcmp_session.specs.Session.{after_unfinished, awaits_peer, expires, is_sending, lost_by_start, starts}
+use Rattle.ddcmp_session.specs.Session.{takes_end, timed_out, wants_line}
 use Rattle.ddcmp_session.specs.Timing.{PassesTime, after_failure, after_line, is_listener}
 use Rattle.ddcmp_session.specs.Calls.{SessionCall, SessionDoes, InputRead, InputEnded, Connected}
 use Rattle.ddcmp_session.specs.Calls.{LineEnded, Received, Filled, LineTook, TimedOut, TimePassed}
@@ -154,6 +155,12 @@ noise d p c =
     (either (nat_lt c.replies 7) _ c c (record { pause = refl; moment = refl })
     (keeps c c refl)))))
 
+naks : (ms n : ℕ) (p : Progress) (c : Course) → Keeps c (after_naks ms n p c)
+naks ms n p c =
+    either (goes_on p c.progress) _ _ c (record { pause = refl; moment = refl })
+    (either (n == c.naks || is_some c.nak_pause) c _ c (keeps c c refl)
+    (record { pause = refl; moment = refl }))
+
 looked : (ms : ℕ) (before : NakCounts) (d : LinkView) (c : Course)
     → PauseGoes ms c (after_looked ms before d c)
 unfolding after_looked
@@ -161,14 +168,18 @@ looked ms before d c =
     let p = progress_of d in
     let why = refusal_between before d.station.core.counters.nak_received in
     let one = after_refusal ms why (after_acknowledged d.totals.acknowledged (after_heard c)) in
-    let two = after_noise d p one in
+    let held = after_naks ms (naks_of d.station.core.counters.nak_sent) p one in
+    let two = after_noise d p held in
     let three = after_progress p two in
     let four = after_state (state_of d).state three in
     let progress =
     either (is_at p two.progress) two (record two { progress = Some p; tries = 0; refusal = None })
     two (keeps two two refl) (record { pause = refl; moment = refl }) in
     goes-on ms c one four (heard ms c one (refused ms why d.totals.acknowledged (after_heard c)))
-    (then-keeps one three four (then-keeps one two three (noise d p one) progress)
+    (then-keeps one three four
+    (then-keeps one two three
+    (then-keeps one held two (naks ms (naks_of d.station.core.counters.nak_sent) p one)
+    (noise d p held)) progress)
     (in-state (state_of d).state three))
 
 noticed : (n : Notice) (c : Course) → Keeps c (after_notice n c)
@@ -216,14 +227,17 @@ received s d ns new e =
 timed-pause : (now : ℕ) (s : SessionView)
     → (after_timeout now s).course.pause ≡ pause_at now s.course.pause
 timed-pause now s =
-    let c = after_pause (after_moment (report_ms s.options) now s.course) in
+    let c =
+    after_writing (speed_of s.options) s.link.totals.written
+    (after_pauses (after_moment (report_ms s.options) now s.course)) in
     let t = record s { link = after_wake now s.link; course = c } in
-    let u = after_tried (expires now s) t in
+    let u = timed_out now s in
     let p = pause_at now s.course.pause in
-    let at =
-    either-pause (expires now s && not (awaits_peer t)) (expiry_counted s.is_read c) c p
-    (either-pause s.is_read _ (try_counted None c) p refl refl) refl in
-    either-pause (wants_line u) u.course (after_unheard u.course) p at at
+    let counted =
+    either-pause (is_sending t) c (expiry_counted s.is_read c) p refl
+    (either-pause s.is_read _ (try_counted None c) p refl refl) in
+    let at = either-pause (expires now s && not (awaits_peer t)) _ c p counted refl in
+    either-pause (wants_line u) _ (after_unheard (after_telling u).course) p at at
 
 ended-pause : (now until : ℕ) (p : Option ℕ) → p ≡ Some until → until ≤ now → pause_at now p ≡ None
 ended-pause now until p e at =

@@ -4,6 +4,7 @@ use Rattle.std.proofs.Common.{nat_le, List, [], ◌∷◌, ◌++◌, append_asso
 use Rattle.std.proofs.Common.{Ok, Err, ◌⊎◌, inl, inr, refl, None}
 use Rattle.std.specs.Prelude.{◌&&◌, ◌||◌, not}
 use Rattle.std.proofs.lemmas.Bool.{le-leb}
+use Rattle.ddcmp_station.specs.Linking.{delivered}
 use Rattle.ddcmp_io.specs.declared.device.Got.{Got}
 use Rattle.ddcmp_io.specs.declared.device.Got.TheVariants as got
 use Rattle.ddcmp_session.specs.declared.buffers.lines.Stop.TheVariants.{the_data, Device, Left}
@@ -63,6 +64,19 @@ spent-or-ran false false false line goes_on quiet e = inl e
 pub may-at-end : (s : SessionView) → end s ≡ Some end_of.Done → MayEndWell s
 may-at-end s e =
     spent-or-ran (is_delivered s) s.is_read s.course.has_run s.has_line (stays s)
+    (nat_le (lingers_until s) s.course.moment)
+    (ends-done (nat_le (run_ends_at s) s.course.moment) (s.has_line && s.course.peer_restarted)
+    (s.has_line && is_given_up s) _ e)
+
+spent-was-read : (read delivered ran line goes_on quiet : Bool)
+    → (((read && delivered) || (read && (ran && not line))) && not goes_on) && quiet ≡ true
+    → read ≡ true
+spent-was-read true delivered ran line goes_on quiet e = refl
+spent-was-read false delivered ran line goes_on quiet e = cc
+
+pub read-at-end : (s : SessionView) → end s ≡ Some end_of.Done → s.is_read ≡ true
+read-at-end s e =
+    spent-was-read s.is_read (delivered s.link) s.course.has_run s.has_line (stays s)
     (nat_le (lingers_until s) s.course.moment)
     (ends-done (nat_le (run_ends_at s) s.course.moment) (s.has_line && s.course.peer_restarted)
     (s.has_line && is_given_up s) _ e)

@@ -1,7 +1,7 @@
 -- How the run of a session proceeds: what its line has done, in moments and in tries.
-use Rattle.std.specs.Prelude.{ℕ, ◌+◌, ◌-◌, ◌*◌, ◌%◌, Bool, true, false, ◌&&◌, ◌||◌, not, ◌==◌}
+use Rattle.std.specs.Prelude.{ℕ, ◌+◌, ◌-◌, ◌*◌, ◌/◌, ◌%◌, Bool, true, false, ◌&&◌, ◌||◌, not, ◌==◌}
 use Rattle.std.specs.Prelude.{nat_le, nat_lt, if◌then◌else◌, min, max, List, [], ◌∷◌, length}
-use Rattle.std.specs.Prelude.{Option, Some, None, is_none}
+use Rattle.std.specs.Prelude.{Option, Some, None, is_none, is_some}
 use Rattle.ddcmp_frame.specs.declared.nak.Nak.{Nak}
 use Rattle.ddcmp_frame.specs.declared.nak.Nak.TheVariants as nak
 use Rattle.ddcmp_core.specs.declared.counters.NakCounts.{NakCounts}
@@ -34,6 +34,14 @@ course_begun report_ms = record {
   is_refused = false;
   pause = None;
   pause_ms = 0;
+  naks = 0;
+  nak_pause = None;
+  nak_pause_ms = 0;
+  told_too_long = false;
+  told_damaged = false;
+  written = 0;
+  written_then = 0;
+  sends_until = 0;
   retry_seconds = 0;
   opens_at = 0;
   peer_has_started = false;
@@ -62,8 +70,24 @@ after_moment report_ms now c = record c {
 abbrev pub pause_at : ℕ → Option ℕ → Option ℕ
 pause_at now pause = if is_due now pause then None else pause
 
-abbrev pub after_pause : Course → Course
-after_pause c = record c { pause = pause_at c.moment c.pause }
+abbrev pub after_pauses : Course → Course
+after_pauses c = record c {
+  pause = pause_at c.moment c.pause;
+  nak_pause = pause_at c.moment c.nak_pause;
+}
+
+-- how many milliseconds a line of this speed needs for bytes, of which the system holds at most 4096
+abbrev pub sending_ms : ℕ → ℕ → ℕ
+sending_ms baud bytes = 10000 * min bytes 4096 / baud
+
+-- This many bytes were written since the link was made: the last ones may be underway yet.
+abbrev pub after_writing : ℕ → ℕ → Course → Course
+after_writing baud written c = record c {
+  written = written;
+  sends_until =
+      min (later (max c.sends_until c.moment) (sending_ms baud (written - c.written)))
+      (later c.moment (sending_ms baud 4096));
+}
 
 -- ---- a line
 
@@ -76,6 +100,8 @@ after_connecting c = record c {
   is_refused = false;
   pause = None;
   pause_ms = 0;
+  nak_pause = None;
+  nak_pause_ms = 0;
   peer_has_started = false;
   has_run_here = false;
   peer_restarted = false;
@@ -179,6 +205,19 @@ abbrev pub goes_on : Progress → Option Progress → Bool
 goes_on p None = true
 goes_on p (Some before) = not (p.step == before.step && p.received == before.received)
 
+-- the NAKs of frames that came damaged or too long
+abbrev pub naks_of : NakCounts → ℕ
+naks_of n = n.header_check + n.data_check + n.too_long + n.format
+
+-- Each such NAK holds the next one back for a while, unless a message was received meanwhile.
+abbrev pub after_naks : ℕ → ℕ → Progress → Course → Course
+after_naks timer_ms naks p c =
+    if goes_on p c.progress then record c { naks = naks; nak_pause = None; nak_pause_ms = 0 }
+    else if naks == c.naks || is_some c.nak_pause then c
+    else
+    (let ms = next_pause timer_ms c.nak_pause_ms in
+    record c { naks = naks; nak_pause = Some (later c.moment ms); nak_pause_ms = ms })
+
 -- The line isn't quiet just after the first bytes, a step of the handshake or a received message,
 -- nor while the peer isn't done: it is in the middle of a frame, or a reply to it is pending. Once
 -- all messages of this end are acknowledged, seven such replies count, until the peer brings
@@ -214,8 +253,9 @@ after_looked timer_ms before d c =
     after_state (state_of d).state
     (after_progress (progress_of d)
     (after_noise d (progress_of d)
+    (after_naks timer_ms (naks_of d.station.core.counters.nak_sent) (progress_of d)
     (after_refusal timer_ms (refusal_between before d.station.core.counters.nak_received)
-    (after_acknowledged d.totals.acknowledged (after_heard c)))))
+    (after_acknowledged d.totals.acknowledged (after_heard c))))))
 
 -- messages that were read and will never be acknowledged
 abbrev pub lost_more : ℕ → Course → Course

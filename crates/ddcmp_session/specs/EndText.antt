@@ -38,3 +38,8 @@ pause_text seconds = codes "retry in " ++ decimal seconds ++ codes " s\n"
 abbrev pub unread_text : List ℕ
 unread_text =
     codes "ddcmp: " ++ codes "standard output isn't read: received messages weren't written" ++ codes "\n"
+
+-- all that came over the line is what was sent
+abbrev pub echo_text : List ℕ
+echo_text =
+    codes "ddcmp: " ++ codes "all that came is what was sent: does the line echo?" ++ codes "\n"

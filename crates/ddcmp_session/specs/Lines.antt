@@ -1,5 +1,5 @@
 -- How a session runs over its devices, over one line after the other, and how its run ends.
-use Rattle.std.specs.Prelude.{ℕ, ◌≡◌, ◌≤◌, ◌⊎◌, ⊤, Bool, true, List, [], ◌∷◌, Option, Some, None}
+use Rattle.std.specs.Prelude.{ℕ, ◌≡◌, ◌≤◌, ◌⊎◌, ⊤, Bool, true, false, List, [], ◌∷◌, Option, Some, None}
 use Rattle.ddcmp_window.specs.Store.{first_message}
 use Rattle.ddcmp_session.specs.Session.{SessionView, is_delivered, room_for_mail}
 use Rattle.ddcmp_session.specs.Calls.{SessionCall, SessionHistory, SessionStep, HasClosed, Closed}
@@ -91,7 +91,13 @@ pub record Closes (held : BuffersView) (old new : SessionView) : Type 0 where
 abbrev pub MayEndWell : SessionView → Type 0
 MayEndWell s = (is_delivered s ≡ true) ⊎ (s.course.has_run ≡ true)
 
--- A session ran over its lines and was then closed; if it reports that it ended well, it may.
+-- The session or the device has told the end of the input, or it has none that is waited for.
+abbrev pub IsReadToEnd : BuffersView → SessionView → Type 0
+IsReadToEnd held s =
+    (s.is_read ≡ true) ⊎ ((held.is_over ≡ true) ⊎ (s.options.awaits_end ≡ false))
+
+-- A session ran over its lines and was then closed; if it reports that it ended well, it may, and
+-- the input was read to its end.
 pub record Ends (is_well : Bool) (held : BuffersView) (old : SessionView)
     (before : Option Traffic) (new_held : BuffersView) (new : SessionView)
     (after : Option Traffic) : Type 0 where
@@ -99,3 +105,4 @@ pub record Ends (is_well : Bool) (held : BuffersView) (old : SessionView)
   pub over : GoesOver held old before new_held unclosed after
   pub closes : Closes new_held unclosed new
   pub well : is_well ≡ true → MayEndWell unclosed
+  pub read : is_well ≡ true → IsReadToEnd new_held unclosed

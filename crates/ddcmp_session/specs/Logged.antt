@@ -1,11 +1,12 @@
 -- A session with its standard error, and what each call writes there.
 use Rattle.std.specs.Prelude.{◌≡◌, ℕ, ◌+◌, ◌*◌, ◌==◌, ◌&&◌, not, Bool, true, false, MatchBool}
+use Rattle.std.specs.Prelude.{◌⊎◌, MatchOption}
 use Rattle.std.specs.Prelude.{if◌then◌else◌, Option, None, Some, List, [], ◌∷◌, option_to_list}
 use Rattle.ddcmp_core.specs.declared.notice.Notice.{Notice}
 use Rattle.ddcmp_input.specs.declared.entry.Entry.{Entry}
 use Rattle.ddcmp_input.specs.declared.entry.Entry.TheVariants.{NotHexadecimal}
 use Rattle.ddcmp_station.specs.CountersText.{counters_line}
-use Rattle.ddcmp_station.specs.Linking.{LinkView, after_wake, total_plus}
+use Rattle.ddcmp_station.specs.Linking.{LinkView, total_plus}
 use Rattle.ddcmp_station.specs.StationText.{notice_line}
 use Rattle.ddcmp_io.specs.declared.transfer.Down.{Down}
 use Rattle.ddcmp_streams.specs.declared.errors.TheConstants.{LAST_ROOM, SHORT_LINE}
@@ -13,23 +14,26 @@ use Rattle.ddcmp_streams.specs.declared.messages.MessageForm.{MessageForm}
 use Rattle.ddcmp_streams.specs.declared.messages.MessageForm.TheVariants as form
 use Rattle.ddcmp_streams.specs.declared.messages.Messages.{Messages}
 use Rattle.ddcmp_session.specs.declared.text.TheConstants.{END_ROOM}
-use Rattle.ddcmp_session.specs.Course.{after_moment, after_pause, reports_at}
-use Rattle.ddcmp_session.specs.EndText.{end_line, line_down_text}
+use Rattle.ddcmp_session.specs.Course.{reports_at}
+use Rattle.ddcmp_session.specs.EndText.{echo_text, end_line, line_down_text}
+use Rattle.ddcmp_streams.specs.Echo.{EchoView, IsEcho, after_more}
 use Rattle.ddcmp_streams.specs.Errors.{ErrorsView, HasLine, HasObject}
 use Rattle.ddcmp_session.specs.Reports.{given_up_text, report_members, report_text, silence_text}
+use Rattle.ddcmp_session.specs.Reports.{wrong_text}
 use Rattle.ddcmp_streams.specs.Messages.{after_last, entry_of_last, is_message_unfinished}
 use Rattle.ddcmp_streams.specs.Messages.{is_question}
-use Rattle.ddcmp_session.specs.Session.{SessionView, after_tried, expires, is_delivered}
+use Rattle.ddcmp_session.specs.Session.{SessionView, expires, is_delivered, timed_out, untold}
 use Rattle.ddcmp_streams.specs.Options.{report_ms}
 use Rattle.ddcmp_session.specs.Text.{dropped_by, lost_line}
 use Rattle.ddcmp_session.specs.Timing.{is_first_silence, is_given_up, stays}
 use Rattle.ddcmp_streams.specs.Trace.{TraceView, HasLines, timer_lines}
 
--- The queued lines, the trace of the line if there is one, and how many messages of the input were
--- read.
+-- The queued lines, the trace of the line if there is one, what came over the line beside what was
+-- sent, and how many messages of the input were read.
 pub record LogView : Type 0 where
   pub errors : ErrorsView
   pub trace : Option TraceView
+  pub echo : EchoView
   pub read : ℕ
 
 pub record LoggedSession : Type 0 where
@@ -136,19 +140,37 @@ ReportsDown why s old new =
     MatchBool (is_delivered s && not (stays s)) (new ≡ old)
     (HasLine SHORT_LINE (line_down_text why) old new)
 
--- a session after an expiry was counted
-abbrev pub tried : ℕ → SessionView → SessionView
-tried now s = after_tried (expires now s) (record s {
-  link = after_wake now s.link;
-  course = after_pause (after_moment (report_ms s.options) now s.course);
-})
+-- What the peer sends wrong is told, if it wasn't before.
+abbrev pub ReportsWrong : SessionView → ErrorsView → ErrorsView → Type 0
+ReportsWrong s old new =
+    MatchOption (untold s) (new ≡ old)
+    (λ wrong.
+    HasLine SHORT_LINE (wrong_text s.link.station.core.limits.longest wrong) old new)
+
+-- bytes were sent over the line, or received from it
+abbrev pub echo_sent : List ℕ → LogView → LogView
+echo_sent bytes l = record l {
+  echo = record l.echo { sent = after_more bytes l.echo.sent };
+}
+
+abbrev pub echo_came : List ℕ → LogView → LogView
+echo_came bytes l = record l {
+  echo = record l.echo { came = after_more bytes l.echo.came };
+}
+
+-- If all that came is what was sent, that is told.
+abbrev pub ReportsEcho : EchoView → ErrorsView → ErrorsView → Type 0
+ReportsEcho e old new =
+    (IsEcho e × HasLine SHORT_LINE echo_text old new) ⊎ ((IsEcho e → ⊥) × (new ≡ old))
 
 -- All timers were handled at this moment.
 pub record HandlesTimeout (now : ℕ) (s : SessionView) (old new : LogView) : Type 0 where
   pub passed : ErrorsView
   pub moment : PassesMoment now s old passed
   pub left : ErrorsView
-  pub given_up : ReportsGivenUp (tried now s) passed left
+  pub given_up : ReportsGivenUp (timed_out now s) passed left
   pub goes_on : ErrorsView
-  pub silence : ReportsSilence (expires now s) (tried now s) left goes_on
-  pub traced : Traces (Wakes now (expires now s)) old.trace (record old { errors = goes_on }) new
+  pub silence : ReportsSilence (expires now s) (timed_out now s) left goes_on
+  pub told : ErrorsView
+  pub wrong : ReportsWrong (timed_out now s) goes_on told
+  pub traced : Traces (Wakes now (expires now s)) old.trace (record old { errors = told }) new

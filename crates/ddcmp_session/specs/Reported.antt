@@ -12,6 +12,7 @@ use Rattle.ddcmp_streams.specs.declared.messages.Messages.TheVariants.{Digits, B
 use Rattle.ddcmp_streams.specs.declared.options.Options.{Options}
 use Rattle.ddcmp_session.specs.declared.session.TheConstants.{ERRORS_ROOM}
 use Rattle.ddcmp_session.specs.declared.text.TheConstants.{LINE_ROOM}
+use Rattle.ddcmp_streams.specs.Echo.{none_echoed}
 use Rattle.ddcmp_streams.specs.Errors.{ErrorsView, HasLine, no_lines, refused_text}
 use Rattle.ddcmp_session.specs.Logged.{LogView, LoggedSession, HasLost, HasReport, read_after}
 use Rattle.ddcmp_session.specs.Logged.{read_at_end, read_unfinished}
@@ -28,7 +29,12 @@ abbrev pub errors_room : Options → ℕ
 errors_room o = if o.trace then 8 * ERRORS_ROOM else ERRORS_ROOM
 
 abbrev pub log_made : Options → Option TraceView → LogView
-log_made o trace = record { errors = no_lines (errors_room o); trace = trace; read = 0 }
+log_made o trace = record {
+  errors = no_lines (errors_room o);
+  trace = trace;
+  echo = none_echoed;
+  read = 0;
+}
 
 -- the longest message that a trace shows; a length has 14 bits
 abbrev pub traced_length : Options → ℕ

@@ -1,8 +1,10 @@
 -- The text of reports.
-use Rattle.std.specs.Prelude.{List, ◌++◌, ℕ, codes, Option, Some, None}
+use Rattle.std.specs.Prelude.{List, ◌++◌, ℕ, codes, decimal, Option, Some, None}
 use Rattle.ddcmp_explain.specs.Json.{member, quoted, reason_in_words}
 use Rattle.ddcmp_frame.specs.declared.nak.Nak.{Nak}
 use Rattle.ddcmp_session.specs.EndText.{totals_text}
+use Rattle.ddcmp_session.specs.declared.course.Wrong.{Wrong}
+use Rattle.ddcmp_session.specs.declared.course.Wrong.TheVariants.{Damaged, TooLong}
 use Rattle.ddcmp_station.specs.Linking.{LinkView}
 use Rattle.ddcmp_station.specs.declared.counts.Layout.TheVariants.{Text, Json}
 use Rattle.ddcmp_station.specs.CountersText.{counter_text, counters_line, counts_text}
@@ -31,3 +33,10 @@ given_up_text (Some reason) =
 -- the peer is silent, and the tries go on
 abbrev pub silence_text : List ℕ
 silence_text = codes "ddcmp: peer " ++ codes "doesn't answer, still trying" ++ codes "\n"
+
+-- what the peer sends wrong, beside the longest message that this end receives
+abbrev pub wrong_text : ℕ → Wrong → List ℕ
+wrong_text longest TooLong =
+    codes "ddcmp: peer's messages are too long: --max is " ++ decimal longest ++ codes "\n"
+wrong_text longest Damaged =
+    codes "ddcmp: " ++ codes "damaged frames alone: other speed or parity, telnet?" ++ codes "\n"

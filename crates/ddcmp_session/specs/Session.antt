@@ -1,8 +1,9 @@
 -- The state of a session, and what each call does to it.
 use Rattle.std.specs.Prelude.{◌≡◌, ◌⊎◌, ℕ, ◌+◌, ◌*◌, ◌<◌, Bool, true, false, ◌&&◌, ◌||◌, not}
 use Rattle.std.specs.Prelude.{◌==◌}
-use Rattle.std.specs.Prelude.{nat_le}
+use Rattle.std.specs.Prelude.{nat_le, nat_lt}
 use Rattle.std.specs.Prelude.{if◌then◌else◌, List, [], ◌∷◌, length, Some, None, is_some, is_ok}
+use Rattle.std.specs.Prelude.{Option}
 use Rattle.std.specs.Prelude.{option_to_list}
 use Rattle.ddcmp_core.specs.Table.{after_halt, answer_to_start, is_maintenance}
 use Rattle.ddcmp_core.specs.declared.notice.Notice.{Notice}
@@ -13,22 +14,25 @@ use Rattle.ddcmp_station.specs.Driving.{expires_at}
 use Rattle.ddcmp_station.specs.Linking.{LinkView, link_made, takes_message, after_offered, anew}
 use Rattle.ddcmp_station.specs.Linking.{delivered, puts_frame, carries_message, after_wake}
 use Rattle.ddcmp_station.specs.Linking.{anew_for_maintenance, after_offered_maintenance, state_of}
-use Rattle.ddcmp_station.specs.Linking.{owes_ack, totals_after_feed, wants_bytes}
+use Rattle.ddcmp_station.specs.Linking.{carries_refusal, owes_ack, totals_after_feed, wants_bytes}
 use Rattle.ddcmp_station.specs.declared.link.Totals.{Totals}
 use Rattle.ddcmp_session.specs.declared.course.Course.{Course}
+use Rattle.ddcmp_session.specs.declared.course.Wrong.{Wrong}
+use Rattle.ddcmp_session.specs.declared.course.Wrong.TheVariants.{Damaged, TooLong}
 use Rattle.ddcmp_streams.specs.declared.messages.MessageForm.{MessageForm}
 use Rattle.ddcmp_streams.specs.declared.messages.MessageForm.TheVariants as form
 use Rattle.ddcmp_streams.specs.declared.messages.Messages.{Messages}
 use Rattle.ddcmp_streams.specs.declared.messages.Messages.TheVariants.{Digits, Binary}
 use Rattle.ddcmp_io.specs.LineKinds.{is_connection}
 use Rattle.ddcmp_io.specs.declared.line_kind.LineKind.{LineKind}
+use Rattle.ddcmp_io.specs.declared.line_kind.LineKind.TheVariants.{Device}
 use Rattle.ddcmp_streams.specs.declared.options.Options.{Options}
-use Rattle.ddcmp_streams.specs.Options.{report_ms}
+use Rattle.ddcmp_streams.specs.Options.{report_ms, speed_of}
 use Rattle.ddcmp_session.specs.declared.text.TheConstants.{LINE_ROOM, LOST_ROOM, NOTICES_ROOM}
-use Rattle.ddcmp_session.specs.Course.{course_begun, after_connecting, after_moment, after_pause}
+use Rattle.ddcmp_session.specs.Course.{course_begun, after_connecting, after_moment, after_pauses}
 use Rattle.ddcmp_session.specs.Course.{after_entering, lost_more}
 use Rattle.ddcmp_session.specs.Course.{after_looked, after_notices, after_unheard}
-use Rattle.ddcmp_session.specs.Course.{expiry_counted}
+use Rattle.ddcmp_session.specs.Course.{after_writing, expiry_counted}
 use Rattle.ddcmp_streams.specs.Messages.{messages_begun, message_in, after_input}
 use Rattle.ddcmp_streams.specs.Messages.{entries_of_input, after_last, entry_of_last}
 use Rattle.ddcmp_streams.specs.Messages.{is_message_unfinished, is_question, count_of}
@@ -153,9 +157,11 @@ abbrev pub room_for_mail : SessionView → ℕ
 room_for_mail s = 2 * s.link.station.core.limits.longest + LINE_ROOM + NOTICES_ROOM
 
 -- The next frame carries a message, and messages are held back since the peer refuses them. One
--- that carries an ACK isn't, since no ACK goes before it.
+-- that carries an ACK isn't, since no ACK goes before it. Or it is a NAK that is held back.
 abbrev pub is_paused : SessionView → Bool
-is_paused s = is_some s.course.pause && carries_message s.link && not (owes_ack s.link)
+is_paused s =
+    (is_some s.course.pause && carries_message s.link && not (owes_ack s.link))
+    || (is_some s.course.nak_pause && carries_refusal s.link)
 
 -- bytes are queued for the line, or there is no frame to send, or only one that is held back
 abbrev pub IsFilled : SessionView → Type 0
@@ -203,11 +209,28 @@ awaits_peer s = not (is_connection s.kind) && not s.course.peer_has_started
 abbrev pub after_time : ℕ → SessionView → SessionView
 after_time now s = record s { course = after_moment (report_ms s.options) now s.course }
 
--- An expiry counts as a try if a peer is there.
+abbrev pub is_device : LineKind → Bool
+is_device Device = true
+is_device _ = false
+
+-- A serial device has bytes of this end underway, or took some since the last expiry and is to take
+-- more.
+abbrev pub is_sending : SessionView → Bool
+is_sending s =
+    is_device s.kind
+    && (nat_lt s.course.moment s.course.sends_until
+    || (not (length s.link.outbox.waiting == 0)
+    && not (s.course.written == s.course.written_then)))
+
+-- An expiry counts as a try if a peer is there, and has all that was sent.
 abbrev pub after_tried : Bool → SessionView → SessionView
 after_tried has_expired s = record s {
   course =
-      if has_expired && not (awaits_peer s) then expiry_counted s.is_read s.course else s.course;
+      if has_expired && not (awaits_peer s)
+      then record (if is_sending s then s.course else expiry_counted s.is_read s.course) {
+        written_then = s.course.written;
+      }
+      else s.course;
 }
 
 -- While the line isn't read the peer isn't heard.
@@ -216,11 +239,40 @@ unless_read s = record s {
   course = if wants_line s then s.course else after_unheard s.course;
 }
 
-abbrev pub after_timeout : ℕ → SessionView → SessionView
-after_timeout now s = unless_read (after_tried (expires now s) (record s {
+abbrev pub timed_out : ℕ → SessionView → SessionView
+timed_out now s = after_tried (expires now s) (record s {
   link = after_wake now s.link;
-  course = after_pause (after_moment (report_ms s.options) now s.course);
-}))
+  course =
+      after_writing (speed_of s.options) s.link.totals.written
+      (after_pauses (after_moment (report_ms s.options) now s.course));
+})
+
+-- What the peer sends wrong is told once for each kind: its messages are too long, or for so long
+-- that NAKs are held back for as long as the reply timer all that it sends is damaged.
+abbrev pub has_too_long : SessionView → Bool
+has_too_long s = nat_lt 0 s.link.station.core.counters.too_longs
+
+abbrev pub has_damaged : SessionView → Bool
+has_damaged s =
+    not (has_too_long s)
+    && (is_some s.course.nak_pause && nat_le s.options.timer_ms s.course.nak_pause_ms)
+
+abbrev pub untold : SessionView → Option Wrong
+untold s =
+    if has_too_long s && not s.course.told_too_long then Some TooLong
+    else if has_damaged s && not s.course.told_damaged then Some Damaged
+    else None
+
+abbrev pub after_telling : SessionView → SessionView
+after_telling s = record s {
+  course = record s.course {
+    told_too_long = s.course.told_too_long || has_too_long s;
+    told_damaged = s.course.told_damaged || has_damaged s;
+  };
+}
+
+abbrev pub after_timeout : ℕ → SessionView → SessionView
+after_timeout now s = unless_read (after_telling (timed_out now s))
 
 -- the course after bytes of the line were used, with the link after that and their notices
 abbrev pub course_received : SessionView → LinkView → List Notice → Course

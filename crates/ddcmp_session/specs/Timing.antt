@@ -90,10 +90,12 @@ abbrev pub or_never : Option ℕ → ℕ
 or_never None = never
 or_never (Some moment) = moment
 
--- the end of the run, the reply timer, the end of a pause, or a report
+-- the end of the run, the reply timer, the end of a pause of messages or of NAKs, or a report
 abbrev pub next_timeout : SessionView → ℕ
 next_timeout s =
-    min (min (min (run_ends_at s) (or_never (timer_at s.link))) (or_never s.course.pause))
+    min
+    (min (min (min (run_ends_at s) (or_never (timer_at s.link))) (or_never s.course.pause))
+    (or_never s.course.nak_pause))
     s.course.report_at
 
 -- this moment, or if all else is done the moment when the peer was quiet for long enough, if that

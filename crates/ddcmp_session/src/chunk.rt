@@ -61,11 +61,6 @@ impl Chunk {
         &self.bytes[self.start..self.end]
     }
 
-    /// Returns whether it has no room after its bytes, so that there may be more to read.
-    pub(crate) fn is_full(&self) -> bool {
-        self.end == self.bytes.len()
-    }
-
     pub(crate) fn is_empty(&self) -> bool
         ensures { result ≡ (length self.now == 0) }
     {

@@ -1,27 +1,37 @@
 //! How the run of a session proceeds: when its line is left, and when it is opened again.
-ghost use Rattle.std.specs.Prelude.{◌≡◌};
-ghost use Rattle.ddcmp_session.specs.Course.{after_acknowledged, after_connecting, after_entering};
-ghost use Rattle.ddcmp_session.specs.Course.{after_looked, after_unheard, expiry_counted};
+ghost use Rattle.std.specs.Prelude.{◌≡◌, ◌<◌};
+ghost use Rattle.ddcmp_session.specs.Course.{after_connecting, after_entering, after_looked};
 ghost use Rattle.ddcmp_session.specs.Course.{after_moment, after_noise, after_opening_failed};
-ghost use Rattle.ddcmp_session.specs.Course.{after_pause, after_progress, after_refusal};
-ghost use Rattle.ddcmp_session.specs.Course.{after_state, course_begun, goes_on, is_at};
-ghost use Rattle.ddcmp_session.specs.Course.{lost_more, pause_begun};
-ghost use Rattle.ddcmp_session.specs.Course.{progress_of, refusal_between, reports_at, step_of};
-ghost use Rattle.ddcmp_session.specs.Course.{try_counted};
+ghost use Rattle.ddcmp_session.specs.Course.{after_progress, after_state, after_unheard};
+ghost use Rattle.ddcmp_session.specs.Course.{course_begun, expiry_counted, goes_on, is_at};
+ghost use Rattle.ddcmp_session.specs.Course.{lost_more, progress_of, reports_at, step_of};
+ghost use Rattle.ddcmp_session.specs.Course.{after_writing, sending_ms, try_counted};
+
+mod pauses;
 
 use ddcmp_frame::Nak;
 use ddcmp_station::{Link, NakCounts, State};
+use pauses::{naks_of, refusal_between};
 
 /// The shortest and the longest pause before a line is opened again, in seconds.
 const LEAST_SECONDS: u64 = 1;
 
 const MOST_SECONDS: u64 = 30;
 
-/// The first pause before messages that the peer refuses are retransmitted, in milliseconds.
-const FIRST_PAUSE_MS: u64 = 10;
+/// How many bytes written to a serial device the system holds at most.
+const HELD_BYTES: u64 = 4096;
 
 /// How many replies to frames that bring nothing new keep a line whose session is done.
 const MOST_REPLIES: u8 = 7;
+
+/// What a peer sends wrong.
+#[derive(Clone, Copy, PartialEq, Eq)]
+pub(crate) enum Wrong {
+    /// Its messages are too long.
+    TooLong,
+    /// All of its frames come damaged.
+    Damaged,
+}
 
 /// The progress of a link.
 #[derive(Clone, Copy)]
@@ -47,6 +57,9 @@ pub(crate) struct Progress {
 /// refuses a message, such as one that is too long for it, gets at most a window of messages in
 /// each pause. A NAK during a pause doesn't prolong it. NAKs in reply to REP don't count, since REPs
 /// are sent at the pace of the reply timer anyway.
+///
+/// NAKs that this end sends have such pauses, too: the first one of a frame that came damaged or too
+/// long repairs at once, and each further one is held back, until a message is received.
 #[derive(Clone, Copy)]
 pub(crate) struct Course {
     /// The last moment that was passed.
@@ -75,6 +88,21 @@ pub(crate) struct Course {
     pub(crate) pause: Option<u64>,
     /// The last such pause since a message was acknowledged, in milliseconds; 0 if there was none.
     pub(crate) pause_ms: u64,
+    /// How many NAKs of frames that came damaged or too long had been sent.
+    pub(crate) naks: u64,
+    /// Until when the next such NAK is held back, if it is.
+    pub(crate) nak_pause: Option<u64>,
+    /// The last such pause since a message was received, in milliseconds; 0 if there was none.
+    pub(crate) nak_pause_ms: u64,
+    /// Whether it was reported that the peer's messages are too long, and that frames come damaged.
+    pub(crate) told_too_long: bool,
+    pub(crate) told_damaged: bool,
+    /// How many bytes had been written to the line at the last moment, and when the reply timer
+    /// expired last.
+    pub(crate) written: u64,
+    pub(crate) written_then: u64,
+    /// Until when bytes that a serial device took may be underway.
+    pub(crate) sends_until: u64,
     /// The last pause before the line was opened again, in seconds.
     pub(crate) retry_seconds: u64,
     /// When the line may be opened.
@@ -109,6 +137,14 @@ impl Course {
             is_refused: false,
             pause: None,
             pause_ms: 0,
+            naks: 0,
+            nak_pause: None,
+            nak_pause_ms: 0,
+            told_too_long: false,
+            told_damaged: false,
+            written: 0,
+            written_then: 0,
+            sends_until: 0,
             retry_seconds: 0,
             opens_at: 0,
             peer_has_started: false,
@@ -134,15 +170,16 @@ impl Course {
         true
     }
 
-    /// Ends a pause of messages once it is due.
-    pub(crate) fn end_pause(&mut self)
-        ensures { self.new ≡ after_pause self.old }
+    /// Notes how many bytes were written to a line of this speed.
+    pub(crate) fn note_written(&mut self, written: u64, baud: u32)
+        requires speed { 0 < baud }
+        ensures { self.new ≡ after_writing baud written self.old }
     {
-        if let Some(until) = self.pause
-            && until <= self.moment
-        {
-            self.pause = None;
-        }
+        let more = sending_ms(baud, written.saturating_sub(self.written));
+        let until = self.sends_until.max(self.moment).saturating_add(more);
+        let most = self.moment.saturating_add(sending_ms(baud, HELD_BYTES));
+        self.sends_until = until.min(most);
+        self.written = written;
     }
 
     /// Starts on a line.
@@ -156,6 +193,8 @@ impl Course {
         self.is_refused = false;
         self.pause = None;
         self.pause_ms = 0;
+        self.nak_pause = None;
+        self.nak_pause_ms = 0;
         self.peer_has_started = false;
         self.has_run_here = false;
         self.peer_restarted = false;
@@ -214,51 +253,10 @@ impl Course {
             timer_ms,
         );
         let progress = progress_of(link);
+        self.note_naks(naks_of(&link.counters().nak_sent), progress, timer_ms);
         self.note_noise(link, progress);
         self.note_progress(progress);
         self.note_state(link.state());
-    }
-
-    /// Ends a pause if a message was acknowledged.
-    fn note_acknowledged(&mut self, acknowledged: u64)
-        ensures { self.new ≡ after_acknowledged acknowledged self.old }
-    {
-        if acknowledged != self.acknowledged {
-            self.acknowledged = acknowledged;
-            self.is_refused = false;
-            self.pause = None;
-            self.pause_ms = 0;
-        }
-    }
-
-    /// Begins a pause if the peer refuses messages again, and there is none.
-    fn note_refusal(&mut self, refusal: Option<Nak>, timer_ms: u32)
-        ensures { self.new ≡ after_refusal timer_ms refusal self.old }
-    {
-        if refusal.is_none() {
-            return;
-        }
-        if !self.is_refused {
-            self.is_refused = true;
-            return;
-        }
-        if self.pause.is_none() {
-            self.begin_pause(refusal, timer_ms);
-        }
-    }
-
-    /// Holds messages back: for 10 ms at first, then twice as long as the last time, and for
-    /// `timer_ms` at most, which counts as a try.
-    fn begin_pause(&mut self, refusal: Option<Nak>, timer_ms: u32)
-        ensures { self.new ≡ pause_begun timer_ms refusal self.old }
-    {
-        let most = timer_ms as u64;
-        let doubled = 2 * self.pause_ms.min(most);
-        self.pause_ms = doubled.max(FIRST_PAUSE_MS).min(most);
-        self.pause = Some(self.moment.saturating_add(self.pause_ms));
-        if self.pause_ms == most {
-            self.count_try(refusal);
-        }
     }
 
     /// Notes the moment if the handshake made a step or a message was received, after the first
@@ -349,33 +347,13 @@ impl Course {
     }
 }
 
-/// Returns the reason of a NAK, other than a reply to REP, that was received between these two
-/// counts, if there is one.
-fn refusal_between(before: &NakCounts, now: &NakCounts) -> Option<Nak>
-    ensures { result ≡ refusal_between before.now now.now }
+/// Returns how many milliseconds a line of this speed needs for so many bytes, of which the system
+/// holds at most 4096.
+fn sending_ms(baud: u32, bytes: u64) -> u64
+    requires speed { 0 < baud }
+    ensures { result ≡ sending_ms baud bytes }
 {
-    if before.too_long != now.too_long {
-        return Some(Nak::TooLong);
-    }
-    if before.no_buffer != now.no_buffer {
-        return Some(Nak::NoBuffer);
-    }
-    if before.overrun != now.overrun {
-        return Some(Nak::Overrun);
-    }
-    if before.format != now.format {
-        return Some(Nak::Format);
-    }
-    if before.header_check != now.header_check {
-        return Some(Nak::HeaderCheck);
-    }
-    if before.data_check != now.data_check {
-        return Some(Nak::DataCheck);
-    }
-    if before.other != now.other {
-        return Some(Nak::Other(0));
-    }
-    None
+    10_000 * bytes.min(HELD_BYTES) / baud as u64
 }
 
 /// Returns how far the startup handshake is.

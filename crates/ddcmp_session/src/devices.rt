@@ -94,6 +94,11 @@ pub trait Devices {
     /// Returns the moment in milliseconds since the session was made.
     fn now(&mut self) -> u64
         ensures { traffic self.new ≡ traffic self.old };
+
+    /// Returns the time of day in milliseconds after 1970, if it is known. Called only if the
+    /// session shows it.
+    fn time_of_day(&mut self) -> Option<u64>
+        ensures { traffic self.new ≡ traffic self.old };
 }
 
 /// The reason why a session can't continue over its devices.

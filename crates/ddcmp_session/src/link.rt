@@ -1,9 +1,8 @@
 //! A link, from its options to its end.
-ghost use Rattle.std.specs.Prelude.{◌≡◌, ◌≢◌, ◌<◌, Err, IfOk, Ok, ℕ, [], Some, false, is_ok, true};
-ghost use Rattle.ddcmp_frame.specs.Reader.{StandsFor};
+ghost use Rattle.std.specs.Prelude.{◌≡◌, ◌≢◌, ◌<◌, Err, Ok, ℕ, Some, false, is_ok, true};
 ghost use Rattle.ddcmp_proto.specs.Config.{first_refusal};
 ghost use Rattle.ddcmp_proto.specs.declared.config.ConfigRefusal.{ConfigRefusal as Refusal};
-ghost use Rattle.ddcmp_session.specs.Session.{SessionView, session_made};
+ghost use Rattle.ddcmp_session.specs.Session.{SessionView};
 ghost use Rattle.ddcmp_session.specs.NewRun.{ReportsNew, RunsNew, served_of};
 ghost use Rattle.ddcmp_session.specs.declared.devices.DeviceFault.{DeviceFault as FaultValue};
 ghost use Rattle.ddcmp_session.specs.declared.link.LinkOutcome.{LinkOutcome as LinkOutcomeValue};
@@ -23,6 +22,9 @@ pub enum LinkOutcome {
     Delivered,
     /// All messages of the input were delivered, but a part of it was refused.
     SomeRefused,
+    /// All messages of the input were delivered, but one of the peer was refused since it was too
+    /// long.
+    TooLong,
 }
 
 /// The reason why a link ended before all was delivered.
@@ -35,12 +37,11 @@ pub enum LinkFault<R> {
 }
 
 /// Makes a session with these options, and runs it over these devices to its end, over one line of
-/// this kind after the other. Its moment 0 is `began` milliseconds after 1970, if that is known.
+/// this kind after the other.
 pub fn run_link<D: Devices>(
     alloc: Global,
     options: Options,
     kind: LineKind,
-    began: Option<u64>,
     devices: &mut D,
 ) -> Result<LinkOutcome, LinkFault<D::Refusal>>
     ensures refused { (refusal : Refusal) → first_refusal options.config ≡ Some refusal
@@ -69,7 +70,7 @@ pub fn run_link<D: Devices>(
         → result ≡ Err (LinkFault.Stopped (Stop.Device fault))
         → ReportsNew options kind (D.traffic devices.old) (D.traffic devices.new) fault }
 {
-    let mut session = match new_session(alloc, options, kind, began) {
+    let mut session = match Session::new(alloc, options, kind) {
         Ok(session) => session,
         Err(refusal) => return Err(LinkFault::Refused(refusal)),
     };
@@ -77,31 +78,20 @@ pub fn run_link<D: Devices>(
         return Err(LinkFault::Refused(ConfigRefusal::Memory));
     };
     match buffers.run_to_end(&mut session, devices) {
-        Ok(()) if session.was_refused() => Ok(LinkOutcome::SomeRefused),
-        Ok(()) => Ok(LinkOutcome::Delivered),
+        Ok(()) => Ok(served(&session)),
         Err(stop) => Err(LinkFault::Stopped(stop)),
     }
 }
 
-/// Makes a session whose moment 0 is `began` milliseconds after 1970, if that is known.
-fn new_session(
-    alloc: Global,
-    options: Options,
-    kind: LineKind,
-    began: Option<u64>,
-) -> Result<Session, ConfigRefusal>
-    ensures made { IfOk result (λ s. s.state
-        ≡ session_made options kind s.state.link.station.line) }
-    ensures stands { IfOk result (λ s. StandsFor s.state.link.station.line []) }
-    ensures refused { (refusal : Refusal) → first_refusal options.config ≡ Some refusal
-        → result ≡ Err refusal }
+/// Returns how a run that ended well is reported.
+fn served(session: &Session) -> LinkOutcome
+    ensures { result ≡ served_of session.now.state }
 {
-    let mut session = match Session::new(alloc, options, kind) {
-        Ok(session) => session,
-        Err(refusal) => return Err(refusal),
-    };
-    if let Some(milliseconds) = began {
-        session.began_at(milliseconds);
+    if session.has_too_long() {
+        return LinkOutcome::TooLong;
     }
-    Ok(session)
+    if session.was_refused() {
+        return LinkOutcome::SomeRefused;
+    }
+    LinkOutcome::Delivered
 }

@@ -12,7 +12,7 @@ use crate::course::Course;
 use crate::text;
 use ddcmp_io::{ByteQueue, LineKind};
 use ddcmp_station::{ConfigRefusal, Link};
-use ddcmp_streams::{Errors, Messages, Options, Trace};
+use ddcmp_streams::{Echo, Errors, Messages, Options, Trace};
 use std::alloc::Global;
 use std::marker::Model;
 
@@ -56,6 +56,7 @@ pub struct Session {
     errors: Errors,
     mail: Vec<u8>,
     trace: Option<Trace>,
+    echo: Echo,
     course: Course,
     /// How many messages of an input in binary were read.
     read: u64,
@@ -87,6 +88,7 @@ impl Model for Session {
       log = record {
         errors = s.errors;
         trace = s.trace;
+        echo = s.echo;
         read = s.read;
       };
     } };
@@ -107,6 +109,7 @@ impl Drop for Session {
             errors: _errors,
             mail: _mail,
             trace: _trace,
+            echo: _echo,
             course: _,
             read: _,
             input_is_read: _,
@@ -183,6 +186,9 @@ impl Session {
         let Ok(mail) = Vec::from_elem(alloc, 0u8, max as usize) else {
             return Err(ConfigRefusal::Memory);
         };
+        let Ok(echo) = Echo::new(alloc) else {
+            return Err(ConfigRefusal::Memory);
+        };
         let course = Course::begun(options.report_ms());
         Ok(Session {
             options,
@@ -193,6 +199,7 @@ impl Session {
             errors,
             mail,
             trace,
+            echo,
             course,
             read: 0,
             input_is_read: false,

@@ -180,6 +180,20 @@ is_message (Some f) = is_data (header_of f)
 abbrev pub carries_message : LinkView → Bool
 carries_message d = is_message (frame_of_link d)
 
+-- whether the next frame is a NAK of a frame that came damaged or too long: neither one that replies
+-- to a REP nor one that waits for a buffer
+abbrev pub refuses_frame : Header → Bool
+refuses_frame (header.Control h) =
+    is_nak h.kind && (not (h.sub == 3) && not (h.sub == NO_BUFFER_REASON))
+refuses_frame _ = false
+
+abbrev pub is_refusal : Option Frame → Bool
+is_refusal None = false
+is_refusal (Some f) = refuses_frame (header_of f)
+
+abbrev pub carries_refusal : LinkView → Bool
+carries_refusal d = is_refusal (frame_of_link d)
+
 -- whether an ACK is owed, or a message that carries it
 abbrev pub owes_ack : LinkView → Bool
 owes_ack d = is_ack d.station.core.station.reply

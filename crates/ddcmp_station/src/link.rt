@@ -2,6 +2,7 @@
 ghost use Rattle.std.specs.Prelude.{◌≡◌};
 ghost use Rattle.ddcmp_core.specs.Table.{acknowledged_by};
 ghost use Rattle.ddcmp_station.specs.Linking.{is_nak_for_buffer, is_reply as is_reply_header};
+ghost use Rattle.ddcmp_station.specs.Linking.{refuses_frame as refuses_header};
 
 use crate::outbox::Outbox;
 use crate::reply_timer::keep_time;
@@ -84,7 +85,7 @@ impl Link {
     ghost use Rattle.ddcmp_station.specs.Linking.{after_frames, after_sent, countable};
     ghost use Rattle.ddcmp_station.specs.Linking.{totals_after_feed, after_taking, delivered};
     ghost use Rattle.ddcmp_station.specs.Linking.{holds_back, carries_message, is_needed};
-    ghost use Rattle.ddcmp_station.specs.Linking.{owes_ack, wants_bytes};
+    ghost use Rattle.ddcmp_station.specs.Linking.{carries_refusal, owes_ack, wants_bytes};
     ghost use Rattle.ddcmp_station.specs.Linking.{anew_for_maintenance, no_bytes, total_plus};
     ghost use Rattle.ddcmp_station.specs.Linking.{after_offered_maintenance};
     ghost use Rattle.ddcmp_station.specs.Linking.{answer_to_offered_maintenance};
@@ -291,6 +292,17 @@ impl Link {
         matches!(self.station.next_header(), Some(Header::Data(_)))
     }
 
+    /// Returns whether the next frame is a NAK of a frame that came damaged or too long, and so
+    /// neither replies to a REP nor waits for a buffer.
+    pub fn sends_refusal(&self) -> bool
+        ensures { result ≡ carries_refusal self.now }
+    {
+        match self.station.next_header() {
+            Some(header) => refuses_frame(&header),
+            None => false,
+        }
+    }
+
     /// Returns whether an ACK is owed to the peer, or a message that carries it.
     pub fn owes_ack(&self) -> bool
         ensures { result ≡ owes_ack self.now }
@@ -470,6 +482,18 @@ fn asks_for_buffer(header: &Header) -> bool
     match header {
         Header::Control(fields) => {
             fields.kind == ControlType::Nak && fields.sub == NO_BUFFER_REASON
+        }
+        _ => false,
+    }
+}
+
+/// Returns whether a header is that of a NAK of a frame that came damaged or too long.
+fn refuses_frame(header: &Header) -> bool
+    ensures { result ≡ refuses_header header.now }
+{
+    match header {
+        Header::Control(fields) => {
+            fields.kind == ControlType::Nak && fields.sub != 3 && fields.sub != NO_BUFFER_REASON
         }
         _ => false,
     }

@@ -1,3 +1,4 @@
+pub mod Echo
 pub mod Errors
 pub mod Messages
 pub mod Options

@@ -1,6 +1,6 @@
 //! The options of a session.
-ghost use Rattle.std.specs.Prelude.{◌≡◌};
-ghost use Rattle.ddcmp_streams.specs.Options.{report_ms};
+ghost use Rattle.std.specs.Prelude.{◌≡◌, ◌<◌};
+ghost use Rattle.ddcmp_streams.specs.Options.{report_ms, speed_of};
 
 use crate::messages::MessageForm;
 use ddcmp_proto::Config;
@@ -18,6 +18,8 @@ pub struct Options {
     /// How long it waits for more from a quiet peer once nothing of the input is left, in
     /// milliseconds.
     pub linger_ms: u32,
+    /// The speed of a serial line in bits a second; 0 if it isn't known.
+    pub baud: u32,
     /// After how many seconds the run ends.
     pub seconds: u32,
     /// After how many seconds each report of the counters is written; 0 is never.
@@ -29,6 +31,9 @@ pub struct Options {
     pub maintenance: bool,
     /// Whether it continues once nothing of the input is left.
     pub stay: bool,
+    /// Whether a run ends well only if its input was read to its end. An input without an end that
+    /// could be waited for, such as a terminal, isn't.
+    pub awaits_end: bool,
     /// Whether the line is opened again if it ends or can't be opened.
     pub again: bool,
     /// Whether counters are written before the last line.
@@ -47,5 +52,13 @@ impl Options {
         ensures { result ≡ report_ms self.now }
     {
         1000 * self.report as u64
+    }
+
+    /// Returns the speed of a serial line in bits a second: 9600 if it isn't known.
+    pub fn speed(&self) -> u32
+        ensures value { result ≡ speed_of self.now }
+        ensures some { 0 < result }
+    {
+        if self.baud == 0 { 9600 } else { self.baud }
     }
 }

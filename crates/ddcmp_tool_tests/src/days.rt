@@ -34,11 +34,13 @@ fn options(timer_ms: u32, seconds: u32, report: u32) -> Options {
         timer_ms,
         attempts: 0,
         linger_ms: 500,
+        baud: 0,
         seconds,
         report,
         form: MessageForm::Digits,
         maintenance: false,
         stay: false,
+        awaits_end: true,
         again: true,
         counters: false,
         trace: false,
@@ -299,29 +301,28 @@ fn ends(rt: &impl Abort, two: &mut Two, now: u64) {
     assert!(rt; two.b.end() == Some(EndReason::Done));
 }
 
-/// A message that the peer refuses is retransmitted after each pause: 13 of them double from 10 ms
-/// on, and the others are as long as the reply timer.
+/// A message that the peer refuses is retransmitted after each pause: these double from 10 ms on, up
+/// to the reply timer. The peer holds its NAKs back, too: for its own reply timer, of a millisecond.
 #[test]
-fn sixty_days_of_refusals(rt: HostRuntime) {
+fn thirty_days_of_refusals(rt: HostRuntime) {
     let rt = &rt;
-    let long = options(MINUTE_MS, SIXTY, 0);
+    let long = options(MINUTE_MS, SIXTY / 2, 0);
     let mut short = long;
     short.config.max = 1;
+    short.timer_ms = 1;
     let mut two = Two::new(rt, long, short);
     assert!(rt; two.a.input_read(b"6162\n") == 5);
-    let (mut wakes, mut now, mut pause) = (0u64, 0u64, 10u64);
+    let (mut wakes, mut now) = (0u64, 0u64);
     for _wake in 0..1_000_000u32 {
         two.wake(now);
         if two.a.end().is_some() {
             break;
         }
-        assert!(rt; two.b.wakes_at() == SIXTY_MS);
-        now = now.saturating_add(pause).min(SIXTY_MS);
-        pause = pause.saturating_mul(2).min(TIMER_MS);
-        assert!(rt; two.a.wakes_at() == now);
+        now = two.wakes_at();
         wakes = wakes.saturating_add(1);
     }
-    // The last pause begins 38,090 ms before the end.
-    assert!(rt; (wakes, now, two.mails) == (13 + 86_398 + 1, SIXTY_MS, 0));
+    // There are 13 pauses that double and 43,198 or 43,199 of a minute, with two wakes for each.
+    assert!(rt; 86_400 < wakes && wakes < 86_440);
+    assert!(rt; (now, two.mails) == (SIXTY_MS / 2, 0));
     assert!(rt; (two.a.end(), two.b.end()) == (Some(EndReason::Time), Some(EndReason::Time)));
 }

@@ -2,12 +2,14 @@
 //! over streams, for dumps, logs and detected forms. Of `ddcmp_tap`: what a direction forwards, its
 //! room and its text, and two captured directions as a ladder. Of `ddcmp_bridge`: its loop over
 //! lines in memory. Of `ddcmp_session`: two sessions over bad lines, a session over many days, its
-//! loop over devices, what contracts know of these, and its reports. Of sessions and taps: failing
-//! allocations.
+//! loop over devices, what contracts know of these, its reports, and a clock of the day that is
+//! set. Of sessions and taps: failing allocations.
 #![tactic(auto)]
 
 #[cfg(test)]
 mod captures;
+#[cfg(test)]
+mod clocks;
 #[cfg(test)]
 mod days;
 #[cfg(test)]

@@ -214,6 +214,10 @@ impl Devices for Desk {
     fn now(&mut self) -> u64 {
         self.now
     }
+
+    fn time_of_day(&mut self) -> Option<u64> {
+        None
+    }
 }
 
 /// Two ends exchange messages, and each end's output is the other's input.

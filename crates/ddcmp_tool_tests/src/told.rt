@@ -188,6 +188,10 @@ impl Devices for KnownDevices {
         self.moment = self.moment.saturating_add(1);
         self.moment
     }
+
+    fn time_of_day(&mut self) -> Option<u64> {
+        None
+    }
 }
 
 /// A STACK, and a data message.
@@ -355,20 +359,8 @@ fn two_links_share_a_line(rt: HostRuntime) {
     ];
     let mut first = devices(&rt, FILE, OF_SECOND, to_first);
     let mut second = devices(&rt, b"", OF_FIRST, to_second);
-    let one = run_link(
-        rt.alloc(),
-        options(100, 60),
-        LineKind::Connect,
-        None,
-        &mut first,
-    );
-    let other = run_link(
-        rt.alloc(),
-        options(100, 60),
-        LineKind::Connect,
-        None,
-        &mut second,
-    );
+    let one = run_link(rt.alloc(), options(100, 60), LineKind::Connect, &mut first);
+    let other = run_link(rt.alloc(), options(100, 60), LineKind::Connect, &mut second);
     assert!(rt; matches!(&one, Ok(LinkOutcome::Delivered)));
     assert!(rt; matches!(&other, Ok(LinkOutcome::Delivered)));
     assert!(rt; first.lines == 1 && second.lines == 1);

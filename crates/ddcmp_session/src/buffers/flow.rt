@@ -252,6 +252,7 @@ impl Buffers {
         ensures log { session.new.log ≡ record session.old.log {
           errors = session.new.log.errors;
           trace = session.new.log.trace;
+          echo = session.new.log.echo;
         } }
         ensures untimed { result ≢ Err DeviceFault.Time }
     {

@@ -9,7 +9,7 @@ ghost use Rattle.ddcmp_session.specs.declared.devices.DeviceFault.{DeviceFault a
 
 use crate::buffers::Buffers;
 use crate::buffers::flow::write_errors;
-use crate::buffers::runner::leave_line;
+use crate::buffers::runner::{leave_line, read_clocks};
 use crate::devices::{DeviceFault, Devices, Wanted};
 use crate::session::{EndReason, Session};
 
@@ -24,18 +24,18 @@ pub enum Stop<R> {
     Left,
     /// The number of messages that were read and never acknowledged.
     Lost(u64),
-    /// The lines have ended, or the time is over, and there may be more input than was read.
+    /// The lines have ended, or the time is over, before the input was read to its end.
     Unread,
 }
 
 impl Buffers {
     ghost use Rattle.std.specs.Prelude.{◌≡◌, ◌≢◌, ◌⊎◌, ◌<◌, Err, Ok, Some, ℕ, false, is_ok, true};
-    ghost use Rattle.std.specs.Prelude.{[]};
+    ghost use Rattle.std.specs.Prelude.{◌&&◌, [], not};
     ghost use Rattle.ddcmp_session.specs.Devices.{GoesOn, KeepsFaults, Reports};
     ghost use Rattle.ddcmp_session.specs.Traffic.{Becomes, after_wait};
     ghost use Rattle.ddcmp_session.specs.Session.{SessionView, takes_end};
     ghost use Rattle.ddcmp_session.specs.Lines.{Closes, Ends, GoesOver, IsReady, MayEndWell};
-    ghost use Rattle.ddcmp_session.specs.Lines.{ReportsOver, StaysOver};
+    ghost use Rattle.ddcmp_session.specs.Lines.{IsReadToEnd, ReportsOver, StaysOver};
     ghost use Rattle.ddcmp_session.specs.Stopping.{HasNotStarted, IfNotOpened, IsLeft};
     ghost use Rattle.ddcmp_session.specs.Stopping.{IsTimeOver, Judges, LeavesLine, Stops};
     ghost use Rattle.ddcmp_session.specs.Timing.{end};
@@ -43,7 +43,8 @@ impl Buffers {
 
     /// Runs a new session over one line after the other, until nothing of the input is left or a
     /// line ends for good, and closes it: messages that were read and aren't acknowledged are lost
-    /// then. If none is, all is delivered even if the line has ended or the time is over.
+    /// then. If none is and the input was read to its end, all is delivered even if the line has
+    /// ended or the time is over.
     pub fn run_lines<D: Devices>(
         &mut self,
         session: &mut Session,
@@ -171,7 +172,7 @@ impl Buffers {
                 Ok(()) => {}
                 Err(fault) => return Err(Stop::Device(fault)),
             }
-            let now = devices.now();
+            let now = read_clocks(session, devices);
             session.pass_time(now);
             match session.end() {
                 Some(EndReason::Time) => return Err(Stop::Device(DeviceFault::Time)),
@@ -296,10 +297,12 @@ impl Buffers {
         requires unjudged { (count : ℕ) → ran ≢ Err (Stop.Lost count) }
         requires read { ran ≢ Err Stop.Unread }
         requires well { ran ≡ Ok tt → MayEndWell session.old.state }
+        requires done { ran ≡ Ok tt → session.old.state.is_read ≡ true }
         ensures on { GoesOn self.old session.old.state (D.traffic devices.old)
             self.new session.old.state (D.traffic devices.new) }
         ensures closes { Closes self.new session.old.state session.new.state }
         ensures well { is_ok result ≡ true → MayEndWell session.old.state }
+        ensures read_to_end { is_ok result ≡ true → IsReadToEnd self.new session.old.state }
         ensures judges { Judges ran result }
         ensures keeps { KeepsFaults (D.traffic devices.old) (D.traffic devices.new) }
         ensures whole { result ≡ Ok tt → session.new.state.course.lost ≡ 0 }
@@ -316,12 +319,19 @@ impl Buffers {
     {
         let has_run = session.has_run();
         let read = self.read_if(devices, has_run && is_over(&ran));
-        let has_more = !self.input_is_over && self.input.is_full();
+        let has_more = self.has_more(session);
         self.close(session);
         match read {
             Ok(()) => verdict(ran, has_run, session.lost(), has_more),
             Err(fault) => Err(Stop::Device(fault)),
         }
+    }
+
+    /// Returns whether there may be more input than was read.
+    fn has_more(&self, session: &Session) -> bool
+        ensures { result ≡ (not self.now.is_over && session.now.state.options.awaits_end) }
+    {
+        !self.input_is_over && session.awaits_end()
     }
 
     /// Reads what the input has now, if it is to be read.
@@ -354,7 +364,7 @@ fn is_over<R>(ran: &Result<(), Stop<R>>) -> bool
 }
 
 /// Returns how a run ended, from how its lines ended, whether the station has run, the number of
-/// lost messages and whether there is more input than was read.
+/// lost messages and whether there may be more input than was read.
 fn verdict<R: Copy>(
     ran: Result<(), Stop<R>>,
     has_run: bool,
@@ -401,7 +411,7 @@ fn leave<D: Devices>(session: &mut Session, devices: &mut D) -> Result<(), Devic
             return Err(fault);
         }
     }
-    let now = devices.now();
+    let now = read_clocks(session, devices);
     if let Some(seconds) = session.pause_after_line(now) {
         session.report_pause(seconds);
     }

@@ -43,7 +43,7 @@ impl Buffers {
         ensures untimed { result ≢ Err DeviceFault.Time }
     {
         for pass in 0..u64::MAX {
-            let now = devices.now();
+            let now = read_clocks(session, devices);
             session.handle_timeout(now);
             if let Some(end) = session.end() {
                 return Ok(end);
@@ -78,6 +78,26 @@ impl Buffers {
         }
         !asks || devices.wait(self.wanted(session), 0)
     }
+}
+
+/// Returns the moment. If lines for standard error begin with the time of day, those of this moment
+/// have the one of now: the clock of the day may have been set, and the other one doesn't count
+/// while the machine sleeps.
+pub(super) fn read_clocks<D: Devices>(session: &mut Session, devices: &mut D) -> u64
+    ensures devices { D.traffic devices.new ≡ D.traffic devices.old }
+    ensures state { session.new.state ≡ session.old.state }
+    ensures log { session.new.log ≡ record session.old.log {
+      errors = record session.old.log.errors { began = session.new.log.errors.began };
+    } }
+    ensures unasked { session.old.state.options.clock ≡ false → session.new ≡ session.old }
+{
+    let now = devices.now();
+    if session.shows_time() {
+        if let Some(time) = devices.time_of_day() {
+            session.began_at(time.saturating_sub(now));
+        }
+    }
+    now
 }
 
 /// How long standard error may be blocked at the end of a line, in milliseconds.

@@ -15,8 +15,8 @@ impl Session {
     ghost use Rattle.ddcmp_session.specs.declared.text.TheConstants.{END_ROOM};
     ghost use Rattle.ddcmp_session.specs.EndText.{end_line, end_text};
     ghost use Rattle.ddcmp_streams.specs.Queued.{queued};
-    ghost use Rattle.ddcmp_streams.specs.Errors.{HasLine};
-    ghost use Rattle.ddcmp_session.specs.Logged.{HasEnd, Traces};
+    ghost use Rattle.ddcmp_streams.specs.Errors.{ErrorsView, HasLine};
+    ghost use Rattle.ddcmp_session.specs.Logged.{HasEnd, ReportsEcho, Traces};
     ghost use Rattle.ddcmp_session.specs.Reported.{ClosesLog};
     ghost use Rattle.ddcmp_streams.specs.Trace.{LogsEnd};
     ghost use Rattle.ddcmp_session.specs.Text.{Wrote, reported_lost};
@@ -54,12 +54,27 @@ impl Session {
     /// Writes the last lines, once all received messages are delivered.
     pub fn finish(&mut self)
         ensures state { self.new.state ≡ self.old.state }
-        ensures traced { Traces LogsEnd self.old.log.trace self.old.log self.new.log }
+        ensures traced { (mid : ErrorsView)
+            × ReportsEcho self.old.log.echo self.old.log.errors mid
+            × Traces LogsEnd self.old.log.trace (record self.old.log { errors = mid }) self.new.log }
         ensures log { self.new.log
             ≡ record self.old.log { errors = self.new.log.errors; trace = self.new.log.trace } }
     {
+        self.report_echo();
         if let Some(trace) = &mut self.trace {
             trace.end(&mut self.errors);
+        }
+    }
+
+    /// Reports it if all that came over the line is what was sent.
+    fn report_echo(&mut self)
+        ensures state { self.new.state ≡ self.old.state }
+        ensures errors { ReportsEcho self.old.log.echo self.old.log.errors self.new.log.errors }
+        ensures log { self.new.log ≡ record self.old.log { errors = self.new.log.errors } }
+    {
+        if self.echo.is_echo() {
+            let text = b"all that came is what was sent: does the line echo?";
+            self.errors.write_line(b"ddcmp: ", text, b"\n");
         }
     }
 
@@ -138,6 +153,13 @@ impl Session {
         ensures { result ≡ self.now.state.course.peer_has_started }
     {
         self.course.peer_has_started
+    }
+
+    /// Returns whether the run ends well only if its input was read to its end.
+    pub(crate) fn awaits_end(&self) -> bool
+        ensures { result ≡ self.now.state.options.awaits_end }
+    {
+        self.options.awaits_end
     }
 
     /// Returns whether a part of the input was refused.

@@ -32,6 +32,7 @@ impl Session {
     ghost use Rattle.ddcmp_session.specs.Session.{reports_loss, wants_line};
     ghost use Rattle.ddcmp_streams.specs.Errors.{ErrorsView};
     ghost use Rattle.ddcmp_session.specs.Logged.{HasLost, HasNotice, HasNotices, Traces};
+    ghost use Rattle.ddcmp_session.specs.Logged.{echo_came, echo_sent};
     ghost use Rattle.ddcmp_streams.specs.Trace.{BeginsAnew, Logs};
     ghost use Rattle.ddcmp_session.specs.Course.{after_notice, lost_more};
     ghost use Rattle.ddcmp_session.specs.Session.{IsFilled, after_connected, course_received};
@@ -147,8 +148,22 @@ impl Session {
         self.has_line && self.link.wants_line() && self.output.room() >= text::LINE_ROOM
     }
 
-    /// Logs bytes received from the line, if there is a trace: each once, before `received`.
+    /// Logs bytes received from the line: each once, before `received`.
     pub fn log_received(&mut self, bytes: &[u8])
+        ensures traced { Traces (Logs Way.FromLine bytes.now) self.old.log.trace
+            (echo_came bytes.now self.old.log) self.new.log }
+        ensures state { self.new.state ≡ self.old.state }
+        ensures log { self.new.log ≡ record (echo_came bytes.now self.old.log) {
+          errors = self.new.log.errors;
+          trace = self.new.log.trace;
+        } }
+    {
+        self.echo.came(bytes);
+        self.trace_received(bytes);
+    }
+
+    /// Logs bytes received from the line, if there is a trace.
+    fn trace_received(&mut self, bytes: &[u8])
         ensures traced { Traces (Logs Way.FromLine bytes.now) self.old.log.trace
             self.old.log self.new.log }
         ensures state { self.new.state ≡ self.old.state }
@@ -241,7 +256,7 @@ impl Session {
     }
 
     /// Queues frames after the bytes pending for the line, as far as there is room: one at a time
-    /// for datagrams, and while messages are held back none that carries one.
+    /// for datagrams, and none that is held back.
     pub fn fill(&mut self)
         ensures frames { (n : ℕ) × (self.new.state
             ≡ record self.old.state { link = after_frames n self.old.state.link }) }
@@ -273,13 +288,18 @@ impl Session {
         ensures none { result ≡ false → (puts_frame self.new.state.link ≡ false)
             ⊎ (is_paused self.new.state ≡ true) }
     {
-        let is_paused = self.course.pause.is_some()
-            && self.link.sends_message()
-            && !self.link.owes_ack();
-        if is_paused {
+        if self.is_paused() {
             return false;
         }
         self.link.fill_one()
+    }
+
+    /// Returns whether the next frame carries a message that is held back, or is such a NAK.
+    fn is_paused(&self) -> bool
+        ensures { result ≡ is_paused self.now.state }
+    {
+        self.course.pause.is_some() && self.link.sends_message() && !self.link.owes_ack()
+            || self.course.nak_pause.is_some() && self.link.sends_refusal()
     }
 
     /// Returns the bytes pending for the line.
@@ -291,6 +311,26 @@ impl Session {
 
     /// Notes that the line took the first `n` bytes of `to_line`.
     pub fn line_took(&mut self, n: usize)
+        ensures state { self.new.state ≡ record self.old.state {
+          link = after_sent
+              (min n (length self.old.state.link.outbox.waiting)) self.old.state.link;
+        } }
+        ensures traced { Traces (Logs Way.ToLine (take n self.old.state.link.outbox.waiting))
+            self.old.log.trace
+            (echo_sent (take n self.old.state.link.outbox.waiting) self.old.log) self.new.log }
+        ensures log { self.new.log
+            ≡ record (echo_sent (take n self.old.state.link.outbox.waiting) self.old.log) {
+              errors = self.new.log.errors;
+              trace = self.new.log.trace;
+            } }
+    {
+        let n = n.min(self.link.unsent().len());
+        self.echo.sent(&self.link.unsent()[..n]);
+        self.trace_taken(n);
+    }
+
+    /// Notes and logs, if there is a trace, that the line took the first `n` bytes of `to_line`.
+    fn trace_taken(&mut self, n: usize)
         ensures state { self.new.state ≡ record self.old.state {
           link = after_sent
               (min n (length self.old.state.link.outbox.waiting)) self.old.state.link;

@@ -14,7 +14,7 @@ impl Session {
     ghost use Rattle.ddcmp_window.specs.Store.{first_message};
     ghost use Rattle.ddcmp_io.specs.Queue.{after_pushed, after_taken};
     ghost use Rattle.ddcmp_session.specs.Course.{lost_more};
-    ghost use Rattle.ddcmp_session.specs.EndText.{pause_text, unread_text};
+    ghost use Rattle.ddcmp_session.specs.EndText.{line_down_text, pause_text, unread_text};
     ghost use Rattle.ddcmp_streams.specs.Errors.{HasEvent, HasLine, Took};
     ghost use Rattle.ddcmp_session.specs.Finishing.{HasRoomIfEmpty};
     ghost use Rattle.ddcmp_session.specs.Logged.{HasLost, HasReport, ReportsDown};
@@ -112,6 +112,16 @@ impl Session {
         if self.is_delivered() && !self.stays() {
             return;
         }
+        self.write_down(why);
+    }
+
+    /// Reports why the line is down.
+    fn write_down(&mut self, why: Down)
+        ensures state { self.new.state ≡ self.old.state }
+        ensures errors { HasLine SHORT_LINE (line_down_text why)
+            self.old.log.errors self.new.log.errors }
+        ensures log { self.new.log ≡ record self.old.log { errors = self.new.log.errors } }
+    {
         self.errors
             .write_line(b"line down: ", why.words().as_bytes(), b"\n");
     }

@@ -3,19 +3,25 @@ ghost use Rattle.std.specs.Prelude.{◌≡◌, ◌++◌, codes};
 ghost use Rattle.ddcmp_session.specs.Reports.{given_up_text};
 ghost use Rattle.ddcmp_session.specs.Timing.{most_tries};
 
+use crate::course::Wrong;
 use crate::session::{EndReason, Session};
 use ddcmp_explain::reason_name;
 use ddcmp_frame::Nak;
 use ddcmp_io::LineKind;
 use ddcmp_station::State;
+use itoa::Buffer;
 
 impl Session {
     ghost use Rattle.std.specs.Prelude.{◌≡◌, ◌&&◌, not, Some, if◌then◌else◌};
     ghost use Rattle.ddcmp_session.specs.Course.{after_opening_failed};
     ghost use Rattle.ddcmp_session.specs.Logged.{HandlesTimeout, PassesMoment, ReportsGivenUp};
-    ghost use Rattle.ddcmp_session.specs.Logged.{ReportsSilence};
-    ghost use Rattle.ddcmp_session.specs.Session.{after_time, after_timeout, after_tried};
-    ghost use Rattle.ddcmp_session.specs.Session.{awaits_peer, is_delivered, unless_read};
+    ghost use Rattle.ddcmp_session.specs.Logged.{ReportsSilence, ReportsWrong};
+    ghost use Rattle.ddcmp_session.specs.Reports.{wrong_text};
+    ghost use Rattle.ddcmp_session.specs.Session.{after_telling, after_time, after_timeout};
+    ghost use Rattle.ddcmp_session.specs.Session.{after_tried, awaits_peer, has_damaged, is_sending};
+    ghost use Rattle.ddcmp_session.specs.Session.{has_too_long, is_delivered, unless_read, untold};
+    ghost use Rattle.ddcmp_streams.specs.Errors.{HasLine};
+    ghost use Rattle.ddcmp_streams.specs.declared.errors.TheConstants.{SHORT_LINE};
     ghost use Rattle.ddcmp_session.specs.Timing.{after_line, end, is_done, is_given_up, is_gone};
     ghost use Rattle.ddcmp_session.specs.Timing.{is_silent, is_spent};
     ghost use Rattle.ddcmp_session.specs.Timing.{lingers_until, next_timeout, reopens, run_ends_at};
@@ -29,8 +35,15 @@ impl Session {
         1000 * self.options.seconds as u64
     }
 
-    /// Begins each line for standard error with the time of day, if that is asked for. The
-    /// moment 0 is this many milliseconds after 1970.
+    /// Returns whether lines for standard error begin with the time of day.
+    pub fn shows_time(&self) -> bool
+        ensures { result ≡ self.now.state.options.clock }
+    {
+        self.options.clock
+    }
+
+    /// Begins each line for standard error with the time of day, if that is asked for. By the
+    /// clock of the day the moment 0 was this many milliseconds after 1970.
     pub fn began_at(&mut self, milliseconds: u64)
         ensures state { self.new.state ≡ self.old.state }
         ensures log { self.new.log ≡ record self.old.log {
@@ -79,25 +92,43 @@ impl Session {
             ≡ record self.old.log { errors = self.new.log.errors; trace = self.new.log.trace } }
     {
         self.pass_time(now);
-        self.course.end_pause();
+        self.course.end_pauses();
+        let written = self.link.totals().written;
+        self.course.note_written(written, self.options.speed());
         let has_expired = self.link.wake(now);
         self.count_expiry(has_expired);
         self.report_given_up();
         self.report_silence(has_expired);
+        self.tell_wrong();
         self.note_unheard();
         if let Some(trace) = &mut self.trace {
             trace.wake(now, has_expired, &mut self.errors);
         }
     }
 
-    /// Counts an expiry of the reply timer as a try, if a peer is there.
+    /// Counts an expiry of the reply timer as a try, if a peer is there and has all that was sent.
     fn count_expiry(&mut self, has_expired: bool)
         ensures { self.new
             ≡ record self.old { state = after_tried has_expired self.old.state } }
     {
-        if has_expired && !self.awaits_peer() {
+        if !has_expired || self.awaits_peer() {
+            return;
+        }
+        if !self.is_sending() {
             self.course.count_expiry(self.input_is_read);
         }
+        self.course.written_then = self.course.written;
+    }
+
+    /// Returns whether a serial device has bytes underway, or took some since the last expiry and is
+    /// to take more.
+    fn is_sending(&self) -> bool
+        ensures { result ≡ is_sending self.now.state }
+    {
+        let is_slow = self.kind == LineKind::Device;
+        let is_taking = !self.link.unsent().is_empty()
+            && self.course.written != self.course.written_then;
+        is_slow && (self.course.moment < self.course.sends_until || is_taking)
     }
 
     /// Notes that the peer isn't heard, if the line isn't read.
@@ -142,9 +173,11 @@ impl Session {
     {
         let timer = self.link.deadline().unwrap_or(u64::MAX);
         let pause = self.course.pause.unwrap_or(u64::MAX);
+        let nak_pause = self.course.nak_pause.unwrap_or(u64::MAX);
         self.run_ends_at()
             .min(timer)
             .min(pause)
+            .min(nak_pause)
             .min(self.course.report_at)
     }
 
@@ -223,6 +256,88 @@ impl Session {
             let text = b"doesn't answer, still trying";
             self.errors.write_line(b"ddcmp: peer ", text, b"\n");
         }
+    }
+
+    /// Returns whether a message of the peer was too long.
+    pub(crate) fn has_too_long(&self) -> bool
+        ensures { result ≡ has_too_long self.now.state }
+    {
+        self.link.counters().too_longs > 0
+    }
+
+    /// Returns whether all frames that come are damaged, and have been for a while.
+    fn has_damaged(&self) -> bool
+        ensures { result ≡ has_damaged self.now.state }
+    {
+        !self.has_too_long()
+            && self.course.nak_pause.is_some()
+            && self.options.timer_ms as u64 <= self.course.nak_pause_ms
+    }
+
+    /// Returns what the peer sends wrong, if that wasn't reported before.
+    fn untold(&self) -> Option<Wrong>
+        ensures { result ≡ untold self.now.state }
+    {
+        if self.has_too_long() && !self.course.told_too_long {
+            return Some(Wrong::TooLong);
+        }
+        if self.has_damaged() && !self.course.told_damaged {
+            return Some(Wrong::Damaged);
+        }
+        None
+    }
+
+    /// Reports what the peer sends wrong, once for each kind.
+    fn tell_wrong(&mut self)
+        ensures state { self.new.state ≡ after_telling self.old.state }
+        ensures errors { ReportsWrong self.old.state self.old.log.errors self.new.log.errors }
+        ensures log { self.new.log ≡ record self.old.log { errors = self.new.log.errors } }
+    {
+        if let Some(wrong) = self.untold() {
+            self.report_wrong(wrong);
+        }
+        self.course.told_damaged |= self.has_damaged();
+        self.course.told_too_long |= self.has_too_long();
+    }
+
+    /// Reports what the peer sends wrong.
+    fn report_wrong(&mut self, wrong: Wrong)
+        ensures state { self.new.state ≡ self.old.state }
+        ensures errors { HasLine SHORT_LINE
+            (wrong_text self.old.state.link.station.core.limits.longest wrong)
+            self.old.log.errors self.new.log.errors }
+        ensures log { self.new.log ≡ record self.old.log { errors = self.new.log.errors } }
+    {
+        match wrong {
+            Wrong::TooLong => self.report_too_long(self.longest()),
+            Wrong::Damaged => {
+                let text = b"damaged frames alone: other speed or parity, telnet?";
+                self.errors.write_line(b"ddcmp: ", text, b"\n");
+            }
+        }
+    }
+
+    /// Returns the length of the longest message.
+    fn longest(&self) -> u16
+        ensures { result ≡ self.now.state.link.station.core.limits.longest }
+    {
+        self.link.config().max
+    }
+
+    /// Reports that the peer's messages are longer than `max` bytes.
+    fn report_too_long(&mut self, max: u16)
+        ensures state { self.new.state ≡ self.old.state }
+        ensures errors { HasLine SHORT_LINE (wrong_text max Wrong.TooLong)
+            self.old.log.errors self.new.log.errors }
+        ensures log { self.new.log ≡ record self.old.log { errors = self.new.log.errors } }
+    {
+        let mut digits = Buffer::new();
+        let text = digits.format(max).as_bytes();
+        self.errors.write_line(
+            b"ddcmp: peer's messages are too long: --max is ",
+            text,
+            b"\n",
+        );
     }
 
     /// Reports why the line is left, if the peer doesn't reply or refuses messages.

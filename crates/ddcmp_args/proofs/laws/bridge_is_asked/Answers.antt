@@ -39,6 +39,10 @@ pub returns-clause-no_seed : goal.returns-clause-no_seed
 unfolding clap_on_literals option_in
 returns-clause-no_seed c = refl
 
+pub returns-clause-again : goal.returns-clause-again
+unfolding clap_on_literals option_in
+returns-clause-again c = (refl, refl)
+
 pub returns-clause-trace : goal.returns-clause-trace
 unfolding clap_on_literals option_in
 returns-clause-trace c = (refl, refl)

@@ -1,8 +1,9 @@
-use Rattle.std.proofs.Common.{◌∙◌, ap, refl, rules, sym}
+use Rattle.std.proofs.Common.{◌∙◌, ap, refl, rules, subst, sym}
 use Rattle.ddcmp_args.specs.Args.{name_of}
 use Rattle.ddcmp_cli.specs.Endings.{file_named}
+use Rattle.ddcmp_cli.specs.LinkEndings.{Links}
 use Rattle.ddcmp_cli.proofs.CommandLaws.{differ, is_bridge, is_link, is_station, is_tap}
-use Rattle.ddcmp_cli.proofs.CommandLaws.{unbroken}
+use Rattle.ddcmp_cli.proofs.CommandLaws.{linked_or, unbroken}
 use Rattle.ddcmp_cli.proofs.BridgeLaws.{not-read}
 use Rattle.ddcmp_cli.proofs.program.perform.Goals as goal
 
@@ -92,7 +93,9 @@ returns-in-Link g c = record {
   untouched = λ some. absurd (some (ap file_named c.in-Link.is));
   stations = λ _ are. differ is_station c.in-Link.is refl are refl;
   taps = λ _ are. differ is_tap c.in-Link.is refl are refl;
-  links = search rules;
+  links = λ args are.
+      subst (λ a. Links (g.S.LineSystem.lines c.args.system.now) a c.link.result)
+      (ap (linked_or args) (sym c.in-Link.is ∙ are)) c.link.ensures.links;
   bridges = λ _ are. differ is_bridge c.in-Link.is refl are refl;
 }
 

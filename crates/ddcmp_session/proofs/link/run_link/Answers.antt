@@ -1,5 +1,5 @@
 use Rattle.std.proofs.Common.{◌∙◌, ap, refl, sym}
-use Rattle.ddcmp_session.proofs.NewRunLaws.{reported-as, reports-new, runs-new}
+use Rattle.ddcmp_session.proofs.NewRunLaws.{reports-new, runs-new}
 use Rattle.ddcmp_session.proofs.NewRunLaws.{served-in, stop-of}
 use Rattle.ddcmp_session.proofs.link.run_link.Goals as goal
 
@@ -9,18 +9,7 @@ returns-in-Ok-run_to_end-clause-served g c = λ served e. (
   runs-new c.in-Ok-new.ensures c.in-Ok.ensures.made c.in-Ok.ensures.stands
       c.in-Ok-run_to_end.ensures.ends,
   c.in-Ok-run_to_end.ensures.whole refl,
-  reported-as c.run_to_end.new.session.state (served-in e) (sym c.was_refused.ensures
-      ∙ c.if-was_refused.true),
-)
-
-pub returns-in-Ok-2-clause-served : goal.returns-in-Ok-2-clause-served
-returns-in-Ok-2-clause-served g c = λ served e. (
-  c.run_to_end.new.session.state,
-  runs-new c.in-Ok-new.ensures c.in-Ok.ensures.made c.in-Ok.ensures.stands
-      c.in-Ok-2.ensures.ends,
-  c.in-Ok-2.ensures.whole refl,
-  reported-as c.run_to_end.new.session.state (served-in e) (sym c.was_refused.ensures
-      ∙ c.if-was_refused.false),
+  sym (served-in e) ∙ c.served.ensures,
 )
 
 pub returns-clause-lost : goal.returns-clause-lost
@@ -58,13 +47,6 @@ returns-in-Ok-run_to_end-clause-ran g c = λ ran. (
   c.run_to_end.new.session.state,
   runs-new c.in-Ok-new.ensures c.in-Ok.ensures.made c.in-Ok.ensures.stands
       c.in-Ok-run_to_end.ensures.ends,
-)
-
-pub returns-in-Ok-2-clause-ran : goal.returns-in-Ok-2-clause-ran
-returns-in-Ok-2-clause-ran g c = λ ran. (
-  c.run_to_end.new.session.state,
-  runs-new c.in-Ok-new.ensures c.in-Ok.ensures.made c.in-Ok.ensures.stands
-      c.in-Ok-2.ensures.ends,
 )
 
 pub returns-clause-ran : goal.returns-clause-ran

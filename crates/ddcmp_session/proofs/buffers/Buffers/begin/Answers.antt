@@ -23,29 +23,39 @@ returns-in-Err-clause-reports g c = λ fault untimed e.
 pub returns-in-Some-Time-clause-over : goal.returns-in-Some-Time-clause-over
 returns-in-Some-Time-clause-over g c =
     over-then (over-then c.loop-try.invariant.0 (goes-over c.look_for_end.ensures.on))
-    (over-then (none-over refl c.now-now.ensures)
-    (passed-now c.now-now.result c.look_for_end.new.session.state c.pass_time.new.self.state
+    (over-then (none-over c.read_clocks-now.ensures.state c.read_clocks-now.ensures.devices)
+    (passed-now c.read_clocks-now.result c.read_clocks-now.new.session.state
+    c.pass_time.new.self.state
     c.pass_time.ensures.state))
 
 pub returns-in-Some-Done-clause-over : goal.returns-in-Some-Done-clause-over
 returns-in-Some-Done-clause-over g c =
     over-then (over-then c.loop-try.invariant.0 (goes-over c.look_for_end.ensures.on))
-    (over-then (none-over refl c.now-now.ensures)
-    (passed-now c.now-now.result c.look_for_end.new.session.state c.pass_time.new.self.state
+    (over-then (none-over c.read_clocks-now.ensures.state c.read_clocks-now.ensures.devices)
+    (passed-now c.read_clocks-now.result c.read_clocks-now.new.session.state
+    c.pass_time.new.self.state
     c.pass_time.ensures.state))
 
 pub returns-in-Ok-true-clause-over : goal.returns-in-Ok-true-clause-over
 returns-in-Ok-true-clause-over g c =
-    passes-then c.now-now.result c.look_for_end.new.session.state c.pass_time.new.self.state
-    (over-then c.loop-try.invariant.0 (goes-over c.look_for_end.ensures.on))
-    (λ r. c.look_for_end.ensures.ready (c.loop-try.invariant.1 r)) c.now-now.ensures
+    passes-then c.read_clocks-now.result c.read_clocks-now.new.session.state
+    c.pass_time.new.self.state
+    (over-then (over-then c.loop-try.invariant.0 (goes-over c.look_for_end.ensures.on))
+    (none-over c.read_clocks-now.ensures.state refl))
+    (λ r. ready-by c.read_clocks-now.ensures.state
+    (c.look_for_end.ensures.ready (c.loop-try.invariant.1 r)))
+    c.read_clocks-now.ensures.devices
     c.pass_time.ensures.state c.try_line.ensures.over
 
 pub returns-in-Err-try_line-clause-over : goal.returns-in-Err-try_line-clause-over
 returns-in-Err-try_line-clause-over g c =
-    passes-then c.now-now.result c.look_for_end.new.session.state c.pass_time.new.self.state
-    (over-then c.loop-try.invariant.0 (goes-over c.look_for_end.ensures.on))
-    (λ r. c.look_for_end.ensures.ready (c.loop-try.invariant.1 r)) c.now-now.ensures
+    passes-then c.read_clocks-now.result c.read_clocks-now.new.session.state
+    c.pass_time.new.self.state
+    (over-then (over-then c.loop-try.invariant.0 (goes-over c.look_for_end.ensures.on))
+    (none-over c.read_clocks-now.ensures.state refl))
+    (λ r. ready-by c.read_clocks-now.ensures.state
+    (c.look_for_end.ensures.ready (c.loop-try.invariant.1 r)))
+    c.read_clocks-now.ensures.devices
     c.pass_time.ensures.state c.try_line.ensures.over
 
 pub returns-then-not-wait_between_lines-clause-over :
@@ -53,9 +63,13 @@ pub returns-then-not-wait_between_lines-clause-over :
 returns-then-not-wait_between_lines-clause-over g c =
     over-then
     (over-then
-    (passes-then c.now-now.result c.look_for_end.new.session.state c.pass_time.new.self.state
-    (over-then c.loop-try.invariant.0 (goes-over c.look_for_end.ensures.on))
-    (λ r. c.look_for_end.ensures.ready (c.loop-try.invariant.1 r)) c.now-now.ensures
+    (passes-then c.read_clocks-now.result c.read_clocks-now.new.session.state
+    c.pass_time.new.self.state
+    (over-then (over-then c.loop-try.invariant.0 (goes-over c.look_for_end.ensures.on))
+    (none-over c.read_clocks-now.ensures.state refl))
+    (λ r. ready-by c.read_clocks-now.ensures.state
+    (c.look_for_end.ensures.ready (c.loop-try.invariant.1 r)))
+    c.read_clocks-now.ensures.devices
     c.pass_time.ensures.state c.try_line.ensures.over)
     (none-over c.write_errors.ensures.session c.write_errors.ensures.devices))
     (goes-over (waited c.wait_between_lines.result c.wait_between_lines.ensures))
@@ -65,9 +79,10 @@ pub returns-then-not-wait_between_lines-clause-reports :
 returns-then-not-wait_between_lines-clause-reports g c = λ fault untimed e.
     reports-later c.loop-try.invariant.0
     (reports-later (goes-over c.look_for_end.ensures.on)
-    (reports-later (none-over refl c.now-now.ensures)
+    (reports-later (none-over c.read_clocks-now.ensures.state c.read_clocks-now.ensures.devices)
     (reports-later
-    (passed-now c.now-now.result c.look_for_end.new.session.state c.pass_time.new.self.state
+    (passed-now c.read_clocks-now.result c.read_clocks-now.new.session.state
+    c.pass_time.new.self.state
     c.pass_time.ensures.state)
     (reports-later c.try_line.ensures.over
     (reports-later (none-over c.write_errors.ensures.session c.write_errors.ensures.devices)
@@ -86,9 +101,13 @@ pub loop-try-preserved : goal.loop-try-preserved
 loop-try-preserved g c = (
   over-then
       (over-then
-      (passes-then c.now-now.result c.look_for_end.new.session.state c.pass_time.new.self.state
-      (over-then c.loop-try.invariant.0 (goes-over c.look_for_end.ensures.on))
-      (λ r. c.look_for_end.ensures.ready (c.loop-try.invariant.1 r)) c.now-now.ensures
+      (passes-then c.read_clocks-now.result c.read_clocks-now.new.session.state
+      c.pass_time.new.self.state
+      (over-then (over-then c.loop-try.invariant.0 (goes-over c.look_for_end.ensures.on))
+      (none-over c.read_clocks-now.ensures.state refl))
+      (λ r. ready-by c.read_clocks-now.ensures.state
+      (c.look_for_end.ensures.ready (c.loop-try.invariant.1 r)))
+      c.read_clocks-now.ensures.devices
       c.pass_time.ensures.state c.try_line.ensures.over)
       (none-over c.write_errors.ensures.session c.write_errors.ensures.devices))
       (goes-over (waited c.wait_between_lines.result c.wait_between_lines.ensures)),
@@ -96,7 +115,8 @@ loop-try-preserved g c = (
       (c.try_line.ensures.ready
       (c.in-Ok-false.is ∙ ap (λ b. Ok b) c.in-Ok-false.field-0-test)
       (ready-by c.pass_time.ensures.state
-      (c.look_for_end.ensures.ready (c.loop-try.invariant.1 r)))),
+      (ready-by c.read_clocks-now.ensures.state
+      (c.look_for_end.ensures.ready (c.loop-try.invariant.1 r))))),
 )
 
 pub returns-clause-over : goal.returns-clause-over

@@ -14,41 +14,46 @@ loop-pass-init g c = stays refl refl
 pub returns-in-Some-clause-on : goal.returns-in-Some-clause-on
 returns-in-Some-clause-on g c =
     goes-then c.loop-pass.invariant
-    (goes-then (stays refl c.now-now.ensures)
-    (timed-goes c.now-now.result c.loop-pass.session.state c.handle_timeout.new.self.state
+    (goes-then (stays c.read_clocks-now.ensures.state c.read_clocks-now.ensures.devices)
+    (timed-goes c.read_clocks-now.result c.read_clocks-now.new.session.state
+    c.handle_timeout.new.self.state
     c.handle_timeout.ensures.state))
 
 pub returns-in-Err-clause-on : goal.returns-in-Err-clause-on
 returns-in-Err-clause-on g c =
     goes-then c.loop-pass.invariant
-    (goes-then (stays refl c.now-now.ensures)
+    (goes-then (stays c.read_clocks-now.ensures.state c.read_clocks-now.ensures.devices)
     (goes-then
-    (timed-goes c.now-now.result c.loop-pass.session.state c.handle_timeout.new.self.state
+    (timed-goes c.read_clocks-now.result c.read_clocks-now.new.session.state
+    c.handle_timeout.new.self.state
     c.handle_timeout.ensures.state) c.pass.ensures.on))
 
 pub loop-pass-preserved-then-is_some : goal.loop-pass-preserved-then-is_some
 loop-pass-preserved-then-is_some g c =
     goes-then c.loop-pass.invariant
-    (goes-then (stays refl c.now-now.ensures)
+    (goes-then (stays c.read_clocks-now.ensures.state c.read_clocks-now.ensures.devices)
     (goes-then
-    (timed-goes c.now-now.result c.loop-pass.session.state c.handle_timeout.new.self.state
+    (timed-goes c.read_clocks-now.result c.read_clocks-now.new.session.state
+    c.handle_timeout.new.self.state
     c.handle_timeout.ensures.state) c.pass.ensures.on))
 
 pub loop-pass-preserved : goal.loop-pass-preserved
 loop-pass-preserved g c =
     goes-then c.loop-pass.invariant
-    (goes-then (stays refl c.now-now.ensures)
+    (goes-then (stays c.read_clocks-now.ensures.state c.read_clocks-now.ensures.devices)
     (goes-then
-    (timed-goes c.now-now.result c.loop-pass.session.state c.handle_timeout.new.self.state
+    (timed-goes c.read_clocks-now.result c.read_clocks-now.new.session.state
+    c.handle_timeout.new.self.state
     c.handle_timeout.ensures.state)
     (goes-then c.pass.ensures.on (waited c.wait.result c.wait.ensures))))
 
 pub returns-then-not-wait-clause-on : goal.returns-then-not-wait-clause-on
 returns-then-not-wait-clause-on g c =
     goes-then c.loop-pass.invariant
-    (goes-then (stays refl c.now-now.ensures)
+    (goes-then (stays c.read_clocks-now.ensures.state c.read_clocks-now.ensures.devices)
     (goes-then
-    (timed-goes c.now-now.result c.loop-pass.session.state c.handle_timeout.new.self.state
+    (timed-goes c.read_clocks-now.result c.read_clocks-now.new.session.state
+    c.handle_timeout.new.self.state
     c.handle_timeout.ensures.state)
     (goes-then c.pass.ensures.on (waited c.wait.result c.wait.ensures))))
 
@@ -61,9 +66,10 @@ returns-in-Err-clause-reports g c = λ fault e.
     (Reports c.args.self.now c.args.session.now.state (g.D.Devices.traffic c.args.devices.now)
     (g.D.Devices.traffic c.pass.new.devices)) (same e)
     (reports-then c.loop-pass.invariant
-    (reports-then (stays refl c.now-now.ensures)
+    (reports-then (stays c.read_clocks-now.ensures.state c.read_clocks-now.ensures.devices)
     (reports-then
-    (timed-goes c.now-now.result c.loop-pass.session.state c.handle_timeout.new.self.state
+    (timed-goes c.read_clocks-now.result c.read_clocks-now.new.session.state
+    c.handle_timeout.new.self.state
     c.handle_timeout.ensures.state) (c.in-Err.ensures.reports c.in-Err.fault refl))))
 
 pub returns-then-not-wait-clause-reports : goal.returns-then-not-wait-clause-reports
@@ -72,9 +78,10 @@ returns-then-not-wait-clause-reports g c = λ fault e.
     (Reports c.args.self.now c.args.session.now.state (g.D.Devices.traffic c.args.devices.now)
     (g.D.Devices.traffic c.wait.new.devices)) (same e)
     (reports-then c.loop-pass.invariant
-    (reports-then (stays refl c.now-now.ensures)
+    (reports-then (stays c.read_clocks-now.ensures.state c.read_clocks-now.ensures.devices)
     (reports-then
-    (timed-goes c.now-now.result c.loop-pass.session.state c.handle_timeout.new.self.state
+    (timed-goes c.read_clocks-now.result c.read_clocks-now.new.session.state
+    c.handle_timeout.new.self.state
     c.handle_timeout.ensures.state)
     (reports-then c.pass.ensures.on (reported Input c.if-not-wait.ensures)))))
 

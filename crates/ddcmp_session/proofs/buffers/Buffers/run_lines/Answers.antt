@@ -11,6 +11,7 @@ returns-clause-ends g c = record {
       (over-then (goes-over c.judge-judged.ensures.on) (none-over refl c.close_line.ensures));
   closes = c.judge-judged.ensures.closes;
   well = c.judge-judged.ensures.well;
+  read = c.judge-judged.ensures.read_to_end;
 }
 
 pub returns-clause-stops : goal.returns-clause-stops

@@ -6,16 +6,18 @@ use Rattle.ddcmp_session.proofs.buffers.lines.leave.Goals as goal
 pub returns-in-Some-clause-over : goal.returns-in-Some-clause-over
 returns-in-Some-clause-over g c = λ held.
     over-then (c.leave_line.ensures.over held)
-    (over-then (none-over refl c.now-now.ensures)
+    (over-then (none-over c.read_clocks-now.ensures.state c.read_clocks-now.ensures.devices)
     (over-then
-    (paused c.now-now.result c.leave_line.new.session.state c.pause_after_line.new.self.state
+    (paused c.read_clocks-now.result c.read_clocks-now.new.session.state
+    c.pause_after_line.new.self.state
     c.pause_after_line.ensures.state) (none-over c.report_pause.ensures.state refl)))
 
 pub returns-in_default-clause-over : goal.returns-in_default-clause-over
 returns-in_default-clause-over g c = λ held.
     over-then (c.leave_line.ensures.over held)
-    (over-then (none-over refl c.now-now.ensures)
-    (paused c.now-now.result c.leave_line.new.session.state c.pause_after_line.new.self.state
+    (over-then (none-over c.read_clocks-now.ensures.state c.read_clocks-now.ensures.devices)
+    (paused c.read_clocks-now.result c.read_clocks-now.new.session.state
+    c.pause_after_line.new.self.state
     c.pause_after_line.ensures.state))
 
 pub returns-in-Err-clause-over : goal.returns-in-Err-clause-over
@@ -31,8 +33,10 @@ returns-in-Err-clause-time g c = λ e. c.note_time.ensures.time (same e)
 pub returns-in-Some-clause-ready : goal.returns-in-Some-clause-ready
 returns-in-Some-clause-ready g c = λ e.
     ready-by c.report_pause.ensures.state
-    (ready-by c.pause_after_line.ensures.state (c.leave_line.ensures.ready c.in-Ok.is))
+    (ready-by c.pause_after_line.ensures.state
+    (ready-by c.read_clocks-now.ensures.state (c.leave_line.ensures.ready c.in-Ok.is)))
 
 pub returns-in_default-clause-ready : goal.returns-in_default-clause-ready
 returns-in_default-clause-ready g c = λ e.
-    ready-by c.pause_after_line.ensures.state (c.leave_line.ensures.ready c.in-Ok.is)
+    ready-by c.pause_after_line.ensures.state
+    (ready-by c.read_clocks-now.ensures.state (c.leave_line.ensures.ready c.in-Ok.is))

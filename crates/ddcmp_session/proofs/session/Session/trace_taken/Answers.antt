@@ -5,8 +5,8 @@ use Rattle.ddcmp_session.specs.Logged.{LogView, Traces}
 use Rattle.ddcmp_streams.specs.Trace.{Logs}
 use Rattle.ddcmp_session.proofs.LineLogLaws.{traces-some, traces-none}
 use Rattle.ddcmp_session.specs.contracts.session.Session as session
-use Rattle.ddcmp_session.proofs.session.Session.line_took.Goals.{in-Some, in_default}
-use Rattle.ddcmp_session.proofs.session.Session.line_took.Goals as goal
+use Rattle.ddcmp_session.proofs.session.Session.trace_taken.Goals.{in-Some, in_default}
+use Rattle.ddcmp_session.proofs.session.Session.trace_taken.Goals as goal
 
 pub returns-clause-traced : goal.returns-clause-traced
 returns-clause-traced c =

@@ -3,7 +3,7 @@ use Rattle.ddcmp_streams.specs.declared.trace.Way.TheVariants.{FromLine}
 use Rattle.ddcmp_streams.specs.Trace.{Logs}
 use Rattle.ddcmp_session.proofs.LineLogLaws.{traces-some}
 use Rattle.ddcmp_session.specs.contracts.session.Session as session
-use Rattle.ddcmp_session.proofs.session.Session.log_received.Goals as goal
+use Rattle.ddcmp_session.proofs.session.Session.trace_received.Goals as goal
 
 pub returns-in-Some-clause-traced : goal.returns-in-Some-clause-traced
 returns-in-Some-clause-traced c =
