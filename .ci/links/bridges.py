@@ -1,9 +1,11 @@
 """Bridges between lines of each kind: two links over one, what of junk and damaged frames comes out, and the faults
 that a bridge makes."""
 import contextlib
+import itertools
 import json
 import os
 import re
+import shutil
 import signal
 import socket
 import struct
@@ -14,8 +16,8 @@ import threading
 import time
 import tty
 
-from links.kit import LONG, PROGRAM, TOP, Link, checked, drawn, exchange, explained, free_port, left_out
-from links.kit import messages_of, server, terminals, wants, wrong
+from links.kit import LONG, PROGRAM, TOP, Link, checked, connected, drawn, exchange, explained, free_port, holds_within
+from links.kit import left_out, messages_of, server, terminals, wants, wrong
 from links.peer import control, data
 
 START = {0x05: 0, 0x81: 1, 0x90: 1}
@@ -645,7 +647,184 @@ def ends_of_a_bridge():
     wants("closed output", bridge, 3, "ddcmp: write")
 
 
+def parted(text, frames):
+    """How many of these frames of data some bytes begin with, and what is left after them."""
+    known, count, at = set(frames), 0, 0
+    while at + 10 < len(text):
+        length = 10 + (text[at + 1] | (text[at + 2] & 63) << 8)
+        if text[at:at + length] not in known:
+            break
+        count += 1
+        at += length
+    return count, text[at:]
+
+
+def bridged_again():
+    """With --again a peer that ends, at either line, and comes again gets its line, and frames both ways; what the line
+    before had of a frame is dropped; the counters and the files go on over all lines."""
+    far, folder = server(), tempfile.mkdtemp()
+    there = f"connect:127.0.0.1:{far.getsockname()[1]}"
+    bridge = Bridge("listen:127.0.0.1:0", there, "--again", "--seconds", "8", "--trace", "--save-first", f"{folder}/first")
+    port, texts = bridge.ports(1)[0], []
+    for number in range(6):
+        one = connected(port)
+        began = data(drawn.randbytes(100), number)
+        texts.append(data(b"there", number) + began[:drawn.randrange(1, len(began))])
+        one.sendall(texts[-1])
+        two = far.accept()[0]
+        for it in (one, two):
+            it.settimeout(LONG)
+        two.sendall(data(b"back", number) + began[:1])
+        got = two.recv(15, socket.MSG_WAITALL), one.recv(14, socket.MSG_WAITALL)
+        if got != (data(b"there", number), data(b"back", number)):
+            wrong(f"{number}: {got}, {bridge.errors()}")
+        for it in (one, two)[::-1 if number % 2 else 1]:
+            it.shutdown(socket.SHUT_WR)
+            rest = takes(two if it is one else one)
+            if rest:
+                wrong(f"{number}: {rest} came too")
+            break
+        one.close()
+        two.close()
+        if not bridge.waits(lambda it, count=number + 2: it.told.count(b"listening ") == count, 10):
+            wrong(f"{number}: {bridge.errors()}")
+    if bridge.ended(15) != 0 or contents(f"{folder}/first") != b"".join(texts):
+        wrong(f"{bridge.errors()}")
+    if bridge.counts() != ((6, sum(map(len, texts)) - 6 * 15, 0, 0, 0), (6, 6, 0, 0, 0)):
+        wrong(f"{bridge.counts()}, {bridge.errors()}")
+    ends = [f"{('first', 'second')[it % 2]} line down: closed by the other end" for it in range(6)]
+    if [it for it in bridge.errors() if " line down" in it] != ends or set(bridge.ports(7)) != {port}:
+        wrong(f"{bridge.errors()}")
+    for mark, name in (">", b"there"), ("<", b"back"):
+        wanted = [f"{mark} {explained(data(name, it))[0]}" for it in range(6)]
+        if [it[1] for it in bridge.traces() if it[1][0] == mark] != wanted:
+            wrong(f"{bridge.errors()}")
+    shutil.rmtree(folder)
+    far.close()
+
+
+def flows(peer, made):
+    """Sends these frames again and again until all is over, in pieces of any size; and keeps what comes."""
+    def receive():
+        with contextlib.suppress(OSError):
+            while piece := peer.recv(1 << 16):
+                made["got"] += piece
+
+    def send():
+        with contextlib.suppress(OSError):
+            for frame in itertools.cycle(made["frames"]):
+                sends(peer, frame, 500)
+                time.sleep(0.002)  # else megabytes are on their way at the end
+                if made["over"]:
+                    return
+    made["got"], made["over"] = b"", False
+    made["threads"] = [threading.Thread(target=it) for it in (receive, send)]
+    for it in made["threads"]:
+        it.start()
+
+
+def bridged_kills():
+    """One end is killed 20 times while frames flow: on each line only whole frames come, of that line alone; just a line
+    that was killed may end within one."""
+    first, second = server(), server()
+    names = [f"connect:127.0.0.1:{it.getsockname()[1]}" for it in (first, second)]
+    bridge, passed = Bridge(*names, "--again", "--delay", "20"), 0
+    for number in range(20):
+        ends = first.accept()[0], second.accept()[0]
+        sent = [{"frames": [data(bytes([number, way]) + drawn.randbytes(drawn.randrange(1, 900)), it % 256)
+                            for it in range(30)]} for way in (0, 1)]
+        for end, it in zip(ends, sent):
+            flows(end, it)
+        holds_within(LONG, lambda sent=sent: all(it["got"] for it in sent))
+        time.sleep(drawn.random() / 10)
+        killed = ends[number % 2]
+        killed.setsockopt(socket.SOL_SOCKET, socket.SO_LINGER, struct.pack("ii", 1, 0))  # its close is a reset
+        killed.shutdown(socket.SHUT_RD)
+        killed.close()
+        for it in sent:
+            it["over"] = True
+        for it in sum((it["threads"] for it in sent), []):
+            it.join(LONG)
+        for end, it, other in zip(ends, sent, sent[::-1]):
+            count, rest = parted(it["got"], other["frames"])
+            passed += count
+            is_part = end is killed and any(frame.startswith(rest) for frame in other["frames"])
+            if not count or rest and not is_part:
+                wrong(f"{number}: {count} frames, then {rest[:20]}, {bridge.errors()[-4:]}")
+        ends[1 - number % 2].close()
+    if not bridge.is_running():
+        wrong(f"{bridge.errors()[-4:]}")
+    bridge.kill()
+    if passed < 200:
+        wrong(f"{passed} frames")
+    for it in (first, second):
+        it.close()
+
+
+def bridged_later():
+    """With --again a port that isn't there yet is tried again, with a pause that doubles, while the other line is kept; so is
+    an address that another program listens at."""
+    with server() as taken, socket.socket() as far:
+        far.bind(("127.0.0.1", 0))
+        far.settimeout(5)
+        names = [f"127.0.0.1:{it.getsockname()[1]}" for it in (taken, far)]
+        bridge = Bridge(f"listen:{names[0]}", f"connect:{names[1]}", "--again", "--seconds", "12")
+        if not bridge.waits(lambda it: len(it.faults()) == 2, 6):
+            wrong(f"{bridge.errors()}")
+        taken.close()
+        bridge.ports(1)
+        one = connected(int(names[0].split(":")[1]))
+        one.settimeout(LONG)
+        one.sendall(control(1))
+        if not bridge.waits(lambda it: len(it.faults()) == 4, 6):
+            wrong(f"{bridge.errors()}")
+        far.listen()
+        two = far.accept()[0]
+        two.sendall(control(2))
+        if two.recv(8, socket.MSG_WAITALL) != control(1) or one.recv(8, socket.MSG_WAITALL) != control(2):
+            wrong("no frames came")
+        one.close()
+        two.close()
+        if bridge.ended(15) != 0 or not 11.9 < bridge.took < 13 or bridge.used > 0.6:
+            wrong(f"{bridge.took} s, {bridge.used} s of processor time: {bridge.errors()}")
+    wanted = [f"ddcmp: {it}: {why}; retry in {seconds} s" for it, why in (
+        (f"listen {names[0]}", "address in use"), (f"connect {names[1]}", "connection refused")) for seconds in (1, 2)]
+    if bridge.faults()[:4] != wanted or bridge.counts() != ((1, 0, 0, 0, 0), (1, 0, 0, 0, 0)):
+        wrong(f"{bridge.errors()} {bridge.lines()}")
+
+
+def bridged_in_vain():
+    """Lines over which no good frame comes aren't opened again without a pause, and a bridge whose standard error isn't
+    read opens its lines again nevertheless."""
+    for options in ((), ("--trace",)):
+        reading, writing = os.pipe()
+        first, second = server(), server()
+        names = [f"connect:127.0.0.1:{it.getsockname()[1]}" for it in (first, second)]
+        bridge = Bridge(*names, "--again", stderr=writing if options else subprocess.PIPE, *options)
+        os.close(writing)
+        ends = first.accept()[0], second.accept()[0]
+        if options:
+            ends[0].sendall(b"".join(data(bytes(1000), it % 256) for it in range(300)))
+            ends[1].settimeout(LONG)
+            ends[1].recv(300 * 1010, socket.MSG_WAITALL)
+        until, count = time.monotonic() + 4, 0
+        for it in ends:
+            it.close()
+        while time.monotonic() < until:
+            first.settimeout(until - time.monotonic())
+            with contextlib.suppress(TimeoutError), first.accept()[0], second.accept()[0]:
+                count += 1
+        pauses = [it for it in bridge.errors() if it.endswith(" line: retry in 1 s")]
+        if not 1 <= count <= 3 or not options and pauses != [f"{it} line: retry in 1 s" for it in ("first", "second")]:
+            wrong(f"{options}: {count} lines, {bridge.errors()}")
+        bridge.kill()
+        for it in (first, second):
+            it.close()
+        os.close(reading)
+
+
 TRIALS = [
+    bridged_later, bridged_again, bridged_kills, bridged_in_vain,
     over_faults, the_example, the_example_of_saving, bridged_slowly, bridged_rest, bridged_junk, device_to_udp, faults_by_a_seed,
     bridged_last, udp_to_tcp, tcp_to_tcp, bridged_datagrams, delayed, saved, traced, ends_of_a_bridge,
     device_without_waiting, unread_trace,

@@ -9,7 +9,7 @@ import time
 
 from links import kit
 from links.kit import (Link, binary, connected, drawn, exchange, free_port, listening, messages_of, server,
-                       tcp_pair, terminals, unpacked, wants, wrong)
+                       tcp_pair, terminals, unacknowledged, unpacked, wants, wrong)
 from links.peer import Peer, ack, data, good
 
 
@@ -30,8 +30,9 @@ def long_messages():
 
 
 def digits():
-    one, two = tcp_pair((), ("--counters",))
+    one, two = tcp_pair((), ("--counters", "--stay"))
     messages = messages_of(40)
+    two.give(b"")
     one.give(b"\n" + kit.digits(messages)[:-1])
     wants("the sender", one, 0)
     wants("the receiver", two, 0)
@@ -44,19 +45,21 @@ def digits():
 
 
 def receiver_ends():
-    """A receiver whose input is open and that has nothing to deliver ends well when its peer's line ends."""
+    """A receiver that has nothing to deliver ends well when its peer's line ends, but not if its input is open."""
     for options in ((), ("--binary",)):
-        one, two = tcp_pair(options, options)
-        two.give((binary if options else kit.digits)([b"abc"]))
-        wants(f"sender {options}", two, 0)
-        wants(f"receiver {options}", one, 0)
+        for close, status, last in ((True, 0, None), (False, 3, "ddcmp: ended")):
+            one, two = tcp_pair((*options, "--stay"), options)
+            one.give(b"", close)
+            two.give((binary if options else kit.digits)([b"abc"]))
+            wants(f"sender {options}", two, 0)
+            wants(f"receiver {options} closed {close}", one, status, last)
 
 
 def last_acknowledged():
     """A peer that sends its last message, and says that it sends no more, gets the acknowledgement of that."""
     for turn in range(10):
         with server() as it:
-            link = Link(f"connect:127.0.0.1:{it.getsockname()[1]}", "--binary")
+            link = Link(f"connect:127.0.0.1:{it.getsockname()[1]}", "--binary", "--stay", stdin=subprocess.DEVNULL)
             peer = Peer(it.accept()[0], good)
         peer.waits(lambda it: it.named("ACK"), 10)
         peer.send(data(b"last", 1, 0))
@@ -98,7 +101,7 @@ def last_line():
         link.waits(lambda it: it.said.count(b"mail") == 2 or it.said.endswith(b"\0\2uv"), 10)
         time.sleep(0.3)
         peer.sock.shutdown(socket.SHUT_WR)
-        wants(str(options), link, 3, "ddcmp: 1 message lost")
+        wants(str(options), link, 3, unacknowledged(1))
         peer.waits(lambda it: it.has_ended, 5)
         lines = [it for it in (link.errors() if "--binary" in options else link.lines()) if not it.startswith("ddcmp")]
         counted(link, peer, lines)

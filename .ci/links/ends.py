@@ -10,7 +10,7 @@ import time
 
 from links import kit
 from links.kit import (Link, binary, connected, example, free_port, holds_within, is_listening, listening, server,
-                       tcp_pair, terminals, wants, wrong)
+                       tcp_pair, terminals, unacknowledged, wants, wrong)
 from links.peer import STACK, STRT, Peer, ack, data, good, header, no_ack, silent
 
 
@@ -29,7 +29,7 @@ def lost():
             link.give((binary if options else kit.digits)(messages), close=count == 2)
             peer.waits(lambda it, count=count: len(it.named("DATA")) >= count, 10)
             peer.close()
-            wants(f"{count} {options}", link, 3, f"ddcmp: {count} message{'s' * (count > 1)} lost")
+            wants(f"{count} {options}", link, 3, unacknowledged(count))
             lines = lines_of(link, options)
             if f"lost {count}" not in lines or not any(it.startswith("state=Halted ") for it in lines):
                 wrong(f"{count} {options}: {lines}")
@@ -50,7 +50,7 @@ def lost_on_each_line():
         peer = Peer(it.accept()[0], good)
         peer.runs()
         link.give(form([b"c"]))
-        wants(f"{options}", link, 3, "ddcmp: 6 messages lost")
+        wants(f"{options}", link, 3, unacknowledged(6))
         if lines_of(link, options).count("lost 2") != 3 or peer.mail != [b"c"]:
             wrong(f"{options}: {lines_of(link, options)} {peer.mail}")
         it.close()
@@ -65,7 +65,7 @@ def lost_once():
     link.give(b"61\n", close=False)
     peer.waits(lambda it: it.named("DATA"), 10)
     peer.close()
-    wants("once", link, 3, "ddcmp: 1 message lost")
+    wants("once", link, 3, unacknowledged(1))
     if link.lines().count("lost 1") != 1:
         wrong(f"{link.lines()}")
 
@@ -83,19 +83,21 @@ def lost_at_a_restart():
     if not link.waits(lambda it: b"Restarted" in it.said, 10):
         wrong(f"no restart: {link.lines()}")
     link.give(b"63\n")
-    wants("with --restart", link, 3, "ddcmp: 2 messages lost")
+    wants("with --restart", link, 3, unacknowledged(2))
     if peer.mail != [b"c"] or link.lines()[1:4] != ["notice Restarted 2", "lost 2", "notice Running"]:
         wrong(f"{peer.mail} {link.lines()}")
 
 
 def peer_restarts():
-    """A STRT to a link that runs: without --restart it ends; with nothing lost, and with a message lost."""
-    for messages, status, last in ((b"", 0, None), (b"61\n", 3, "ddcmp: 1 message lost")):
+    """A STRT to a link that runs: without --restart it ends; with nothing lost, its input at its end or open, and with
+    a message lost."""
+    for messages, close, status, last in ((b"", True, 0, None), (b"", False, 3, "ddcmp: ended"),
+                                          (b"61\n", False, 3, unacknowledged(1))):
         with server() as it:
-            link = Link(f"connect:127.0.0.1:{it.getsockname()[1]}")
+            link = Link(f"connect:127.0.0.1:{it.getsockname()[1]}", "--stay")
             peer = Peer(it.accept()[0], no_ack)
         peer.runs()
-        link.give(messages, close=False)
+        link.give(messages, close)
         peer.waits(lambda it, count=len(messages) // 3: len(it.named("DATA")) >= count, 10)
         link.waits(lambda it: b"Running" in it.said, 10)
         peer.answer = silent
@@ -136,10 +138,12 @@ def failed_input():
 
 
 def peer_closes():
-    """The peer ends its line: all was acknowledged, with an open input and a closed one, with --stay, or nothing was
-    given; parts of the input were refused; the station hadn't started."""
-    trials = [((), b"61\n", False, 0, None), (("--stay",), b"61\n", True, 0, None), ((), b"", False, 0, None),
-              ((), b"61\nxy\n", False, 1, "ddcmp: line 2: not hexadecimal")]
+    """The peer ends its line: all was acknowledged, with an open input, from which more might come, and a closed one,
+    with --stay, or nothing was given; parts of the input were refused; the station hadn't started."""
+    open_yet = "ddcmp: ended"
+    trials = [((), b"61\n", False, 3, open_yet), (("--stay",), b"61\n", True, 0, None), ((), b"", False, 3, open_yet),
+              (("--stay",), b"", True, 0, None), ((), b"61\nxy\n", False, 3, open_yet),
+              (("--stay",), b"61\nxy\n", True, 1, "ddcmp: line 2: not hexadecimal")]
     for options, given, close, status, last in trials:
         with server() as it:
             link = Link(f"connect:127.0.0.1:{it.getsockname()[1]}", *options)
@@ -175,14 +179,14 @@ def pending_input():
         link.give(rest, close=False)
         time.sleep(0.2)
         peer.close()
-        wants(f"window 1, {first} and {rest}", link, 3, "ddcmp: 3 messages lost")
+        wants(f"window 1, {first} and {rest}", link, 3, unacknowledged(3))
 
 
 def unread_input():
     """The line ends, and standard input has more than is read at once: that isn't well, though no message that was read
     is lost."""
-    for lines, lasts in ((b"\n" * 60_000, ["1 message lost"]), (b"\n" * 400_000, ["ended", "1 message lost"]),
-                         (b"z" * 400_000 + b"\n", ["ended", "1 message lost"])):
+    for lines, lasts in ((b"\n" * 60_000, [unacknowledged(1)]), (b"\n" * 400_000, ["ddcmp: ended", unacknowledged(1)]),
+                         (b"z" * 400_000 + b"\n", ["ddcmp: ended", unacknowledged(1)])):
         with server() as it, tempfile.TemporaryFile() as file:
             file.write(b"61\n" + lines + b"62\n")
             file.seek(0)
@@ -192,7 +196,7 @@ def unread_input():
         time.sleep(0.2)
         peer.send(ack(1))
         peer.close()
-        if link.ended(5) != 3 or link.errors()[-1] not in [f"ddcmp: {it}" for it in lasts]:
+        if link.ended(5) != 3 or link.errors()[-1] not in lasts:
             wrong(f"{lines[:2]} {len(lines)}: status {link.run.returncode}, {link.errors()[-2:]}")
 
 
@@ -276,7 +280,7 @@ def serial_example():
 
 
 def seconds():
-    """--seconds with all acknowledged, without and with --stay; no busy loop."""
+    """--seconds with all acknowledged, without and with --stay, the input open or at its end; no busy loop."""
     links = []
     for options in ((), ("--stay",)):
         for close in (False, True):
@@ -285,7 +289,8 @@ def seconds():
             links.append((one, two, options, close))
     for one, two, options, close in links:
         name = f"{options} closed {close}"
-        if wants(name, one, 0, seconds=10) and one.took > 2.5:
+        status, last = (0, None) if close else (3, "ddcmp: ended")
+        if wants(name, one, status, last, seconds=10) and one.took > 2.5:
             wrong(f"{name}: {one.took:.2f} s")
         if one.used > 0.6:
             wrong(f"{name}: {one.used:.2f} s of processor time")
@@ -293,7 +298,7 @@ def seconds():
 
 
 def seconds_unfinished():
-    """An unfinished line at the end of --seconds is refused, and not sent."""
+    """An unfinished line at the end of --seconds is refused, and not sent; the input is open, so that isn't well."""
     trials = [((), b"61\n6162", "ddcmp: line 2: unfinished"), ((), b"6162", "ddcmp: line 1: unfinished"),
               (("--binary",), b"\0\2a", "ddcmp: message 1: unfinished"), (("--binary",), b"\0\1a\0", "ddcmp: message 2: unfinished")]
     links = []
@@ -303,7 +308,9 @@ def seconds_unfinished():
             links.append((link, Peer(it.accept()[0], good), last))
         link.give(given, close=False)
     for link, peer, last in links:
-        wants(last, link, 1, last, seconds=10)
+        wants(last, link, 3, "ddcmp: ended", seconds=10)
+        if last not in link.errors():
+            wrong(f"{last}: {link.errors()}")
         if peer.mail != [b"a"] * (" 2:" in last):
             wrong(f"{last}: the peer got {peer.mail}")
 
@@ -342,8 +349,8 @@ def seconds_in_each_state():
             link.give(given, close=False)
             links.append((f"{name} {options}", link, peer, it))
     for name, link, _peer, _server in links:
-        last = "ddcmp: 3 messages lost" if "nothing" in name else (
-            "ddcmp: 2 messages lost" if "one" in name else "ddcmp: ended")
+        last = unacknowledged(3) if "nothing" in name else (
+            unacknowledged(2) if "one" in name else "ddcmp: ended")
         wants(name, link, 3, last, seconds=12)
         if link.took is not None and link.took > 6:
             wrong(f"{name}: {link.took:.2f} s")
@@ -445,7 +452,7 @@ def line_is_reset():
     peer.close()
     time.sleep(0.2)
     link.run.send_signal(signal.SIGCONT)
-    wants("reset", link, 3, "ddcmp: 1 message lost")
+    wants("reset", link, 3, unacknowledged(1))
     if link.mails() != [b"a"]:
         wrong(f"{link.lines()}")
 

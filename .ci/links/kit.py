@@ -73,6 +73,12 @@ def checked(data):
     return data + bytes([register & 255, register >> 8])
 
 
+def unacknowledged(count):
+    """The last line of a link, some of whose messages weren't acknowledged."""
+    some = "1 message not acknowledged: it" if count == 1 else f"{count} messages not acknowledged: they"
+    return f"ddcmp: {some} may have arrived"
+
+
 def binary(messages):
     return b"".join(len(it).to_bytes(2, "big") + it for it in messages)
 

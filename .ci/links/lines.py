@@ -6,8 +6,8 @@ import subprocess
 import tempfile
 import time
 
-from links.kit import (Link, checked, exchange, free_port, holds_within, listening, messages_of, server, terminals, wants,
-                       wrong)
+from links.kit import (Link, checked, exchange, free_port, holds_within, listening, messages_of, server, terminals,
+                       unacknowledged, wants, wrong)
 from links.peer import STACK, STRT, Peer, ack, data, good, header, nak, no_ack, rep, silent
 
 
@@ -156,7 +156,7 @@ def gone_for_good():
         wrong(f"{peer.frames}")
     it.close()
     peer.close()
-    wants("lost", link, 3, "ddcmp: 2 messages lost", 10)
+    wants("lost", link, 3, unacknowledged(2), 10)
     with server() as it:
         link = Link(f"connect:127.0.0.1:{it.getsockname()[1]}", "--again", "--linger-ms", "1500")
         link.give(b"61\n62\n")
@@ -167,7 +167,7 @@ def gone_for_good():
         peer.close()
         peer = Peer(it.accept()[0], good)  # it is heard out from the end of its line on
     peer.runs()
-    wants("back after a loss", link, 3, "ddcmp: 2 messages lost", 10)
+    wants("back after a loss", link, 3, unacknowledged(2), 10)
     it = server()
     link = Link(f"connect:127.0.0.1:{it.getsockname()[1]}", "--again", "--linger-ms", "1500")
     link.give(b"61\n")
@@ -210,21 +210,21 @@ def full_window():
         return link, it
 
     seven = b"".join(b"%02x\n" % it for it in range(1, 8))
-    wants("lines", lost_with(seven, 7)[0], 3, "ddcmp: 7 messages lost", 8)
-    wants("one", lost_with(b"61\n", 1, "--window", "1")[0], 3, "ddcmp: 1 message lost", 8)
-    wants("binary", lost_with(b"\0\1a", 1, "--window", "1", "--binary")[0], 3, "ddcmp: 1 message lost", 8)
+    wants("lines", lost_with(seven, 7)[0], 3, unacknowledged(7), 8)
+    wants("one", lost_with(b"61\n", 1, "--window", "1")[0], 3, unacknowledged(1), 8)
+    wants("binary", lost_with(b"\0\1a", 1, "--window", "1", "--binary")[0], 3, unacknowledged(1), 8)
     link, it = lost_with(b"61\n", 1, "--window", "1", later=True)
     it.close()
     time.sleep(1.5)
     if not link.is_running():
         wrong(f"it ended before its input: {link.errors()}")
     link.give(b"")
-    wants("later", link, 3, "ddcmp: 1 message lost", 8)
+    wants("later", link, 3, unacknowledged(1), 8)
     for text in (b"61\n62", b"61\n62\n"):
         link, it = lost_with(text, 1, "--window", "1", later=True)
         link.give(b"")
         peer = Peer(it.accept()[0], good)
-        wants(text, link, 3, "ddcmp: 1 message lost", 8)
+        wants(text, link, 3, unacknowledged(1), 8)
         if peer.mail != [b"b"]:
             wrong(f"{text} {peer.mail}")
         it.close()
@@ -246,8 +246,7 @@ def more_between_lines():
         for piece in pieces:
             time.sleep(0.5)
             link.give(piece, close=False)
-        name = f"{lost} message{'s' if lost > 1 else ''} lost"
-        wants(pieces, link, 3, f"ddcmp: {name}", 10)
+        wants(pieces, link, 3, unacknowledged(lost), 10)
     own, there = free_port(socket.SOCK_DGRAM), socket.socket(socket.AF_INET, socket.SOCK_DGRAM)
     there.bind(("127.0.0.1", 0))
     link = Link(f"udp:127.0.0.1:{own},127.0.0.1:{there.getsockname()[1]}", "--again", "--window", "1", "--linger-ms", "500")
@@ -257,7 +256,7 @@ def more_between_lines():
         wrong(f"{peer.frames}")
     peer.answer = silent
     peer.send(STRT)
-    wants("a silent peer", link, 3, "ddcmp: 1 message lost", 8)
+    wants("a silent peer", link, 3, unacknowledged(1), 8)
     there.close()
 
 
@@ -487,7 +486,7 @@ def refused_often():
         links.append((seconds, link, peer))
     for seconds, link, peer in links:
         took, count = naks_for_ever(seconds, link, peer), len(peer.named("DATA"))
-        wants(f"a NAK each {seconds} s", link, 3, "ddcmp: 1 message lost", seconds=5)
+        wants(f"a NAK each {seconds} s", link, 3, unacknowledged(1), seconds=5)
         if count < 7 or took > 10 or "ddcmp: peer refuses: data check" not in link.errors():
             wrong(f"a NAK each {seconds} s: sent {count} times in {took:.1f} s, {link.errors()}")
 

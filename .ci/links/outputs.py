@@ -144,6 +144,7 @@ def errors_unread():
             one.read()
             two.read()
             time.sleep(0.5)
+        one.link.run.stdin.close()
         two.link.run.stdin.close()
         for name, it in (("sender", two), ("receiver", one)):
             if it.link.ended(4) != 0:
@@ -159,6 +160,7 @@ def errors_read_at_last():
     """The last line has room on a standard error that was full until the end."""
     one = Unread("listen:127.0.0.1:0", "--binary", "--stay", "--inbox", "127", "--counters")
     two = Unread(f"connect:127.0.0.1:{one.port()}", "--binary", "--window", "127")
+    one.link.give(b"")
     two.link.give(binary([b"%05d" % it for it in range(8000)]))
     one.link.waits(lambda it: len(it.said) >= 7 * 8000, 30)
     two.read()
@@ -345,7 +347,8 @@ def seconds_slow():
     """--seconds drops nothing of an output that is read slowly."""
     reading, writing = os.pipe()
     with server() as it:
-        link = Link(f"connect:127.0.0.1:{it.getsockname()[1]}", "--stay", "--seconds", "2", stdout=writing)
+        link = Link(f"connect:127.0.0.1:{it.getsockname()[1]}", "--stay", "--seconds", "2", stdin=subprocess.DEVNULL,
+                    stdout=writing)
         os.close(writing)
         peer = Peer(it.accept()[0], good)
     peer.runs()

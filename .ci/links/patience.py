@@ -6,7 +6,8 @@ import subprocess
 import time
 
 from links.carrying import Bad
-from links.kit import (Link, binary, connected, free_port, listening, messages_of, server, tcp_pair, unpacked, wants, wrong)
+from links.kit import (Link, binary, connected, free_port, listening, messages_of, server, tcp_pair, unacknowledged, unpacked,
+                       wants, wrong)
 from links.lines import Refusing, datagram_peer
 from links.peer import STACK, STRT, Peer, ack, data, good, header, no_ack, rep, silent
 from trials import drawn
@@ -54,7 +55,7 @@ def silent_caller():
 
 def gone():
     """A peer that ran and answers nothing any more is given up if that is asked for, and else isn't."""
-    for options, status, last in ((("--attempts", "3"), 3, "ddcmp: 1 message lost"),
+    for options, status, last in ((("--attempts", "3"), 3, unacknowledged(1)),
                                   (("--attempts", "3", "--again"), None, None), ((), None, None)):
         with server() as it:
             link = Link(f"connect:127.0.0.1:{it.getsockname()[1]}", *QUICK, *options)
@@ -87,7 +88,7 @@ def absent():
         wrong("it doesn't start")
     peer.answer = silent
     link.give(b"61\n")
-    wants("gone", link, 3, "ddcmp: 1 message lost", seconds=5)
+    wants("gone", link, 3, unacknowledged(1), seconds=5)
 
 
 def absent_again():
@@ -102,7 +103,7 @@ def absent_again():
         wrong(f"it doesn't wait: {link.errors()}")
     peer.answer = good
     link.give(b"6262\n")
-    wants("back", link, 3, "ddcmp: 1 message lost", seconds=5)
+    wants("back", link, 3, unacknowledged(1), seconds=5)
     if peer.mail[-1:] != [b"bb"]:
         wrong(f"{peer.mail}")
 
@@ -132,7 +133,7 @@ def refused_then_silent():
     link.give(b"61\n")
     peer.waits(lambda it: len(it.named("DATA")) >= 3, 5)
     peer.answer = silent
-    wants("silent", link, 3, "ddcmp: 1 message lost", seconds=5)
+    wants("silent", link, 3, unacknowledged(1), seconds=5)
     if [it for it in link.errors() if "peer" in it] != ["ddcmp: peer doesn't answer"]:
         wrong(f"{link.errors()}")
 
@@ -146,7 +147,7 @@ def refused():
             peer = Peer(it.accept()[0], Refusing(reason))
         peer.runs()
         link.give(b"61\n")
-        wants(words, link, 3, "ddcmp: 1 message lost", seconds=5)
+        wants(words, link, 3, unacknowledged(1), seconds=5)
         if f"ddcmp: peer refuses: {words}" not in link.errors():
             wrong(f"{words}: {link.errors()}")
 
@@ -229,7 +230,8 @@ def lingers_so_long():
 
 def lingers_while_asked():
     """A peer that isn't done is heard out: one that asks again by REP or STACK, or is in the middle of a frame. One that
-    only acknowledges, repeats what was acknowledged or refused, or sends junk isn't waited for."""
+    only acknowledges, repeats what was acknowledged or refused, or sends junk isn't waited for; a refused message isn't
+    well."""
     long, too_long = data(b"c" * 1000, 2), header(2000, 2) + b"d" * 2002
     for name, pieces, stays in (
         ("REP", [rep(1)] * 7, True), ("STACK", [STACK] * 7, True), ("ACK", [ack(0)] * 12, False),
@@ -252,7 +254,7 @@ def lingers_while_asked():
                 time.sleep(0.25)
         if (link.run.returncode is None) != stays:
             wrong(f"{name}: status {link.run.returncode} after {time.monotonic() - begun:.2f} s")
-        if link.ended(5) != 0 or link.mails() != [b"a"] + [b"c" * 1000] * (name == "slow"):
+        if link.ended(5) != 3 * (name == "refused") or link.mails() != [b"a"] + [b"c" * 1000] * (name == "slow"):
             wrong(f"{name}: status {link.run.returncode}, {link.mails()}")
 
 

@@ -8,7 +8,8 @@ import subprocess
 import tempfile
 import time
 
-from links.kit import EVENT, Link, binary, connected, free_port, listening, server, tcp_pair, wants, wrong
+from links.kit import (EVENT, Link, binary, connected, free_port, listening, server, tcp_pair, unacknowledged, wants,
+                       wrong)
 from links.peer import Peer, data, good, no_ack
 
 STAMP = re.compile(r"\d{4}-\d\d-\d\dT\d\d:\d\d:\d\d\.\d{3}Z ")
@@ -31,11 +32,11 @@ def reports_of(lines):
 def periodic():
     """A report every second, also while nobody has come, as lines or as objects."""
     for options in ((), ("--json",), ("--clock",), ("--json", "--clock")):
-        link = Link("listen:127.0.0.1:0", "--report", "1", "--seconds", "3", *options)
+        link = Link("listen:127.0.0.1:0", "--report", "1", "--seconds", "3", "--stay", *options)
         peer = Peer(connected(listening(link)), good)
         time.sleep(1.3)
         peer.runs()
-        link.give(b"61\n6262\n", close=False)
+        link.give(b"61\n6262\n")
         wants(f"{options}", link, 0, seconds=10)
         lines = [STAMP.sub("", it) for it in link.errors()]
         reports = reports_of(lines)
@@ -110,7 +111,7 @@ def line_down():
                 sock.close()
             else:
                 peer.close()
-            wants(how, link, 3, "ddcmp: 1 message lost", seconds=10)
+            wants(how, link, 3, unacknowledged(1), seconds=10)
             if not any(it.endswith(f"line down: {reason}") for it in link.errors()):
                 wrong(f"{how}: {link.errors()}")
     one, other = tcp_pair([], ["--linger-ms", "3000"])

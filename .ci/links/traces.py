@@ -212,7 +212,7 @@ def trace_unread():
     with server() as it:
         reading, writing = os.pipe()
         link = Link(f"connect:127.0.0.1:{it.getsockname()[1]}", "--trace", "--timer-ms", "60000", "--inbox", "127",
-                    stderr=writing)
+                    "--stay", stdin=subprocess.DEVNULL, stderr=writing)
         os.close(writing)
         peer = Peer(it.accept()[0], good)
     peer.runs()
