@@ -43,7 +43,7 @@ use Rattle.ddcmp_session.specs.Calls.{HasLeft}
 use Rattle.ddcmp_streams.specs.Messages.{after_input, after_last, entries_of_input}
 use Rattle.ddcmp_streams.specs.Messages.{entry_of_last, has_last_line, is_message_unfinished}
 use Rattle.ddcmp_session.specs.declared.course.Course.{Course}
-use Rattle.ddcmp_session.specs.declared.course.Progress.{Progress}
+use Rattle.ddcmp_session.specs.declared.course.progress.Progress.{Progress}
 use Rattle.ddcmp_session.specs.Session.{SessionView, after_connected, after_entry, after_entries}
 use Rattle.ddcmp_session.specs.Session.{after_input_end, after_last_line, after_time, after_timeout}
 use Rattle.ddcmp_session.specs.Session.{after_input_read, after_unfinished, awaits_peer, expires}

@@ -15,7 +15,8 @@ use Rattle.ddcmp_session.specs.Devices.{Agrees, AreOfRun, BuffersView, GoesOn}
 use Rattle.ddcmp_session.specs.Traffic.{Becomes, Traffic, line_begun}
 use Rattle.ddcmp_session.specs.Devices.{IsOfRun, Reports}
 use Rattle.ddcmp_session.specs.Lines.{AllKeepOpen, AllReady, Closes, GoesIf, GoesOver, IsReady}
-use Rattle.ddcmp_session.specs.Lines.{IsReadToEnd, KeepsOpen, MayEndWell, ReadyIf, ReportsOver, StaysOver}
+use Rattle.ddcmp_session.specs.Lines.{IsReadToEnd, KeepsOpen, MayEndWell, ReadyIf, ReportsOver}
+use Rattle.ddcmp_session.specs.Lines.{StaysOver}
 use Rattle.ddcmp_session.specs.Lines.{none_received}
 use Rattle.ddcmp_session.specs.Timing.{PassesTime, after_failure, after_line}
 use Rattle.ddcmp_session.specs.declared.buffers.lines.Stop.TheVariants.{the_data, Device}

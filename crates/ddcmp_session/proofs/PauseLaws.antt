@@ -19,18 +19,20 @@ use Rattle.ddcmp_streams.specs.Messages.{after_input, after_last, entries_of_inp
 use Rattle.ddcmp_streams.specs.Messages.{is_message_unfinished}
 use Rattle.ddcmp_streams.specs.Options.{report_ms, speed_of}
 use Rattle.ddcmp_session.specs.declared.course.Course.{Course}
-use Rattle.ddcmp_session.specs.declared.course.Progress.{Progress}
+use Rattle.ddcmp_session.specs.declared.course.progress.Progress.{Progress}
 use Rattle.ddcmp_session.specs.Course.{after_acknowledged, after_looked, after_moment, after_noise}
 use Rattle.ddcmp_session.specs.Course.{after_heard, after_notice, after_notices}
 use Rattle.ddcmp_session.specs.Course.{after_opening_failed, after_unheard, expiry_counted}
 use Rattle.ddcmp_session.specs.Course.{after_pauses, after_progress, after_refusal, after_state}
 use Rattle.ddcmp_session.specs.Course.{goes_on, is_at, lost_more, next_pause, pause_at, pause_begun}
-use Rattle.ddcmp_session.specs.Course.{after_naks, after_writing, naks_of, progress_of, refusal_between}
+use Rattle.ddcmp_session.specs.Course.{after_naks, after_writing, naks_of, progress_of}
+use Rattle.ddcmp_session.specs.Course.{refusal_between}
 use Rattle.ddcmp_session.specs.Course.{try_counted}
 use Rattle.ddcmp_session.specs.Session.{SessionView, after_connected, after_connecting_in}
 use Rattle.ddcmp_session.specs.Session.{after_entries, after_entry, after_input_end}
 use Rattle.ddcmp_session.specs.Session.{after_last_line, after_telling, after_time, after_timeout}
-use Rattle.ddcmp_session.specs.Session.{after_unfinished, awaits_peer, expires, is_sending, lost_by_start, starts}
+use Rattle.ddcmp_session.specs.Session.{after_unfinished, awaits_peer, expires, is_sending}
+use Rattle.ddcmp_session.specs.Session.{lost_by_start, starts}
 use Rattle.ddcmp_session.specs.Session.{takes_end, timed_out, wants_line}
 use Rattle.ddcmp_session.specs.Timing.{PassesTime, after_failure, after_line, is_listener}
 use Rattle.ddcmp_session.specs.Calls.{SessionCall, SessionDoes, InputRead, InputEnded, Connected}

@@ -13,7 +13,7 @@ use Rattle.ddcmp_core.specs.declared.state.State.TheVariants.{Maintenance}
 use Rattle.ddcmp_station.specs.Driving.{is_due, later}
 use Rattle.ddcmp_station.specs.Linking.{LinkView, delivered, is_needed, state_of, total_plus}
 use Rattle.ddcmp_session.specs.declared.course.Course.{Course}
-use Rattle.ddcmp_session.specs.declared.course.Progress.{Progress}
+use Rattle.ddcmp_session.specs.declared.course.progress.Progress.{Progress}
 
 abbrev pub never : ℕ
 never = 18446744073709551615
@@ -76,7 +76,8 @@ after_pauses c = record c {
   nak_pause = pause_at c.moment c.nak_pause;
 }
 
--- how many milliseconds a line of this speed needs for bytes, of which the system holds at most 4096
+-- how many milliseconds a line of this speed needs for bytes, of which the system holds at most
+-- 4096
 abbrev pub sending_ms : ℕ → ℕ → ℕ
 sending_ms baud bytes = 10000 * min bytes 4096 / baud
 

@@ -37,7 +37,8 @@ pause_text seconds = codes "retry in " ++ decimal seconds ++ codes " s\n"
 -- Standard output was blocked after the time of the run was over.
 abbrev pub unread_text : List ℕ
 unread_text =
-    codes "ddcmp: " ++ codes "standard output isn't read: received messages weren't written" ++ codes "\n"
+    codes "ddcmp: " ++ codes "standard output isn't read: received messages weren't written"
+    ++ codes "\n"
 
 -- all that came over the line is what was sent
 abbrev pub echo_text : List ℕ

@@ -1,5 +1,6 @@
 -- How a session runs over its devices, over one line after the other, and how its run ends.
-use Rattle.std.specs.Prelude.{ℕ, ◌≡◌, ◌≤◌, ◌⊎◌, ⊤, Bool, true, false, List, [], ◌∷◌, Option, Some, None}
+use Rattle.std.specs.Prelude.{ℕ, ◌≡◌, ◌≤◌, ◌⊎◌, ⊤, Bool, true, false, List, [], ◌∷◌, Option, Some}
+use Rattle.std.specs.Prelude.{None}
 use Rattle.ddcmp_window.specs.Store.{first_message}
 use Rattle.ddcmp_session.specs.Session.{SessionView, is_delivered, room_for_mail}
 use Rattle.ddcmp_session.specs.Calls.{SessionCall, SessionHistory, SessionStep, HasClosed, Closed}

@@ -48,8 +48,8 @@ most_tries attempts runs =
 abbrev pub too_many : ℕ → ℕ → Bool
 too_many most tries = nat_lt 0 most && nat_le most tries
 
--- A line that doesn't report its end, and seven tries in a row without a byte of the peer: all of the
--- input was read, so only the peer can go on.
+-- A line that doesn't report its end, and seven tries in a row without a byte of the peer: all of
+-- the input was read, so only the peer can go on.
 abbrev pub is_silent : SessionView → Bool
 is_silent s = not (is_connection s.kind) && nat_le 7 s.course.unanswered
 

@@ -95,7 +95,8 @@ impl Chunk {
     pub(crate) fn read_line<D: Devices>(&mut self, devices: &mut D) -> Transfer
         requires { self.old ≡ [] }
         ensures { (space : List ℕ) × (self.new ≡ moved_of result space)
-            × Becomes (D.traffic devices.old) (D.traffic devices.new) (after_line_read result space) }
+            × Becomes (D.traffic devices.old) (D.traffic devices.new)
+            (after_line_read result space) }
     {
         let got = devices.read_line(&mut self.bytes);
         self.start = 0;

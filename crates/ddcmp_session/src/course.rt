@@ -3,15 +3,17 @@ ghost use Rattle.std.specs.Prelude.{◌≡◌, ◌<◌};
 ghost use Rattle.ddcmp_session.specs.Course.{after_connecting, after_entering, after_looked};
 ghost use Rattle.ddcmp_session.specs.Course.{after_moment, after_noise, after_opening_failed};
 ghost use Rattle.ddcmp_session.specs.Course.{after_progress, after_state, after_unheard};
-ghost use Rattle.ddcmp_session.specs.Course.{course_begun, expiry_counted, goes_on, is_at};
-ghost use Rattle.ddcmp_session.specs.Course.{lost_more, progress_of, reports_at, step_of};
-ghost use Rattle.ddcmp_session.specs.Course.{after_writing, sending_ms, try_counted};
+ghost use Rattle.ddcmp_session.specs.Course.{after_writing, course_begun, expiry_counted};
+ghost use Rattle.ddcmp_session.specs.Course.{lost_more};
+ghost use Rattle.ddcmp_session.specs.Course.{reports_at, sending_ms, try_counted};
 
 mod pauses;
+mod progress;
 
 use ddcmp_frame::Nak;
 use ddcmp_station::{Link, NakCounts, State};
 use pauses::{naks_of, refusal_between};
+use progress::{Progress, goes_on, is_at, progress_of};
 
 /// The shortest and the longest pause before a line is opened again, in seconds.
 const LEAST_SECONDS: u64 = 1;
@@ -33,17 +35,6 @@ pub(crate) enum Wrong {
     Damaged,
 }
 
-/// The progress of a link.
-#[derive(Clone, Copy)]
-pub(crate) struct Progress {
-    /// How far the startup handshake is.
-    pub(crate) step: u8,
-    /// How many messages were acknowledged.
-    pub(crate) acknowledged: u64,
-    /// How many messages were received.
-    pub(crate) received: u32,
-}
-
 /// How the run of a session proceeds. All moments are in milliseconds since the session was made.
 ///
 /// The line is to be left after too many tries in a row without progress: no message was
@@ -55,11 +46,11 @@ pub(crate) struct Progress {
 /// 10 ms: a peer that is out of buffers for a moment gets them soon. Each further pause is twice as
 /// long, up to the time of the reply timer, until the peer acknowledges a message: a peer that
 /// refuses a message, such as one that is too long for it, gets at most a window of messages in
-/// each pause. A NAK during a pause doesn't prolong it. NAKs in reply to REP don't count, since REPs
-/// are sent at the pace of the reply timer anyway.
+/// each pause. A NAK during a pause doesn't prolong it. NAKs in reply to REP don't count, since
+/// REPs are sent at the pace of the reply timer anyway.
 ///
-/// NAKs that this end sends have such pauses, too: the first one of a frame that came damaged or too
-/// long repairs at once, and each further one is held back, until a message is received.
+/// NAKs that this end sends have such pauses, too: the first one of a frame that came damaged or
+/// too long repairs at once, and each further one is held back, until a message is received.
 #[derive(Clone, Copy)]
 pub(crate) struct Course {
     /// The last moment that was passed.
@@ -218,7 +209,8 @@ impl Course {
         self.refusal = refusal;
     }
 
-    /// Counts an expiry of the reply timer as a try. `is_read` means that all of the input was read.
+    /// Counts an expiry of the reply timer as a try. `is_read` means that all of the input was
+    /// read.
     pub(crate) fn count_expiry(&mut self, is_read: bool)
         ensures { self.new ≡ expiry_counted is_read self.old }
     {
@@ -354,52 +346,4 @@ fn sending_ms(baud: u32, bytes: u64) -> u64
     ensures { result ≡ sending_ms baud bytes }
 {
     10_000 * bytes.min(HELD_BYTES) / baud as u64
-}
-
-/// Returns how far the startup handshake is.
-fn step_of(state: State) -> u8
-    ensures { result ≡ step_of state }
-{
-    match state {
-        State::Halted => 0,
-        State::IStart => 1,
-        State::AStart => 2,
-        State::Running => 3,
-        State::Maintenance => 4,
-    }
-}
-
-/// Returns the progress of a link.
-fn progress_of(link: &Link) -> Progress
-    ensures { result ≡ progress_of link.now }
-{
-    Progress {
-        step: step_of(link.state()),
-        acknowledged: link.totals().acknowledged,
-        received: link.counters().messages_up,
-    }
-}
-
-/// Returns whether there was no progress since.
-fn is_at(progress: Progress, before: Option<Progress>) -> bool
-    ensures { result ≡ is_at progress before }
-{
-    match before {
-        None => false,
-        Some(before) => {
-            progress.step == before.step
-                && progress.acknowledged == before.acknowledged
-                && progress.received == before.received
-        }
-    }
-}
-
-/// Returns whether the handshake made a step since, or a message was received; true at first.
-fn goes_on(progress: Progress, before: Option<Progress>) -> bool
-    ensures { result ≡ goes_on progress before }
-{
-    match before {
-        None => true,
-        Some(before) => { !(progress.step == before.step && progress.received == before.received) }
-    }
 }

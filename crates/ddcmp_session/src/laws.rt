@@ -4,8 +4,9 @@ ghost use Rattle.std.specs.Prelude.{◌≡◌, ◌⊎◌, ◌+◌, ◌≤◌, �
 ghost use Rattle.ddcmp_session.specs.Session.{SessionView};
 ghost use Rattle.ddcmp_session.specs.Calls.{SessionCall, SessionDoes, TimedOut};
 
-/// Messages that the peer refuses are held back for a while. No call prolongs such a pause. One that
-/// begins ends within the time of the reply timer, and `handle_timeout` ends it at that moment.
+/// Messages that the peer refuses are held back for a while. No call prolongs such a pause. One
+/// that begins ends within the time of the reply timer, and `handle_timeout` ends it at that
+/// moment.
 pub fn pauses_end()
     ensures kept { (call : SessionCall) (text : List ℕ) (old new : SessionView) (until : ℕ)
         → SessionDoes call text old new → old.course.pause ≡ Some until

@@ -6,6 +6,7 @@ mod closing;
 mod input;
 mod line;
 mod output;
+mod patience;
 mod timing;
 
 use crate::course::Course;

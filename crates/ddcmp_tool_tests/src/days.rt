@@ -301,8 +301,9 @@ fn ends(rt: &impl Abort, two: &mut Two, now: u64) {
     assert!(rt; two.b.end() == Some(EndReason::Done));
 }
 
-/// A message that the peer refuses is retransmitted after each pause: these double from 10 ms on, up
-/// to the reply timer. The peer holds its NAKs back, too: for its own reply timer, of a millisecond.
+/// A message that the peer refuses is retransmitted after each pause: these double from 10 ms on,
+/// up to the reply timer. The peer holds its NAKs back, too: for its own reply timer, of a
+/// millisecond.
 #[test]
 fn thirty_days_of_refusals(rt: HostRuntime) {
     let rt = &rt;

@@ -2,7 +2,8 @@
 ghost use Rattle.std.specs.Prelude.{◌≡◌};
 ghost use Rattle.ddcmp_session.specs.Course.{naks_of, next_pause, pause_at, refusal_between};
 
-use crate::course::{Course, Progress, goes_on};
+use crate::course::Course;
+use crate::course::progress::{Progress, goes_on};
 use ddcmp_frame::Nak;
 use ddcmp_station::NakCounts;
 

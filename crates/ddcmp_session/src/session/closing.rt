@@ -56,7 +56,8 @@ impl Session {
         ensures state { self.new.state ≡ self.old.state }
         ensures traced { (mid : ErrorsView)
             × ReportsEcho self.old.log.echo self.old.log.errors mid
-            × Traces LogsEnd self.old.log.trace (record self.old.log { errors = mid }) self.new.log }
+            × Traces LogsEnd self.old.log.trace (record self.old.log { errors = mid })
+            self.new.log }
         ensures log { self.new.log
             ≡ record self.old.log { errors = self.new.log.errors; trace = self.new.log.trace } }
     {

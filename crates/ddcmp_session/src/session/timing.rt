@@ -1,29 +1,16 @@
 //! The timers of a session.
-ghost use Rattle.std.specs.Prelude.{◌≡◌, ◌++◌, codes};
-ghost use Rattle.ddcmp_session.specs.Reports.{given_up_text};
-ghost use Rattle.ddcmp_session.specs.Timing.{most_tries};
 
-use crate::course::Wrong;
 use crate::session::{EndReason, Session};
-use ddcmp_explain::reason_name;
-use ddcmp_frame::Nak;
 use ddcmp_io::LineKind;
-use ddcmp_station::State;
-use itoa::Buffer;
 
 impl Session {
     ghost use Rattle.std.specs.Prelude.{◌≡◌, ◌&&◌, not, Some, if◌then◌else◌};
     ghost use Rattle.ddcmp_session.specs.Course.{after_opening_failed};
-    ghost use Rattle.ddcmp_session.specs.Logged.{HandlesTimeout, PassesMoment, ReportsGivenUp};
-    ghost use Rattle.ddcmp_session.specs.Logged.{ReportsSilence, ReportsWrong};
-    ghost use Rattle.ddcmp_session.specs.Reports.{wrong_text};
-    ghost use Rattle.ddcmp_session.specs.Session.{after_telling, after_time, after_timeout};
-    ghost use Rattle.ddcmp_session.specs.Session.{after_tried, awaits_peer, has_damaged, is_sending};
-    ghost use Rattle.ddcmp_session.specs.Session.{has_too_long, is_delivered, unless_read, untold};
-    ghost use Rattle.ddcmp_streams.specs.Errors.{HasLine};
-    ghost use Rattle.ddcmp_streams.specs.declared.errors.TheConstants.{SHORT_LINE};
-    ghost use Rattle.ddcmp_session.specs.Timing.{after_line, end, is_done, is_given_up, is_gone};
-    ghost use Rattle.ddcmp_session.specs.Timing.{is_silent, is_spent};
+    ghost use Rattle.ddcmp_session.specs.Logged.{HandlesTimeout, PassesMoment};
+    ghost use Rattle.ddcmp_session.specs.Session.{after_time, after_timeout, after_tried};
+    ghost use Rattle.ddcmp_session.specs.Session.{awaits_peer, is_delivered, is_sending};
+    ghost use Rattle.ddcmp_session.specs.Session.{unless_read};
+    ghost use Rattle.ddcmp_session.specs.Timing.{after_line, end, is_done, is_spent};
     ghost use Rattle.ddcmp_session.specs.Timing.{lingers_until, next_timeout, reopens, run_ends_at};
     ghost use Rattle.ddcmp_session.specs.Timing.{seconds_after_line, stays, unless_done, wait_ms};
     ghost use Rattle.ddcmp_session.specs.Timing.{wakes_at, wakes_without_line_at};
@@ -120,8 +107,8 @@ impl Session {
         self.course.written_then = self.course.written;
     }
 
-    /// Returns whether a serial device has bytes underway, or took some since the last expiry and is
-    /// to take more.
+    /// Returns whether a serial device has bytes underway, or took some since the last expiry and
+    /// is to take more.
     fn is_sending(&self) -> bool
         ensures { result ≡ is_sending self.now.state }
     {
@@ -217,142 +204,6 @@ impl Session {
         !self.kind.is_connection() && !self.course.peer_has_started
     }
 
-    /// Returns whether the line is left since the peer doesn't reply or refuses messages.
-    fn is_given_up(&self) -> bool
-        ensures { result ≡ is_given_up self.now.state }
-    {
-        let most = most_tries(self.options.attempts, self.link.state() == State::Running);
-        (most > 0 && most <= self.course.tries) || self.is_gone()
-    }
-
-    /// Returns whether only the peer can go on and nothing was received of it for seven tries, on a
-    /// line that doesn't report its end.
-    fn is_silent(&self) -> bool
-        ensures { result ≡ is_silent self.now.state }
-    {
-        !self.kind.is_connection() && SILENT_TRIES <= self.course.unanswered
-    }
-
-    /// Returns whether such a peer is given up, which is the default after five minutes.
-    fn is_gone(&self) -> bool
-        ensures { result ≡ is_gone self.now.state }
-    {
-        let until = self.course.unanswered_since.saturating_add(SILENT_MS);
-        self.options.attempts == u32::MAX && self.is_silent() && until <= self.course.moment
-    }
-
-    /// Reports once that the peer is silent, and that the tries go on.
-    fn report_silence(&mut self, has_expired: bool)
-        ensures state { self.new.state ≡ self.old.state }
-        ensures errors { ReportsSilence has_expired self.old.state self.old.log.errors
-            self.new.log.errors }
-        ensures log { self.new.log ≡ record self.old.log { errors = self.new.log.errors } }
-    {
-        let is_first = has_expired
-            && self.is_silent()
-            && self.course.unanswered == SILENT_TRIES
-            && !self.is_given_up();
-        if is_first {
-            let text = b"doesn't answer, still trying";
-            self.errors.write_line(b"ddcmp: peer ", text, b"\n");
-        }
-    }
-
-    /// Returns whether a message of the peer was too long.
-    pub(crate) fn has_too_long(&self) -> bool
-        ensures { result ≡ has_too_long self.now.state }
-    {
-        self.link.counters().too_longs > 0
-    }
-
-    /// Returns whether all frames that come are damaged, and have been for a while.
-    fn has_damaged(&self) -> bool
-        ensures { result ≡ has_damaged self.now.state }
-    {
-        !self.has_too_long()
-            && self.course.nak_pause.is_some()
-            && self.options.timer_ms as u64 <= self.course.nak_pause_ms
-    }
-
-    /// Returns what the peer sends wrong, if that wasn't reported before.
-    fn untold(&self) -> Option<Wrong>
-        ensures { result ≡ untold self.now.state }
-    {
-        if self.has_too_long() && !self.course.told_too_long {
-            return Some(Wrong::TooLong);
-        }
-        if self.has_damaged() && !self.course.told_damaged {
-            return Some(Wrong::Damaged);
-        }
-        None
-    }
-
-    /// Reports what the peer sends wrong, once for each kind.
-    fn tell_wrong(&mut self)
-        ensures state { self.new.state ≡ after_telling self.old.state }
-        ensures errors { ReportsWrong self.old.state self.old.log.errors self.new.log.errors }
-        ensures log { self.new.log ≡ record self.old.log { errors = self.new.log.errors } }
-    {
-        if let Some(wrong) = self.untold() {
-            self.report_wrong(wrong);
-        }
-        self.course.told_damaged |= self.has_damaged();
-        self.course.told_too_long |= self.has_too_long();
-    }
-
-    /// Reports what the peer sends wrong.
-    fn report_wrong(&mut self, wrong: Wrong)
-        ensures state { self.new.state ≡ self.old.state }
-        ensures errors { HasLine SHORT_LINE
-            (wrong_text self.old.state.link.station.core.limits.longest wrong)
-            self.old.log.errors self.new.log.errors }
-        ensures log { self.new.log ≡ record self.old.log { errors = self.new.log.errors } }
-    {
-        match wrong {
-            Wrong::TooLong => self.report_too_long(self.longest()),
-            Wrong::Damaged => {
-                let text = b"damaged frames alone: other speed or parity, telnet?";
-                self.errors.write_line(b"ddcmp: ", text, b"\n");
-            }
-        }
-    }
-
-    /// Returns the length of the longest message.
-    fn longest(&self) -> u16
-        ensures { result ≡ self.now.state.link.station.core.limits.longest }
-    {
-        self.link.config().max
-    }
-
-    /// Reports that the peer's messages are longer than `max` bytes.
-    fn report_too_long(&mut self, max: u16)
-        ensures state { self.new.state ≡ self.old.state }
-        ensures errors { HasLine SHORT_LINE (wrong_text max Wrong.TooLong)
-            self.old.log.errors self.new.log.errors }
-        ensures log { self.new.log ≡ record self.old.log { errors = self.new.log.errors } }
-    {
-        let mut digits = Buffer::new();
-        let text = digits.format(max).as_bytes();
-        self.errors.write_line(
-            b"ddcmp: peer's messages are too long: --max is ",
-            text,
-            b"\n",
-        );
-    }
-
-    /// Reports why the line is left, if the peer doesn't reply or refuses messages.
-    fn report_given_up(&mut self)
-        ensures state { self.new.state ≡ self.old.state }
-        ensures errors { ReportsGivenUp self.old.state self.old.log.errors self.new.log.errors }
-        ensures log { self.new.log ≡ record self.old.log { errors = self.new.log.errors } }
-    {
-        if !self.is_given_up() {
-            return;
-        }
-        let (before, why) = given_up_words(self.course.refusal);
-        self.errors.write_line(before, why, b"\n");
-    }
-
     /// Returns whether all is done, but for a peer that may have more to send.
     fn is_done(&self) -> bool
         ensures { result ≡ is_done self.now.state }
@@ -435,36 +286,5 @@ impl Session {
             return None;
         }
         Some(self.course.retry_later())
-    }
-}
-
-/// The number of tries after which a line is left if the station doesn't come to run, by default.
-const START_ATTEMPTS: u32 = 7;
-
-/// The number of tries without a received byte after which a peer counts as silent.
-const SILENT_TRIES: u32 = 7;
-
-/// How long a silent peer is tried by default, in milliseconds from the first try on.
-const SILENT_MS: u64 = 300_000;
-
-/// Returns the number of tries after which a line is left; 0 is never.
-fn most_tries(attempts: u32, runs: bool) -> u32
-    ensures { result ≡ most_tries attempts runs }
-{
-    match attempts {
-        u32::MAX if runs => 0,
-        u32::MAX => START_ATTEMPTS,
-        attempts => attempts,
-    }
-}
-
-/// Returns in two parts why a line without progress is left: the peer refuses messages for this
-/// reason, or doesn't reply.
-fn given_up_words(refusal: Option<Nak>) -> (&'static [u8], &'static [u8])
-    ensures { given_up_text refusal ≡ result.0.now ++ result.1.now ++ codes "\n" }
-{
-    match refusal {
-        None => (b"ddcmp: peer ", b"doesn't answer"),
-        Some(reason) => (b"ddcmp: peer refuses: ", reason_name(reason)),
     }
 }
