@@ -1,11 +1,13 @@
-"""Links at serial devices that are slower than what is written to them."""
+"""Links at serial devices that are slower than what is written to them, and bridges that make slow lines."""
 import contextlib
 import os
+import socket
 import threading
 import time
 
-from links.kit import Link, terminals, wants, wrong
-from links.peer import STACK, Reader, ack
+from links.bridges import Bridge
+from links.kit import Link, free_port, holds_within, is_bound, server, terminals, wants, wrong
+from links.peer import STACK, Reader, ack, data
 
 
 class Terminal:
@@ -64,5 +66,73 @@ def underway():
             wrong(f"{[it.name for it in peer.frames]}")
 
 
-TRIALS = [paced, underway]
+def arrivals(end, size, came):
+    """Notes when so many bytes arrive at an end, and which."""
+    end.settimeout(20)
+    with contextlib.suppress(TimeoutError):
+        while sum(len(it) for _, it in came) < size and (piece := end.recv(1 << 16)):
+            came.append((time.monotonic(), piece))
+
+
+def at_once(calls):
+    """Makes calls side by side, until all have ended."""
+    threads = [threading.Thread(target=it, daemon=True) for it in calls]
+    for it in threads:
+        it.start()
+    for it in threads:
+        it.join(30)
+
+
+def slow_bridge():
+    """With --baud N a bridge writes to each of its lines at that speed, a quarter of a second ahead at most; else at once."""
+    for words, least, most in (["--baud", "9600"], 0.7, 2.0), ([], 0.0, 1.0):
+        at = server()
+        bridge = Bridge("listen:127.0.0.1:0", f"connect:127.0.0.1:{at.getsockname()[1]}", *words)
+        one = socket.create_connection(("127.0.0.1", bridge.ports(1)[0]))
+        one.sendall(b"\x96")
+        two = at.accept()[0]
+        # To one end what takes a second and a half at that speed, to the other what takes two and a half.
+        texts = [b"".join(data(bytes([it]) * size, it) for it in range(6)) for size in (230, 390)]
+        came = [], []
+        began = time.monotonic()
+        at_once([lambda: one.sendall(texts[1]), lambda: two.sendall(texts[0]),
+                 lambda: arrivals(one, len(texts[0]), came[0]), lambda: arrivals(two, len(texts[1]), came[1])])
+        for text, pieces in zip(texts, came):
+            took = pieces[-1][0] - began if pieces else 99
+            if b"".join(it for _, it in pieces) != text or not least * len(text) / 960 <= took <= most * len(text) / 960:
+                wrong(f"{words}: {len(text)} bytes, {len(pieces)} pieces after {took:.2f} s")
+            ahead = max((sum(len(it) for moment, it in pieces if moment <= now) - 960 * (now - began) for now, _ in pieces),
+                        default=0)
+            if words and ahead > 0.3 * 960 + 40:
+                wrong(f"{words}: {ahead:.0f} bytes ahead")
+        one.close()
+        wants("slow bridge", bridge, 0)
+        two.close()
+        at.close()
+
+
+def slow_datagrams():
+    """With --baud N a bridge sends each frame over UDP in a datagram of its own, whole, and not before it has had its time."""
+    far, near = (socket.socket(socket.AF_INET, socket.SOCK_DGRAM) for _ in range(2))
+    for it in (far, near):
+        it.bind(("127.0.0.1", 0))
+    ports = free_port(socket.SOCK_DGRAM), free_port(socket.SOCK_DGRAM)
+    lines = [f"udp:127.0.0.1:{port},127.0.0.1:{it.getsockname()[1]}" for port, it in zip(ports, (far, near))]
+    bridge = Bridge(*lines, "--baud", "9600", "--seconds", "4")
+    holds_within(10, lambda: all(map(is_bound, ports)))
+    frames = [data(bytes([it]) * 470, it) for it in range(4)]
+    began = time.monotonic()
+    for it in frames:
+        far.sendto(it, ("127.0.0.1", ports[0]))
+    near.settimeout(3)
+    got = [near.recv(1 << 16) for _ in frames]
+    took = time.monotonic() - began
+    if got != frames or not 1.0 < took < 2.8:
+        wrong(f"{[len(it) for it in got]} after {took:.2f} s")
+    wants("slow datagrams", bridge, 0)
+    far.close()
+    near.close()
+
+
+TRIALS = [paced, underway, slow_bridge, slow_datagrams]
 LONG_TRIALS = []

@@ -20,7 +20,8 @@ use Rattle.clap.specs.declared.parser.matches.ArgMatches.{ArgMatches}
 use Rattle.clap.specs.declared.parser.matches.ArgMatches.TheViews.{out-ArgMatches}
 use Rattle.clap.proofs.OnLiterals.{clap_on_literals}
 use Rattle.ddcmp_args.specs.Args.{program, named_by, option_in, text_in, file_of, role_of}
-use Rattle.ddcmp_args.specs.Args.{default_linger_of, default_syn_of, MOST, HasFlag, HasForm}
+use Rattle.ddcmp_args.specs.Args.{default_linger_of, default_syn_of, default_timer_of}
+use Rattle.ddcmp_args.specs.Args.{MOST, HasFlag, HasForm}
 use Rattle.ddcmp_args.specs.Args.{HasNotation, HasNumber}
 use Rattle.ddcmp_args.specs.Args.{HasLinkOptions, HasMessages, HasOptions, HasScript, HasSizes}
 use Rattle.ddcmp_args.specs.Args.{HasView}
@@ -122,7 +123,9 @@ link_as : (line : Text) (o p : Text → Option Text) (made : Options) → ((id :
     → HasLinkOptions line o made → HasLinkOptions line p made
 link_as line o p made e h = record {
   sizes = sizes_as (default_syn_of line) o p made.config e h.sizes;
-  timer_ms = subst (λ t. HasNumber 1 MOST 3000 t made.timer_ms) (e (codes "timer-ms")) h.timer_ms;
+  timer_ms =
+      subst (λ t. HasNumber 1 MOST (default_timer_of line) t made.timer_ms)
+      (e (codes "timer-ms")) h.timer_ms;
   attempts = subst (λ t. HasNumber 0 MOST MOST t made.attempts) (e (codes "attempts")) h.attempts;
   linger_ms =
       subst (λ t. HasNumber 0 MOST (default_linger_of line made.timer_ms) t made.linger_ms)
@@ -197,6 +200,7 @@ has_options_as o p t u (Bridge bridged) e w h = record {
     seed = subst (λ t. HasNumber 0 MOST 1 t bridged.faults.seed) (e (codes "seed")) h.faults.seed;
   };
   delay = subst (λ t. HasNumber 0 MOST 0 t bridged.delay) (e (codes "delay")) h.delay;
+  baud = subst (λ t. HasNumber 0 MOST 0 t bridged.baud) (e (codes "baud")) h.baud;
   trace = subst (λ t. HasFlag t bridged.trace) (e (codes "trace")) h.trace;
   ladder = subst (λ t. HasFlag t bridged.ladder) (e (codes "ladder")) h.ladder;
   notation = subst (λ t. HasNotation t bridged.notation) (e (codes "json")) h.notation;

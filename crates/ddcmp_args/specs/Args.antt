@@ -164,7 +164,7 @@ link_app =
 abbrev pub bridge_app : App
 bridge_app =
     with_rule (with_rule (with_rule (with_rule (with_rule (with_rule (with_rule (with_rule
-    (with_rule (with_rule (with_rule (with_rule (with_rule
+    (with_rule (with_rule (with_rule (with_rule (with_rule (with_rule
     (new_app (codes "bridge"))
     (required (place_rule (codes "first"))))
     (required (place_rule (codes "second"))))
@@ -173,6 +173,7 @@ bridge_app =
     (number_rule (codes "lose") 0 100))
     (number_rule (codes "damage") 0 100))
     (number_rule (codes "delay") 0 MOST))
+    (number_rule (codes "baud") 0 MOST))
     (number_rule (codes "seed") 0 MOST))
     (flag_rule (codes "trace")))
     (flag_rule (codes "ladder")))
@@ -328,16 +329,21 @@ pub record HasTap (option text : Text → Option Text) (tapped : TapArgs) : Type
 abbrev pub default_syn_of : Text → ℕ
 default_syn_of line = if starts_with eqb line (codes "device:") then 4 else 0
 
--- whether a line of this name may end without a report of that
-abbrev pub may_end_unseen : Text → Bool
-may_end_unseen line =
-    starts_with eqb line (codes "udp:") || starts_with eqb line (codes "device:")
+-- the default for the reply timer, by the name of the line
+abbrev pub default_timer_of : Text → ℕ
+default_timer_of line = if starts_with eqb line (codes "udp:") then 500 else 3000
 
--- The default for the time in which a link that is done waits for its peer. If the end of the line
--- isn't reported, a peer that lost the last acknowledgement has time to ask for it twice.
+-- How many times a peer that lost the last acknowledgement has time to ask for it. A connection
+-- reports that the peer has gone.
+abbrev pub timers_lingered : Text → ℕ
+timers_lingered line =
+    if starts_with eqb line (codes "udp:") then 10
+    else if starts_with eqb line (codes "device:") then 2
+    else 0
+
+-- the default for the time in which a link that is done waits for its peer
 abbrev pub default_linger_of : Text → ℕ → ℕ
-default_linger_of line timer_ms =
-    if may_end_unseen line then min (2 * timer_ms + 500) MOST else 500
+default_linger_of line timer_ms = min (timer_ms * timers_lingered line + 500) MOST
 
 -- messages in binary, each after its length, if `--binary` is given, else as digits
 pub record HasMessages (binary : Option Text) (form : MessageForm) : Type 0 where
@@ -349,7 +355,8 @@ pub record HasMessages (binary : Option Text) (form : MessageForm) : Type 0 wher
 pub record HasLinkOptions (line : Text) (option : Text → Option Text) (options : Options)
     : Type 0 where
   pub sizes : HasSizes (default_syn_of line) option options.config
-  pub timer_ms : HasNumber 1 MOST 3000 (option (codes "timer-ms")) options.timer_ms
+  pub timer_ms : HasNumber 1 MOST (default_timer_of line) (option (codes "timer-ms"))
+      options.timer_ms
   pub attempts : HasNumber 0 MOST MOST (option (codes "attempts")) options.attempts
   pub linger_ms : HasNumber 0 MOST (default_linger_of line options.timer_ms)
       (option (codes "linger-ms")) options.linger_ms
@@ -386,6 +393,7 @@ pub record HasBridge (option text : Text → Option Text) (bridged : BridgeArgs)
   pub again : HasFlag (option (codes "again")) bridged.again
   pub faults : HasFaults option bridged.faults
   pub delay : HasNumber 0 MOST 0 (option (codes "delay")) bridged.delay
+  pub baud : HasNumber 0 MOST 0 (option (codes "baud")) bridged.baud
   pub trace : HasFlag (option (codes "trace")) bridged.trace
   pub ladder : HasFlag (option (codes "ladder")) bridged.ladder
   pub notation : HasNotation (option (codes "json")) bridged.notation

@@ -24,6 +24,8 @@ pub struct BridgeArgs<'a> {
     pub faults: Faults,
     /// By how many milliseconds each frame is delayed.
     pub delay: u32,
+    /// The speed of both lines in bits a second; 0 for as fast as they take bytes.
+    pub baud: u32,
     /// Whether received frames are printed.
     pub trace: bool,
     /// Whether they are drawn as a ladder.
@@ -56,7 +58,7 @@ Output, at the end:
 };
 
 /// The options of a bridge.
-static BRIDGE_OPTIONS: [CommandOption; 13] = [
+static BRIDGE_OPTIONS: [CommandOption; 14] = [
     CommandOption {
         name: "first",
         takes: Takes::Place("LINE"),
@@ -104,6 +106,15 @@ static BRIDGE_OPTIONS: [CommandOption; 13] = [
         },
         is_required: false,
         help: "Hold each good frame back for N milliseconds [default: 0]",
+    },
+    CommandOption {
+        name: "baud",
+        takes: Takes::Number {
+            low: 0,
+            high: u32::MAX,
+        },
+        is_required: false,
+        help: "Write to each line at this speed, 0: as it takes bytes [default: 0]",
     },
     CommandOption {
         name: "seed",
@@ -169,6 +180,7 @@ pub(crate) fn bridge_given<'a>(options: &ArgMatches<'a>) -> BridgeArgs<'a>
             seed: number_given(options, "seed", 0, u32::MAX, 1),
         },
         delay: number_given(options, "delay", 0, u32::MAX, 0),
+        baud: number_given(options, "baud", 0, u32::MAX, 0),
         trace: flag_given(options, "trace"),
         ladder: flag_given(options, "ladder"),
         notation: notation_given(options),

@@ -3,7 +3,8 @@ ghost use Rattle.std.specs.Prelude.{◌≡◌, ◌≤◌, codes};
 ghost use Rattle.clap.specs.Words.{first_value, found_of, one_text};
 ghost use Rattle.ddcmp_args.specs.Inside.Making.{Makes};
 ghost use Rattle.ddcmp_args.specs.Args.{HasLink, HasMessages, link_app};
-ghost use Rattle.ddcmp_args.specs.Args.{default_linger_of, default_syn_of};
+ghost use Rattle.ddcmp_args.specs.Args.{default_linger_of, default_syn_of, default_timer_of};
+ghost use Rattle.ddcmp_args.specs.Args.{timers_lingered};
 ghost use Rattle.ddcmp_proto.specs.declared.config.TheConstants.{MAX_SYN};
 
 use crate::command::{SIZE_OPTIONS, flag_given, number_given, sizes_given, text_given};
@@ -12,9 +13,6 @@ use crate::parser::Parser;
 use clap::ArgMatches;
 use ddcmp_streams::{MessageForm, Options};
 use std::alloc::Global;
-
-/// The `timer_ms` of a link if no option sets it.
-pub const DEFAULT_TIMER_MS: u32 = 3000;
 
 /// The `attempts` of a link if no option sets them.
 pub const DEFAULT_ATTEMPTS: u32 = u32::MAX;
@@ -78,7 +76,7 @@ static LINK_OPTIONS: [CommandOption; 14] = [
             high: u32::MAX,
         },
         is_required: false,
-        help: "Reply timer in milliseconds, from 1 [default: 3000]",
+        help: "Reply timer in milliseconds, from 1 [default: 3000, over UDP 500]",
     },
     CommandOption {
         name: "attempts",
@@ -194,16 +192,36 @@ fn default_syn(line: &str) -> u8
     if line.starts_with("device:") { 4 } else { 0 }
 }
 
-/// Returns the default for the milliseconds in which a link that is done waits for its peer. UDP and
-/// devices don't report that the peer has gone, and a lost ACK shows only when its timer expires.
+/// Returns the default for the reply timer in milliseconds. A datagram arrives soon or not at all,
+/// so over UDP a lost one is asked for sooner.
+pub fn default_timer(line: &str) -> u32
+    ensures value { result ≡ default_timer_of line.now }
+    ensures least { 1 ≤ result }
+{
+    if line.starts_with("udp:") { 500 } else { 3000 }
+}
+
+/// Returns how many times the reply timer of a peer that lost the last ACK may expire while a link
+/// that is done waits for it. UDP and devices don't report that the peer has gone.
+fn timers_lingered(line: &str) -> u32
+    ensures value { result ≡ timers_lingered line.now }
+    ensures most { result ≤ 10 }
+{
+    if line.starts_with("udp:") {
+        10
+    } else if line.starts_with("device:") {
+        2
+    } else {
+        0
+    }
+}
+
+/// Returns the default for the milliseconds in which a link that is done waits for its peer.
 fn default_linger(line: &str, timer_ms: u32) -> u32
     ensures { result ≡ default_linger_of line.now timer_ms }
 {
-    if line.starts_with("udp:") || line.starts_with("device:") {
-        timer_ms.saturating_mul(2).saturating_add(500)
-    } else {
-        500
-    }
+    let timers = timer_ms.saturating_mul(timers_lingered(line));
+    timers.saturating_add(500)
 }
 
 /// Returns the form of messages.
@@ -223,7 +241,7 @@ pub(crate) fn link_given<'a>(options: &ArgMatches<'a>) -> LinkArgs<'a>
         result }
 {
     let line = text_given(options, "line");
-    let timer_ms = number_given(options, "timer-ms", 1, u32::MAX, DEFAULT_TIMER_MS);
+    let timer_ms = number_given(options, "timer-ms", 1, u32::MAX, default_timer(line));
     let linger_ms = default_linger(line, timer_ms);
     let link_options = Options {
         config: sizes_given(options, default_syn(line)),

@@ -11,6 +11,7 @@ use Rattle.ddcmp_device.specs.declared.line_name.LineName.{LineName}
 use Rattle.ddcmp_device.specs.declared.line_name.LineName.TheVariants.{Device, Listen}
 use Rattle.ddcmp_session.specs.declared.link.LinkOutcome.{LinkOutcome}
 use Rattle.ddcmp_session.specs.declared.link.LinkOutcome.TheVariants as outcome
+use Rattle.ddcmp_args.specs.Args.{default_timer_of}
 use Rattle.ddcmp_args.specs.declared.link_args.LinkArgs.{LinkArgs}
 use Rattle.ddcmp_commands.specs.declared.fault.Fault.TheVariants.{Read, Write, Memory, Ended, Lost}
 use Rattle.ddcmp_commands.specs.declared.ending.Ending.{Ending}
@@ -45,10 +46,11 @@ LinkEnds (Err failure.Memory) ending = ending ≡ Faulted Memory
 
 -- In maintenance mode there is no window, no reply timer and no restart: their options can't be
 -- used.
-abbrev pub means_nothing : Options → Bool
-means_nothing o =
-    o.maintenance
-    && (not (o.config.window == 7) || o.config.restart || not (o.timer_ms == 3000)
+abbrev pub means_nothing : LinkArgs → Bool
+means_nothing linked =
+    let o = linked.options in o.maintenance
+    && (not (o.config.window == 7) || o.config.restart
+    || not (o.timer_ms == default_timer_of linked.line.now)
     || not (o.attempts == 4294967295))
 
 -- A host is given, and the line has no callers.
@@ -62,8 +64,8 @@ has_no_speed (Device path) o = false
 has_no_speed _ o = not (o.baud == 0)
 
 -- The result of `link`. A LINE that isn't one is a usage error, and so are options that can't be
--- used; else a link was run over the line of that name, with the callers of that host and with these
--- options, and the program ends as the link did.
+-- used; else a link was run over the line of that name, with the callers of that host and with
+-- these options, and the program ends as the link did.
 abbrev pub Links : LinesKnown → LinkArgs → Ending → Type 0
 Links lines linked ending =
     (((line : LineName) → word_of line ≢ linked.line.now) × (is_refusal ending ≡ true))
@@ -71,10 +73,10 @@ Links lines linked ending =
     × (has_no_callers line linked.only ≡ true) × (is_refusal ending ≡ true))
     ⊎ ((line : LineName) × (word_of line ≡ linked.line.now)
     × (has_no_speed line linked.options ≡ true) × (is_refusal ending ≡ true))
-    ⊎ ((means_nothing linked.options ≡ true) × (is_refusal ending ≡ true))
+    ⊎ ((means_nothing linked ≡ true) × (is_refusal ending ≡ true))
     ⊎ ((line : LineName) × (word_of line ≡ linked.line.now)
     × (has_no_callers line linked.only ≡ false) × (has_no_speed line linked.options ≡ false)
-    × (means_nothing linked.options ≡ false)
+    × (means_nothing linked ≡ false)
     × (ended : Result LinkOutcome LinkFailure)
     × ((known : Result LinkOutcome LinkFailure)
     → lines.links (word_of line) (text_of linked.only) linked.options ≡ Some known → ended ≡ known)

@@ -86,6 +86,7 @@ pub(crate) fn bridge<S: LineSystem, W: Sink>(
         again: args.again,
         faults: args.faults,
         delay_ms: args.delay,
+        baud: args.baud,
         trace: traced_as(args),
         save_first: args.save_first,
         save_second: args.save_second,

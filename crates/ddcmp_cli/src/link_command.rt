@@ -3,7 +3,7 @@ ghost use Rattle.std.specs.Prelude.{◌≡◌, ◌↔◌, Err, IsTrue, false};
 ghost use Rattle.ddcmp_cli.specs.LinkEndings.{LinkEnds, Links, has_no_callers, has_no_speed};
 ghost use Rattle.ddcmp_cli.specs.LinkEndings.{means_nothing};
 
-use ddcmp_args::link_args::{DEFAULT_ATTEMPTS, DEFAULT_TIMER_MS, LinkArgs};
+use ddcmp_args::link_args::{DEFAULT_ATTEMPTS, LinkArgs, default_timer};
 use ddcmp_commands::usage::{no_line, usage};
 use ddcmp_commands::{Ending, Fault};
 use ddcmp_device::{BridgeEnd, BridgeFault, BridgeOptions, LineName, bridge_lines};
@@ -47,13 +47,14 @@ fn has_no_callers(line: LineName<'_>, only: Option<&str>) -> bool
 }
 
 /// Returns whether options are given that can't be used in maintenance mode.
-fn means_nothing(options: &Options) -> bool
-    ensures { result ≡ means_nothing options.now }
+fn means_nothing(args: &LinkArgs<'_>) -> bool
+    ensures { result ≡ means_nothing args.now }
 {
+    let options = &args.options;
     options.maintenance
         && (options.config.window != Config::DEFAULT.window
             || options.config.restart
-            || options.timer_ms != DEFAULT_TIMER_MS
+            || options.timer_ms != default_timer(args.line)
             || options.attempts != DEFAULT_ATTEMPTS)
 }
 
@@ -144,7 +145,7 @@ pub(crate) fn link<S: LineSystem, R: Source, W: Sink>(
     if has_no_speed(line, &args.options) {
         return usage(alloc, NO_DEVICE);
     }
-    if means_nothing(&args.options) {
+    if means_nothing(args) {
         return usage(alloc, NOT_IN_MAINTENANCE);
     }
     let ended = system.link(alloc, line, args.only, args.options, reader, writer);

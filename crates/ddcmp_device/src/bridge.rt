@@ -51,6 +51,9 @@ pub struct BridgeOptions<'a> {
     pub faults: Faults,
     /// By how many milliseconds each frame is delayed.
     pub delay_ms: u32,
+    /// The speed at which each line is written to, in bits a second; 0 for as fast as it takes
+    /// bytes.
+    pub baud: u32,
     /// The notation in which received frames are printed on standard error, if they are.
     pub trace: Option<LogNotation>,
     /// The files to save the bytes received over each line in, if any. They must not exist.
@@ -250,7 +253,7 @@ impl<C: Clock + Drop> Ways<C> {
             system,
             clock: self.clock,
             moment: 0,
-            sides: BridgeLines::new(self.poll, first, second),
+            sides: BridgeLines::new(self.poll, first, second, options.baud),
             there: self.there,
             back: self.back,
             errors: self.errors,

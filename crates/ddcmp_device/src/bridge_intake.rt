@@ -78,7 +78,7 @@ impl Intake {
         }
     }
 
-    /// Prepares for another line: the log begins anew, unless an allocation fails, which ends it.
+    /// Prepares for another line, with a new log; if an allocation fails there is none any more.
     pub(crate) fn restart(&mut self, alloc: Global)
         ensures { self.new.cut ≡ self.old.cut }
     {

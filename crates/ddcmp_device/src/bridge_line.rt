@@ -5,6 +5,7 @@ ghost use Rattle.ddcmp_device.specs.Inside.Lines.{has_datagrams};
 
 use crate::bridge_errors::BridgeErrors;
 use crate::line::Line;
+use crate::pace::Pace;
 use crate::poller::{Descriptor, Ready};
 use ddcmp_bridge::Needs;
 use ddcmp_io::{Down, Transfer};
@@ -32,6 +33,8 @@ const PRINTING_MS: u64 = 1000;
 pub(crate) struct BridgeLine {
     line: Line,
     pub(crate) ready: Descriptor,
+    /// The pace at which it is written to.
+    pace: Pace,
     /// Why it takes no more bytes, if so. What its peer has sent is still read.
     refuses: Option<Down>,
     /// Why it is down, if it is.
@@ -44,6 +47,7 @@ impl Drop for BridgeLine {
         let BridgeLine {
             line: _line,
             ready: _,
+            pace: _,
             refuses: _,
             down: _,
         } = self;
@@ -80,16 +84,52 @@ impl BridgeLine {
         self.down.is_none() && self.refuses.is_none()
     }
 
+    /// Returns how many of `n` bytes may be written now. A datagram goes as a whole.
+    fn room(&self, now: u64, n: usize) -> usize
+        ensures { result ≤ n }
+    {
+        let room = self.pace.room(now).min(n);
+        if room > 0 && self.has_datagrams() {
+            return n;
+        }
+        room
+    }
+
+    /// Returns what is needed of it if one direction reads it and the other one writes it.
+    pub(crate) fn needs(&self, now: u64, reading: Needs, writing: Needs) -> Needs {
+        Needs {
+            to_read: reading.to_read && self.down.is_none(),
+            to_write: writing.to_write && self.takes_bytes() && self.pace.wait_ms(now) == 0,
+        }
+    }
+
+    /// Returns after how many milliseconds it is to be written to, if `writing` waits for that: at
+    /// most `most_ms`.
+    pub(crate) fn wait_ms(&self, now: u64, writing: Needs, most_ms: u64) -> u64
+        ensures { result ≤ most_ms }
+    {
+        match self.pace.wait_ms(now) {
+            0 => most_ms,
+            paced_ms if writing.to_write => most_ms.min(paced_ms),
+            _ => most_ms,
+        }
+    }
+
     /// Writes bytes from the front of `bytes`; returns none if there is no room, or the line is
     /// down.
-    pub(crate) fn write(&mut self, bytes: &[u8]) -> Option<usize>
+    pub(crate) fn write(&mut self, now: u64, bytes: &[u8]) -> Option<usize>
         ensures { count_of result ≤ length bytes.now }
     {
-        if !self.takes_bytes() || !self.ready.ready.to_write {
+        let room = self.room(now, bytes.len());
+        if !self.takes_bytes() || !self.ready.ready.to_write || room == 0 {
             return None;
         }
-        match self.line.write(bytes) {
-            Transfer::Bytes(n) => Some(n.min(bytes.len())),
+        match self.line.write(&bytes[..room]) {
+            Transfer::Bytes(n) => {
+                let n = n.min(room);
+                self.pace.given(now, n);
+                Some(n)
+            }
             Transfer::Interrupted => Some(0),
             Transfer::Nothing => {
                 self.ready.has_written();
@@ -115,6 +155,7 @@ impl BridgeLine {
         let BridgeLine {
             line,
             ready: _,
+            pace: _,
             refuses: _,
             down: _,
         } = self;
@@ -219,23 +260,24 @@ impl Drop for BridgeLines {
     }
 }
 
-/// Registers a line, so that it can be waited for.
-fn side_of(poll: &Poll, line: Line, token: Token) -> BridgeLine {
+/// Registers a line of this speed, so that it can be waited for.
+fn side_of(poll: &Poll, line: Line, token: Token, baud: u32) -> BridgeLine {
     let both = Interest::READABLE | Interest::WRITABLE;
     let mut ready = Descriptor::new(poll, line.number(), token, both);
     ready.ready = Ready::BOTH;
     BridgeLine {
         line,
         ready,
+        pace: Pace::new(baud),
         refuses: None,
         down: None,
     }
 }
 
 impl BridgeLines {
-    pub(crate) fn new(poll: BridgePoll, first: Line, second: Line) -> BridgeLines {
-        let first = side_of(&poll.poll, first, FIRST);
-        let second = side_of(&poll.poll, second, SECOND);
+    pub(crate) fn new(poll: BridgePoll, first: Line, second: Line, baud: u32) -> BridgeLines {
+        let first = side_of(&poll.poll, first, FIRST, baud);
+        let second = side_of(&poll.poll, second, SECOND, baud);
         BridgeLines {
             poll,
             first,

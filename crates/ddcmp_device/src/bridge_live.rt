@@ -38,14 +38,6 @@ fn read_from(side: &mut BridgeLine, intake: &mut Intake, space: &mut [u8]) -> Op
     Some(intake.take(&space[..n], side.has_datagrams()))
 }
 
-/// Returns what is needed of a line that one direction reads and the other one writes.
-fn needs_of(side: &BridgeLine, reading: Needs, writing: Needs) -> Needs {
-    Needs {
-        to_read: reading.to_read && side.down.is_none(),
-        to_write: writing.to_write && side.takes_bytes(),
-    }
-}
-
 impl<E: Eprint, C: Clock> LinePair for LiveLines<'_, E, C> {
     ghost use Rattle.std.specs.Prelude.{None, is_some};
     ghost use Rattle.ddcmp_device.specs.Inside.BridgeLines.{down_of};
@@ -67,8 +59,8 @@ impl<E: Eprint, C: Clock> LinePair for LiveLines<'_, E, C> {
 
     fn write(&mut self, from: End, bytes: &[u8]) -> Option<usize> {
         let went = match from {
-            End::A => self.sides.second.write(bytes),
-            End::B => self.sides.first.write(bytes),
+            End::A => self.sides.second.write(self.moment, bytes),
+            End::B => self.sides.first.write(self.moment, bytes),
         };
         self.sides.settle();
         went
@@ -94,8 +86,11 @@ impl<E: Eprint, C: Clock> LinePair for LiveLines<'_, E, C> {
     }
 
     fn wait(&mut self, there: Needs, back: Needs, most_ms: u64) -> bool {
-        let first = needs_of(&self.sides.first, there, back);
-        let second = needs_of(&self.sides.second, back, there);
+        let now = self.moment;
+        let first = self.sides.first.needs(now, there, back);
+        let second = self.sides.second.needs(now, back, there);
+        let most_ms = self.sides.first.wait_ms(now, back, most_ms);
+        let most_ms = self.sides.second.wait_ms(now, there, most_ms);
         let errors = self.errors.is_waiting();
         let could_wait = self.sides.wait(first, second, errors, most_ms);
         self.print();
