@@ -3,8 +3,9 @@ ghost use Rattle.clap.specs.Words.{first_value, found_of, one_text};
 ghost use Rattle.ddcmp_args.specs.Inside.Making.{Makes};
 ghost use Rattle.ddcmp_args.specs.Args.{HasBridge, bridge_app};
 
-use crate::command::{flag_given, notation_given, number_given, text_given};
-use crate::options::{CommandOption, CommandText, Takes};
+use crate::given::{flag_given, notation_given, number_given, text_given};
+use crate::options::Takes::{Nothing, Number, Place, Text};
+use crate::options::{CommandOption, CommandText, table};
 use crate::parser::Parser;
 use clap::ArgMatches;
 use ddcmp_bridge::Faults;
@@ -58,104 +59,24 @@ Output, at the end:
 };
 
 /// The options of a bridge.
-static BRIDGE_OPTIONS: [CommandOption; 14] = [
-    CommandOption {
-        name: "first",
-        takes: Takes::Place("LINE"),
-        is_required: true,
-        help: "First line to open, as listen:127.0.0.1:7000",
-    },
-    CommandOption {
-        name: "second",
-        takes: Takes::Place("LINE"),
-        is_required: true,
-        help: "Second line, opened after the first; both listen from the start",
-    },
-    CommandOption {
-        name: "seconds",
-        takes: Takes::Number {
-            low: 1,
-            high: u32::MAX,
-        },
-        is_required: false,
-        help: "End after N seconds, whatever the state",
-    },
-    CommandOption {
-        name: "again",
-        takes: Takes::Nothing,
-        is_required: false,
-        help: "Open both lines again if one ends or can't be opened",
-    },
-    CommandOption {
-        name: "lose",
-        takes: Takes::Number { low: 0, high: 100 },
-        is_required: false,
-        help: "Lose N percent of the good frames, 0 to 100 [default: 0]",
-    },
-    CommandOption {
-        name: "damage",
-        takes: Takes::Number { low: 0, high: 100 },
-        is_required: false,
-        help: "Change a byte in N percent of the others, 0 to 100 [default: 0]",
-    },
-    CommandOption {
-        name: "delay",
-        takes: Takes::Number {
-            low: 0,
-            high: u32::MAX,
-        },
-        is_required: false,
-        help: "Hold each good frame back for N milliseconds [default: 0]",
-    },
-    CommandOption {
-        name: "baud",
-        takes: Takes::Number {
-            low: 0,
-            high: u32::MAX,
-        },
-        is_required: false,
-        help: "Write to each line at this speed, 0: as it takes bytes [default: 0]",
-    },
-    CommandOption {
-        name: "seed",
-        takes: Takes::Number {
-            low: 0,
-            high: u32::MAX,
-        },
-        is_required: false,
-        help: "Seed of the random faults; the same N repeats them [default: 1]",
-    },
-    CommandOption {
-        name: "trace",
-        takes: Takes::Nothing,
-        is_required: false,
-        help: "Log received frames on standard error",
-    },
-    CommandOption {
-        name: "ladder",
-        takes: Takes::Nothing,
-        is_required: false,
-        help: "Draw received frames as a ladder on standard error",
-    },
-    CommandOption {
-        name: "json",
-        takes: Takes::Nothing,
-        is_required: false,
-        help: "Log received frames as JSON objects on standard error",
-    },
-    CommandOption {
-        name: "save-first",
-        takes: Takes::Text("FILE"),
-        is_required: false,
-        help: "Save all bytes that come over the first line in a new FILE",
-    },
-    CommandOption {
-        name: "save-second",
-        takes: Takes::Text("FILE"),
-        is_required: false,
-        help: "Save those that come over the second line",
-    },
-];
+static BRIDGE_OPTIONS: [CommandOption; 14] = table! {
+    "first" required: Place("LINE"), "First line to open, as listen:127.0.0.1:7000";
+    "second" required: Place("LINE"),
+        "Second line, opened after the first; both listen from the start";
+    "seconds": Number(1, u32::MAX), "End after N seconds, whatever the state";
+    "again": Nothing, "Open both lines again if one ends or can't be opened";
+    "lose": Number(0, 100), "Lose N percent of the good frames, 0 to 100 [default: 0]";
+    "damage": Number(0, 100), "Change a byte in N percent of the others, 0 to 100 [default: 0]";
+    "delay": Number(0, u32::MAX), "Hold each good frame back for N milliseconds [default: 0]";
+    "baud": Number(0, u32::MAX),
+        "Write to each line at this speed, 0: as it takes bytes [default: 0]";
+    "seed": Number(0, u32::MAX), "Seed of the random faults; the same N repeats them [default: 1]";
+    "trace": Nothing, "Log received frames on standard error";
+    "ladder": Nothing, "Draw received frames as a ladder on standard error";
+    "json": Nothing, "Log received frames as JSON objects on standard error";
+    "save-first": Text("FILE"), "Save all bytes that come over the first line in a new FILE";
+    "save-second": Text("FILE"), "Save those that come over the second line";
+};
 
 /// Returns the parser of `bridge` with its options.
 pub(crate) fn bridge_parser<'a>(alloc: Global) -> Parser<'a>

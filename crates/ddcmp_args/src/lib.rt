@@ -5,12 +5,14 @@
 pub mod bridge_args;
 pub mod command;
 pub mod explain_args;
+mod given;
 mod laws;
 pub mod link_args;
 pub mod no_command;
 mod options;
 mod parser;
 pub mod script_args;
+mod size_args;
 pub mod station_args;
 pub mod tap_args;
 pub mod view;

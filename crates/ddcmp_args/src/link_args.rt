@@ -7,9 +7,11 @@ ghost use Rattle.ddcmp_args.specs.Args.{default_linger_of, default_syn_of, defau
 ghost use Rattle.ddcmp_args.specs.Args.{timers_lingered};
 ghost use Rattle.ddcmp_proto.specs.declared.config.TheConstants.{MAX_SYN};
 
-use crate::command::{SIZE_OPTIONS, flag_given, number_given, sizes_given, text_given};
-use crate::options::{CommandOption, CommandText, Takes};
+use crate::given::{flag_given, number_given, text_given};
+use crate::options::Takes::{Nothing, Number, Text};
+use crate::options::{CommandOption, CommandText, table};
 use crate::parser::Parser;
+use crate::size_args::{SIZE_OPTIONS, sizes_given};
 use clap::ArgMatches;
 use ddcmp_streams::{MessageForm, Options};
 use std::alloc::Global;
@@ -52,126 +54,32 @@ never damaged. A message counts as delivered once it is written.",
 };
 
 /// The line of a link, which is required, and who may call.
-static LINE_OPTIONS: [CommandOption; 2] = [
-    CommandOption {
-        name: "line",
-        takes: Takes::Text("LINE"),
-        is_required: true,
-        help: "Line to open, as connect:127.0.0.1:7000",
-    },
-    CommandOption {
-        name: "only",
-        takes: Takes::Text("HOST"),
-        is_required: false,
-        help: "Accept callers of this host alone, on a listen: line",
-    },
-];
+static LINE_OPTIONS: [CommandOption; 2] = table! {
+    "line" required: Text("LINE"), "Line to open, as connect:127.0.0.1:7000";
+    "only": Text("HOST"), "Accept callers of this host alone, on a listen: line";
+};
 
 /// The options of a link apart from its line and its sizes.
-static LINK_OPTIONS: [CommandOption; 14] = [
-    CommandOption {
-        name: "timer-ms",
-        takes: Takes::Number {
-            low: 1,
-            high: u32::MAX,
-        },
-        is_required: false,
-        help: "Reply timer in milliseconds, from 1 [default: 3000, over UDP 500]",
-    },
-    CommandOption {
-        name: "attempts",
-        takes: Takes::Number {
-            low: 0,
-            high: u32::MAX,
-        },
-        is_required: false,
-        help: "Leave a line after N tries without progress, 0: never [default: 7 to start]",
-    },
-    CommandOption {
-        name: "linger-ms",
-        takes: Takes::Number {
-            low: 0,
-            high: u32::MAX,
-        },
-        is_required: false,
-        help: "Once done, stay until no reply was due for N ms [default: 500 over TCP]",
-    },
-    CommandOption {
-        name: "baud",
-        takes: Takes::Number {
-            low: 0,
-            high: u32::MAX,
-        },
-        is_required: false,
-        help: "Write to a device at this speed, 0: as it takes them [default: 0]",
-    },
-    CommandOption {
-        name: "seconds",
-        takes: Takes::Number {
-            low: 1,
-            high: u32::MAX,
-        },
-        is_required: false,
-        help: "End after N seconds, whatever the state",
-    },
-    CommandOption {
-        name: "report",
-        takes: Takes::Number {
-            low: 0,
-            high: u32::MAX,
-        },
-        is_required: false,
-        help: "Report the counters on standard error every N seconds",
-    },
-    CommandOption {
-        name: "binary",
-        takes: Takes::Nothing,
-        is_required: false,
-        help: "Read and write messages as bytes after their length",
-    },
-    CommandOption {
-        name: "maintenance",
-        takes: Takes::Nothing,
-        is_required: false,
-        help: "Exchange maintenance messages, which nobody acknowledges",
-    },
-    CommandOption {
-        name: "stay",
-        takes: Takes::Nothing,
-        is_required: false,
-        help: "Keep running once all input was delivered",
-    },
-    CommandOption {
-        name: "again",
-        takes: Takes::Nothing,
-        is_required: false,
-        help: "Open the line again if it ends or can't be opened",
-    },
-    CommandOption {
-        name: "counters",
-        takes: Takes::Nothing,
-        is_required: false,
-        help: "Print the station's counters before the last line",
-    },
-    CommandOption {
-        name: "trace",
-        takes: Takes::Nothing,
-        is_required: false,
-        help: "Log each frame both ways on standard error",
-    },
-    CommandOption {
-        name: "clock",
-        takes: Takes::Nothing,
-        is_required: false,
-        help: "Begin each line on standard error with the time of day (UTC)",
-    },
-    CommandOption {
-        name: "json",
-        takes: Takes::Nothing,
-        is_required: false,
-        help: "Write reports as JSON objects",
-    },
-];
+static LINK_OPTIONS: [CommandOption; 14] = table! {
+    "timer-ms": Number(1, u32::MAX),
+        "Reply timer in milliseconds, from 1 [default: 3000, over UDP 500]";
+    "attempts": Number(0, u32::MAX),
+        "Leave a line after N tries without progress, 0: never [default: 7 to start]";
+    "linger-ms": Number(0, u32::MAX),
+        "Once done, stay until no reply was due for N ms [default: 500 over TCP]";
+    "baud": Number(0, u32::MAX),
+        "Write to a device at this speed, 0: as it takes them [default: 0]";
+    "seconds": Number(1, u32::MAX), "End after N seconds, whatever the state";
+    "report": Number(0, u32::MAX), "Report the counters on standard error every N seconds";
+    "binary": Nothing, "Read and write messages as bytes after their length";
+    "maintenance": Nothing, "Exchange maintenance messages, which nobody acknowledges";
+    "stay": Nothing, "Keep running once all input was delivered";
+    "again": Nothing, "Open the line again if it ends or can't be opened";
+    "counters": Nothing, "Print the station's counters before the last line";
+    "trace": Nothing, "Log each frame both ways on standard error";
+    "clock": Nothing, "Begin each line on standard error with the time of day (UTC)";
+    "json": Nothing, "Write reports as JSON objects";
+};
 
 /// Returns the parser of `link` with its options.
 pub(crate) fn link_parser<'a>(alloc: Global) -> Parser<'a>

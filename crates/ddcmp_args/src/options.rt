@@ -29,13 +29,39 @@ pub(crate) struct CommandOption {
 pub(crate) enum Takes {
     /// None: it is a flag.
     Nothing,
-    /// A number in this range.
-    Number { low: u32, high: u32 },
+    /// A number from the first to the second.
+    Number(u32, u32),
     /// A text, with its name in the help.
     Text(&'static str),
     /// It is a positional argument, with its name in the help.
     Place(&'static str),
 }
+
+/// Returns whether an option is required, by the word after its name in a table.
+macro_rules! is_required {
+    () => {
+        false
+    };
+    (required) => {
+        true
+    };
+}
+
+pub(crate) use is_required;
+
+/// Makes a table of options of rows `NAME: TAKES, HELP;`, with `required` after some names.
+macro_rules! table {
+    ($($name:literal $($required:ident)?: $takes:expr, $help:literal;)*) => {
+        [$(CommandOption {
+            name: $name,
+            takes: $takes,
+            is_required: $crate::options::is_required!($($required)?),
+            help: $help,
+        }),*]
+    };
+}
+
+pub(crate) use table;
 
 /// Converts an option for `clap`.
 pub(crate) fn argument<'a>(alloc: Global, option: &CommandOption) -> Arg<'a>
@@ -50,7 +76,7 @@ pub(crate) fn argument<'a>(alloc: Global, option: &CommandOption) -> Arg<'a>
     } = *option;
     let made = match takes {
         Takes::Nothing => flag(alloc, name, help),
-        Takes::Number { low, high } => number(alloc, name, low, high, help),
+        Takes::Number(low, high) => number(alloc, name, low, high, help),
         Takes::Text(value) => text(alloc, name, value, help),
         Takes::Place(value) => place(alloc, name, value, help),
     };

@@ -3,8 +3,9 @@ ghost use Rattle.clap.specs.Words.{first_value, found_of, one_text};
 ghost use Rattle.ddcmp_args.specs.Inside.Making.{Makes};
 ghost use Rattle.ddcmp_args.specs.Args.{HasTap, tap_app};
 
-use crate::command::{flag_given, notation_given, number_given, text_given};
-use crate::options::{CommandOption, CommandText, Takes};
+use crate::given::{flag_given, notation_given, number_given, text_given};
+use crate::options::Takes::{Nothing, Number, Text};
+use crate::options::{CommandOption, CommandText, table};
 use crate::parser::Parser;
 use clap::ArgMatches;
 use ddcmp_core::MAX_COUNT;
@@ -41,53 +42,16 @@ Output, as bytes arrive:
 };
 
 /// The options of a tap.
-static TAP_OPTIONS: [CommandOption; 7] = [
-    CommandOption {
-        name: "listen",
-        takes: Takes::Text("ADDR"),
-        is_required: true,
-        help: "Address to listen at, for one connection, as 127.0.0.1:7001",
-    },
-    CommandOption {
-        name: "connect",
-        takes: Takes::Text("ADDR"),
-        is_required: true,
-        help: "Address to connect to once someone has connected",
-    },
-    CommandOption {
-        name: "again",
-        takes: Takes::Nothing,
-        is_required: false,
-        help: "Carry one connection after another, until it is killed",
-    },
-    CommandOption {
-        name: "json",
-        takes: Takes::Nothing,
-        is_required: false,
-        help: "Print one JSON object per line",
-    },
-    CommandOption {
-        name: "ladder",
-        takes: Takes::Nothing,
-        is_required: false,
-        help: "Draw the traffic as a ladder of text",
-    },
-    CommandOption {
-        name: "time",
-        takes: Takes::Nothing,
-        is_required: false,
-        help: "Print the milliseconds since both were connected before each line",
-    },
-    CommandOption {
-        name: "max",
-        takes: Takes::Number {
-            low: 1,
-            high: MAX_COUNT as u32,
-        },
-        is_required: false,
-        help: "Longest data of a frame, 1 to 16383 bytes [default: 16383]",
-    },
-];
+static TAP_OPTIONS: [CommandOption; 7] = table! {
+    "listen" required: Text("ADDR"), "Address to listen at, for one connection, as 127.0.0.1:7001";
+    "connect" required: Text("ADDR"), "Address to connect to once someone has connected";
+    "again": Nothing, "Carry one connection after another, until it is killed";
+    "json": Nothing, "Print one JSON object per line";
+    "ladder": Nothing, "Draw the traffic as a ladder of text";
+    "time": Nothing, "Print the milliseconds since both were connected before each line";
+    "max": Number(1, MAX_COUNT as u32),
+        "Longest data of a frame, 1 to 16383 bytes [default: 16383]";
+};
 
 /// Returns the parser of `tap` with its options.
 pub(crate) fn tap_parser<'a>(alloc: Global) -> Parser<'a>

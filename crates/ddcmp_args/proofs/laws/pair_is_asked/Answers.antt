@@ -3,42 +3,17 @@ use Rattle.clap.proofs.OnLiterals.{clap_on_literals}
 use Rattle.ddcmp_args.specs.Args.{named_by, option_in, text_in}
 use Rattle.ddcmp_args.proofs.laws.pair_is_asked.Goals as goal
 
-pub returns-clause-plain : goal.returns-clause-plain
-unfolding clap_on_literals named_by
-returns-clause-plain c = record { in_order = refl; names = refl }
-
-pub returns-clause-no_window : goal.returns-clause-no_window
-unfolding clap_on_literals option_in
-returns-clause-no_window c = refl
-
-pub returns-clause-inbox : goal.returns-clause-inbox
-unfolding clap_on_literals option_in
-returns-clause-inbox c = refl
-
-pub returns-clause-syn : goal.returns-clause-syn
-unfolding clap_on_literals option_in
-returns-clause-syn c = refl
-
-pub returns-clause-begun : goal.returns-clause-begun
-unfolding clap_on_literals option_in
-returns-clause-begun c = (refl, refl)
-
-pub returns-clause-restart : goal.returns-clause-restart
-unfolding clap_on_literals option_in
-returns-clause-restart c = (refl, refl)
-
-pub returns-clause-ladder : goal.returns-clause-ladder
-unfolding clap_on_literals option_in
-returns-clause-ladder c = (refl, refl)
-
-pub returns-clause-counters : goal.returns-clause-counters
-unfolding clap_on_literals option_in
-returns-clause-counters c = (refl, refl)
-
-pub returns-clause-no_file : goal.returns-clause-no_file
-unfolding clap_on_literals text_in
-returns-clause-no_file c = refl
-
-pub returns-clause-file : goal.returns-clause-file
-unfolding clap_on_literals text_in
-returns-clause-file c = refl
+pub returns : goal.returns
+unfolding clap_on_literals named_by option_in text_in
+returns c = record {
+  plain = record { in_order = refl; names = refl };
+  no_window = refl;
+  inbox = refl;
+  syn = refl;
+  begun = (refl, refl);
+  restart = (refl, refl);
+  ladder = (refl, refl);
+  counters = (refl, refl);
+  no_file = refl;
+  file = refl;
+}

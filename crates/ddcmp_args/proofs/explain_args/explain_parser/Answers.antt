@@ -1,5 +1,5 @@
 use Rattle.ddcmp_args.specs.Inside.Making.{with_rules}
-use Rattle.ddcmp_args.proofs.command.explain_parser.Goals as goal
+use Rattle.ddcmp_args.proofs.explain_args.explain_parser.Goals as goal
 
 pub returns : goal.returns
 unfolding with_rules

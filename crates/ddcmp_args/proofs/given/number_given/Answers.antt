@@ -1,7 +1,7 @@
 use Rattle.std.proofs.Common.{Some, None}
 use Rattle.std.specs.Str.Parse.{ParsesUnsigned, ExplainsUnsignedError, HasUnsignedDigitsIfOk}
 use Rattle.ddcmp_args.proofs.NumberLaws.{number_read, in_range, out_of_range, left_out}
-use Rattle.ddcmp_args.proofs.command.number_given.Goals as goal
+use Rattle.ddcmp_args.proofs.given.number_given.Goals as goal
 
 pub returns-then-is_within : goal.returns-then-is_within
 returns-then-is_within c =
