@@ -4,6 +4,7 @@ import random
 import select
 import socket
 import threading
+import time
 
 from links.kit import Link, binary, connected, listening, wrong
 
@@ -96,25 +97,26 @@ def exchange_over_tcp(seed, files):
     return judge(seed, one, two, files, loss)
 
 
-def exchange_over_udp(seed, files):
+def exchange_over_udp(seed, files, options=OPTIONS, seconds=55):
     relays, ports = [udp_socket(), udp_socket()], []
     for _ in relays:
         with udp_socket() as it:
             ports.append(port_of(it))
-    one, two = (Link(f"udp:127.0.0.1:{port},127.0.0.1:{port_of(relay)}", *OPTIONS) for port, relay in zip(ports, relays))
+    one, two = (Link(f"udp:127.0.0.1:{port},127.0.0.1:{port_of(relay)}", *options) for port, relay in zip(ports, relays))
     loss, is_over = Loss(seed), threading.Event()
     left, right = ((relay, ("127.0.0.1", port)) for port, relay in zip(ports, relays))
     threading.Thread(target=carry_datagrams, args=(left, right, loss, is_over), daemon=True).start()
-    fault = judge(seed, one, two, files, loss)
+    fault = judge(seed, one, two, files, loss, seconds)
     is_over.set()
     return fault
 
 
-def judge(seed, one, two, files, loss):
-    """What is wrong with how two links end that were given a file each."""
+def judge(seed, one, two, files, loss, seconds=55):
+    """What is wrong with how two links end within the time that were given a file each."""
     one.give(binary(files[0]))
     two.give(binary(files[1]))
-    statuses = one.ended(55), two.ended(55)
+    until = time.monotonic() + seconds
+    statuses = tuple(it.ended(until - time.monotonic()) for it in (one, two))
     whole = one.said == binary(files[1]) and two.said == binary(files[0])
     if statuses == (0, 0) and whole and loss.lost:
         return None
@@ -142,6 +144,19 @@ def files_over_datagrams():
     exchanges(exchange_over_udp, 10)
 
 
+def datagrams_by_default():
+    """Four exchanges over UDP of 120 messages each way, with all options but --binary left alone: within 40 seconds, the
+    wait for a peer that may ask again included."""
+    def run(seed):
+        drawn = random.Random(seed)
+        files = [[drawn.randbytes(drawn.randint(1, 300)) for _ in range(120)] for _ in range(2)]
+        return exchange_over_udp(seed, files, ("--binary",), 40)
+    with concurrent.futures.ThreadPoolExecutor(4) as pool:
+        for fault in pool.map(run, range(4)):
+            if fault:
+                wrong(fault)
+
+
 def hundred_over_tcp():
     """A hundred exchanges over TCP."""
     exchanges(exchange_over_tcp, 100)
@@ -152,5 +167,5 @@ def hundred_over_datagrams():
     exchanges(exchange_over_udp, 100)
 
 
-TRIALS = [files_over_tcp, files_over_datagrams]
+TRIALS = [files_over_tcp, files_over_datagrams, datagrams_by_default]
 LONG_TRIALS = [hundred_over_tcp, hundred_over_datagrams]
