@@ -33,24 +33,23 @@ other a b differ e =
     let same : a ≡ b = cc in
     let bad : ◌≡◌ {A = Bool} false true = sym differ ∙ (bytes_eq-Decides a b).1 same in cc
 
+-- A command of another name isn't the one that was asked for.
+no : {A : Type 0} {words : List Text} (name : Text) (command : Command) → IsAsked words name
+    → named_by words ≡ Some (name_of command) → bytes_eq name (name_of command) ≡ false → A
+no name command a n differ = absurd (other name (name_of command) differ (sym a.names ∙ n))
+
 pub performed : (held : Text → Option (List ℕ)) (peers : Peers) (lines : LinesKnown)
     (words : List Text)
     (command : Command) (s : Streams) (ending : Ending) → IsAsked words (codes "explain")
     → named_by words ≡ Some (name_of command) → HasOptions (option_in words) (text_in words) command
     → Performs held peers lines command s ending → ExplainsOrNoMemory held words s ending
 performed held peers lines words (Explain e) s ending a n h p = inr (e, h, p)
-performed held peers lines words (Simulate scripted) s ending a n h p =
-    absurd (other (codes "explain") (codes "simulate") refl (sym a.names ∙ n))
-performed held peers lines words (Pair scripted) s ending a n h p =
-    absurd (other (codes "explain") (codes "pair") refl (sym a.names ∙ n))
-performed held peers lines words (Station served) s ending a n h p =
-    absurd (other (codes "explain") (codes "station") refl (sym a.names ∙ n))
-performed held peers lines words (Tap tapped) s ending a n h p =
-    absurd (other (codes "explain") (codes "tap") refl (sym a.names ∙ n))
-performed held peers lines words (Link linked) s ending a n h p =
-    absurd (other (codes "explain") (codes "link") refl (sym a.names ∙ n))
-performed held peers lines words (Bridge bridged) s ending a n h p =
-    absurd (other (codes "explain") (codes "bridge") refl (sym a.names ∙ n))
+performed _ _ _ _ (Simulate x) _ _ a n _ _ = no (codes "explain") (Simulate x) a n refl
+performed _ _ _ _ (Pair x) _ _ a n _ _ = no (codes "explain") (Pair x) a n refl
+performed _ _ _ _ (Station x) _ _ a n _ _ = no (codes "explain") (Station x) a n refl
+performed _ _ _ _ (Tap x) _ _ a n _ _ = no (codes "explain") (Tap x) a n refl
+performed _ _ _ _ (Link x) _ _ a n _ _ = no (codes "explain") (Link x) a n refl
+performed _ _ _ _ (Bridge x) _ _ a n _ _ = no (codes "explain") (Bridge x) a n refl
 
 -- words that ask for a station are answered by it
 pub stationed : {R : Type 0} (peers : Peers) (words : List Text) (command : Command)
@@ -60,21 +59,15 @@ pub stationed : {R : Type 0} (peers : Peers) (words : List Text) (command : Comm
     → ((served : StationArgs) → command ≡ Station served
     → (reader_after ≡ reader) × Stations peers served old new ending)
     → (reader_after ≡ reader) × StationsOrNoMemory peers words old new ending
-stationed peers words (Explain e) reader after old new ending a n h p =
-    absurd (other (codes "station") (codes "explain") refl (sym a.names ∙ n))
-stationed peers words (Simulate scripted) reader after old new ending a n h p =
-    absurd (other (codes "station") (codes "simulate") refl (sym a.names ∙ n))
-stationed peers words (Pair scripted) reader after old new ending a n h p =
-    absurd (other (codes "station") (codes "pair") refl (sym a.names ∙ n))
+stationed _ _ (Explain x) _ _ _ _ _ a n _ _ = no (codes "station") (Explain x) a n refl
+stationed _ _ (Simulate x) _ _ _ _ _ a n _ _ = no (codes "station") (Simulate x) a n refl
+stationed _ _ (Pair x) _ _ _ _ _ a n _ _ = no (codes "station") (Pair x) a n refl
 stationed peers words (Station served) reader after old new ending a n h p =
     let s = p served refl in
     (s.0, inr (served, h, s.1))
-stationed peers words (Tap tapped) reader after old new ending a n h p =
-    absurd (other (codes "station") (codes "tap") refl (sym a.names ∙ n))
-stationed peers words (Link linked) reader after old new ending a n h p =
-    absurd (other (codes "station") (codes "link") refl (sym a.names ∙ n))
-stationed peers words (Bridge bridged) reader after old new ending a n h p =
-    absurd (other (codes "station") (codes "bridge") refl (sym a.names ∙ n))
+stationed _ _ (Tap x) _ _ _ _ _ a n _ _ = no (codes "station") (Tap x) a n refl
+stationed _ _ (Link x) _ _ _ _ _ a n _ _ = no (codes "station") (Link x) a n refl
+stationed _ _ (Bridge x) _ _ _ _ _ a n _ _ = no (codes "station") (Bridge x) a n refl
 
 -- words that ask for a tap are answered by it
 pub tapped : {R : Type 0} (Further : Type 0) (words : List Text) (command : Command)
@@ -84,21 +77,15 @@ pub tapped : {R : Type 0} (Further : Type 0) (words : List Text) (command : Comm
     → ((tapped : TapArgs) → command ≡ Tap tapped
     → (reader_after ≡ reader) × TapsAsked tapped old new ending × Further)
     → (reader_after ≡ reader) × TapsOrNoMemory words old new ending × Further
-tapped F words (Explain e) reader after old new ending a n h p =
-    absurd (other (codes "tap") (codes "explain") refl (sym a.names ∙ n))
-tapped F words (Simulate scripted) reader after old new ending a n h p =
-    absurd (other (codes "tap") (codes "simulate") refl (sym a.names ∙ n))
-tapped F words (Pair scripted) reader after old new ending a n h p =
-    absurd (other (codes "tap") (codes "pair") refl (sym a.names ∙ n))
-tapped F words (Station served) reader after old new ending a n h p =
-    absurd (other (codes "tap") (codes "station") refl (sym a.names ∙ n))
+tapped _ _ (Explain x) _ _ _ _ _ a n _ _ = no (codes "tap") (Explain x) a n refl
+tapped _ _ (Simulate x) _ _ _ _ _ a n _ _ = no (codes "tap") (Simulate x) a n refl
+tapped _ _ (Pair x) _ _ _ _ _ a n _ _ = no (codes "tap") (Pair x) a n refl
+tapped _ _ (Station x) _ _ _ _ _ a n _ _ = no (codes "tap") (Station x) a n refl
 tapped F words (Tap t) reader after old new ending a n h p =
     let s = p t refl in
     (s.0, inr (t, h, s.1), s.2)
-tapped F words (Link l) reader after old new ending a n h p =
-    absurd (other (codes "tap") (codes "link") refl (sym a.names ∙ n))
-tapped F words (Bridge b) reader after old new ending a n h p =
-    absurd (other (codes "tap") (codes "bridge") refl (sym a.names ∙ n))
+tapped _ _ (Link x) _ _ _ _ _ a n _ _ = no (codes "tap") (Link x) a n refl
+tapped _ _ (Bridge x) _ _ _ _ _ a n _ _ = no (codes "tap") (Bridge x) a n refl
 
 -- words that ask for a link are answered by it
 pub linked : (lines : LinesKnown) (words : List Text) (command : Command) (ending : Ending)
@@ -106,36 +93,24 @@ pub linked : (lines : LinesKnown) (words : List Text) (command : Command) (endin
     → HasOptions (option_in words) (text_in words) command
     → ((linked : LinkArgs) → command ≡ Link linked → Links lines linked ending)
     → LinksOrNoMemory lines words ending
-linked lines words (Explain e) ending a n h p =
-    absurd (other (codes "link") (codes "explain") refl (sym a.names ∙ n))
-linked lines words (Simulate scripted) ending a n h p =
-    absurd (other (codes "link") (codes "simulate") refl (sym a.names ∙ n))
-linked lines words (Pair scripted) ending a n h p =
-    absurd (other (codes "link") (codes "pair") refl (sym a.names ∙ n))
-linked lines words (Station served) ending a n h p =
-    absurd (other (codes "link") (codes "station") refl (sym a.names ∙ n))
-linked lines words (Tap t) ending a n h p =
-    absurd (other (codes "link") (codes "tap") refl (sym a.names ∙ n))
+linked _ _ (Explain x) _ a n _ _ = no (codes "link") (Explain x) a n refl
+linked _ _ (Simulate x) _ a n _ _ = no (codes "link") (Simulate x) a n refl
+linked _ _ (Pair x) _ a n _ _ = no (codes "link") (Pair x) a n refl
+linked _ _ (Station x) _ a n _ _ = no (codes "link") (Station x) a n refl
+linked _ _ (Tap x) _ a n _ _ = no (codes "link") (Tap x) a n refl
 linked lines words (Link l) ending a n h p = inr (l, h, p l refl)
-linked lines words (Bridge b) ending a n h p =
-    absurd (other (codes "link") (codes "bridge") refl (sym a.names ∙ n))
+linked _ _ (Bridge x) _ a n _ _ = no (codes "link") (Bridge x) a n refl
 
 -- words that ask for a bridge are answered by it
 pub bridged : (Answered : Type 0) (words : List Text) (command : Command)
     → IsAsked words (codes "bridge") → named_by words ≡ Some (name_of command)
     → ((bridged : BridgeArgs) → command ≡ Bridge bridged → Answered) → Answered
-bridged A words (Explain e) a n p =
-    absurd (other (codes "bridge") (codes "explain") refl (sym a.names ∙ n))
-bridged A words (Simulate scripted) a n p =
-    absurd (other (codes "bridge") (codes "simulate") refl (sym a.names ∙ n))
-bridged A words (Pair scripted) a n p =
-    absurd (other (codes "bridge") (codes "pair") refl (sym a.names ∙ n))
-bridged A words (Station served) a n p =
-    absurd (other (codes "bridge") (codes "station") refl (sym a.names ∙ n))
-bridged A words (Tap t) a n p =
-    absurd (other (codes "bridge") (codes "tap") refl (sym a.names ∙ n))
-bridged A words (Link l) a n p =
-    absurd (other (codes "bridge") (codes "link") refl (sym a.names ∙ n))
+bridged _ _ (Explain x) a n _ = no (codes "bridge") (Explain x) a n refl
+bridged _ _ (Simulate x) a n _ = no (codes "bridge") (Simulate x) a n refl
+bridged _ _ (Pair x) a n _ = no (codes "bridge") (Pair x) a n refl
+bridged _ _ (Station x) a n _ = no (codes "bridge") (Station x) a n refl
+bridged _ _ (Tap x) a n _ = no (codes "bridge") (Tap x) a n refl
+bridged _ _ (Link x) a n _ = no (codes "bridge") (Link x) a n refl
 bridged A words (Bridge b) a n p = p b refl
 
 -- where the words name no file, the command reads none
@@ -194,22 +169,10 @@ unbroken ending false told done = refl
 
 -- which command it is
 abbrev pub is_station : Command → Bool
-is_station (Explain explained) = false
-is_station (Simulate scripted) = false
-is_station (Pair scripted) = false
-is_station (Station served) = true
-is_station (Tap tapped) = false
-is_station (Link linked) = false
-is_station (Bridge bridged) = false
+is_station command = bytes_eq (codes "station") (name_of command)
 
 abbrev pub is_tap : Command → Bool
-is_tap (Explain explained) = false
-is_tap (Simulate scripted) = false
-is_tap (Pair scripted) = false
-is_tap (Station served) = false
-is_tap (Tap tapped) = true
-is_tap (Link linked) = false
-is_tap (Bridge bridged) = false
+is_tap command = bytes_eq (codes "tap") (name_of command)
 
 -- the arguments of a link; of another command, others
 abbrev pub linked_or : LinkArgs → Command → LinkArgs
@@ -217,22 +180,10 @@ linked_or other (Link linked) = linked
 linked_or other _ = other
 
 abbrev pub is_link : Command → Bool
-is_link (Explain explained) = false
-is_link (Simulate scripted) = false
-is_link (Pair scripted) = false
-is_link (Station served) = false
-is_link (Tap tapped) = false
-is_link (Link linked) = true
-is_link (Bridge bridged) = false
+is_link command = bytes_eq (codes "link") (name_of command)
 
 abbrev pub is_bridge : Command → Bool
-is_bridge (Explain explained) = false
-is_bridge (Simulate scripted) = false
-is_bridge (Pair scripted) = false
-is_bridge (Station served) = false
-is_bridge (Tap tapped) = false
-is_bridge (Link linked) = false
-is_bridge (Bridge bridged) = true
+is_bridge command = bytes_eq (codes "bridge") (name_of command)
 
 -- a command that is one isn't another
 pub differ : {A : Type 0} {command one another : Command} (test : Command → Bool) → command ≡ one

@@ -29,7 +29,8 @@ use Rattle.ddcmp_args.specs.Args.{text_in, Asks, IsAsked, IsOutOfOrder, file_of}
 use Rattle.ddcmp_core.specs.Limits.{MAX_COUNT}
 use Rattle.ddcmp_cli.specs.LinkEndings.{LinesKnown, Links}
 use Rattle.ddcmp_cli.specs.BridgeEndings.{Bridges}
-use Rattle.ddcmp_cli.specs.Scripts.{SimulatesAsked, PairsAsked}
+use Rattle.ddcmp_cli.specs.Scripts.{ScriptAsked}
+use Rattle.ddcmp_cli.specs.declared.script_command.Way.TheVariants.{Simulated, Paired}
 use Rattle.ddcmp_commands.specs.Endings.{is_refusal, Streams, streams}
 use Rattle.ddcmp_commands.specs.Explaining.{ExplainsAsked}
 use Rattle.ddcmp_commands.specs.Stations.{Stations}
@@ -91,8 +92,8 @@ LinksOrNoMemory lines words ending =
 -- names, `peers` what is known of connections, and `lines` of lines.
 abbrev pub Performs : (List ℕ → Known) → Peers → LinesKnown → Command → Streams → Ending → Type 0
 Performs held peers lines (Explain explained) s ending = ExplainsAsked held explained s ending
-Performs held peers lines (Simulate scripted) s ending = SimulatesAsked held scripted s ending
-Performs held peers lines (Pair scripted) s ending = PairsAsked held scripted s ending
+Performs held peers lines (Simulate scripted) s ending = ScriptAsked Simulated held scripted s ending
+Performs held peers lines (Pair scripted) s ending = ScriptAsked Paired held scripted s ending
 Performs held peers lines (Station served) s ending =
     (s.left ≡ Some s.input) × Stations peers served s.before s.after ending
 Performs held peers lines (Tap tapped) s ending =

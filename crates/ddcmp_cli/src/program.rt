@@ -18,7 +18,7 @@ ghost use Rattle.ddcmp_io.specs.Change.{sink_change, source_change};
 
 use crate::bridge_command::bridge;
 use crate::link_command::{LineSystem, link};
-use crate::script_command::{pair_asked, simulate_asked};
+use crate::script_command::{Way, script_asked};
 use ddcmp_args::{Command, NoCommand, parse_args};
 pub use ddcmp_args::{
     bridge_is_asked, explain_is_asked, link_is_asked, pair_is_asked, simulate_is_asked,
@@ -72,8 +72,10 @@ fn perform<
 {
     match command {
         Command::Explain(args) => { explain_asked(system, alloc, &args, reader, writer) }
-        Command::Simulate(args) => simulate_asked(system, alloc, &args, reader, writer),
-        Command::Pair(args) => pair_asked(system, alloc, &args, reader, writer),
+        Command::Simulate(args) => {
+            script_asked(system, alloc, Way::Simulated, &args, reader, writer)
+        }
+        Command::Pair(args) => script_asked(system, alloc, Way::Paired, &args, reader, writer),
         Command::Station(args) => station(system, alloc, &args, writer),
         Command::Tap(args) => tap(system, alloc, &args, writer),
         Command::Link(args) => link(system, alloc, &args, reader, writer),

@@ -1,22 +1,20 @@
 //! `simulate` and `pair`: a script between two ends, as text or as a picture.
-ghost use Rattle.std.specs.Prelude.{◌≡◌, ◌≢◌, ◌⊎◌, ◌↔◌, ◌&&◌, false, true, None, Some, IsTrue};
-ghost use Rattle.std.specs.Prelude.{List, ℕ, IfSome, IsOk};
+ghost use Rattle.std.specs.Prelude.{◌≡◌, ◌≢◌, ◌⊎◌, ◌↔◌, false, None, Some, IsTrue, List, ℕ};
+ghost use Rattle.std.specs.Prelude.{IfSome, IsOk, is_some};
 ghost use Rattle.std.specs.Option.{option_map};
-ghost use Rattle.std.specs.Io.KnownBytes.{Keeps};
 ghost use Rattle.ddcmp_io.specs.Change.{source_change};
 ghost use Rattle.ddcmp_io.specs.Input.{GaveMost};
 ghost use Rattle.ddcmp_station.specs.Config.{first_refusal};
-ghost use Rattle.ddcmp_cli.specs.Scripts.{DrawsBetween, DrawsPaired, DrawsSimulated, Pairs};
-ghost use Rattle.ddcmp_cli.specs.Scripts.{PlaysBetween, ShowsRun, Simulates, PairsAsked};
-ghost use Rattle.ddcmp_cli.specs.Scripts.{ShowsBy, SimulatesAsked, begun, pair_with};
-ghost use Rattle.ddcmp_commands.specs.Endings.{is_refusal, ReadsFile, TellsDevices, streams};
+ghost use Rattle.ddcmp_cli.specs.Scripts.{Picks, RunsBetween, RunsBy, ScriptAsked};
+ghost use Rattle.ddcmp_cli.specs.Scripts.{begun, pair_with};
+ghost use Rattle.ddcmp_commands.specs.Endings.{TellsDevices, ending_of, script_fault, streams};
 
 use ddcmp_args::{Beginning, ScriptArgs, ScriptView};
 use ddcmp_commands::inputs::unopened;
 use ddcmp_commands::usage::usage;
 use ddcmp_commands::{Ending, Fault, Inputs};
 use ddcmp_io::{Sink, Source, Worst};
-use ddcmp_line::{Carrier, Direct, script_with};
+use ddcmp_line::{Carrier, Direct, ScriptFault, script_with};
 use ddcmp_net::Sockets;
 use ddcmp_pair::{End, Event, Memory, Pair};
 use ddcmp_picture::{Picture, draw};
@@ -25,6 +23,27 @@ use std::net::{Net, TcpStream};
 
 /// The usage error for `--svg` with `--ladder`.
 const TWO_PICTURES: &str = "'--svg' and '--ladder' can't be used together";
+
+/// How the bytes between both ends are carried.
+#[derive(Clone, Copy)]
+pub enum Way {
+    /// They arrive as they were sent, as in `simulate`.
+    Simulated,
+    /// Over a TCP connection, as in `pair`.
+    Paired,
+}
+
+/// Returns the picture that is requested, if any, or the usage error for two.
+fn picture_of(alloc: Global, view: ScriptView) -> Result<Option<Picture>, Ending>
+    ensures { Picks view result }
+{
+    match (view.svg, view.ladder) {
+        (true, true) => Err(usage(alloc, TWO_PICTURES)),
+        (true, false) => Ok(Some(Picture::Svg)),
+        (false, true) => Ok(Some(Picture::Ladder)),
+        (false, false) => Ok(None),
+    }
+}
 
 /// Makes the pair that a script begins with; returns none if an allocation failed.
 fn pair_of(alloc: Global, from: Beginning) -> Option<Pair>
@@ -52,42 +71,21 @@ fn begin(pair: &mut Pair) -> Result<(), Memory>
     Ok(())
 }
 
-/// Draws a script between two ends of the same sizes.
-fn draw_over<R: Source, W: Sink, C: Carrier>(
-    alloc: Global,
-    from: Beginning,
-    picture: Picture,
-    counted: bool,
-    carrier: &mut C,
-    reader: &mut R,
-    writer: &mut W,
-) -> Ending
-    requires fine { R.state reader.old ≡ Worst.Fine }
-    requires whole { W.broken writer.old ≡ false }
-    requires carrier { C.broken carrier.old ≡ false }
-    requires silent { (c : C) → C.told c ≡ None }
-    requires sizes { first_refusal from.config ≡ None }
-    ensures draws { (input : List ℕ) → R.left reader.old ≡ Some input
-        → DrawsBetween (C.direct carrier.old) from (streams input (R.left reader.new)
-        (W.contents writer.old) (W.contents writer.new)) result }
-    ensures devices { TellsDevices (source_change (R.left reader.old) (R.left reader.new)
-        (R.state reader.new)) (W.broken writer.new) result }
-    ensures carried { result ≡ Ending.Fault Fault.Carrier → IsTrue (C.broken carrier.new) }
+/// Converts the result of a script.
+fn ended(played: Result<(), ScriptFault>) -> Ending
+    ensures { result ≡ ending_of script_fault played }
 {
-    let Some(mut pair) = pair_of(alloc, from) else {
-        return Ending::Fault(Fault::Memory);
-    };
-    match draw(alloc, &mut pair, reader, writer, carrier, picture, counted) {
+    match played {
         Ok(()) => Ending::Done,
         Err(fault) => Ending::Fault(Fault::from(fault)),
     }
 }
 
 /// Runs a script over a carrier, and writes its text or a picture.
-fn show_over<R: Source, W: Sink, C: Carrier>(
+fn play<R: Source, W: Sink, C: Carrier>(
     alloc: Global,
-    from: Beginning,
-    view: ScriptView,
+    args: &ScriptArgs<'_>,
+    picture: Option<Picture>,
     carrier: &mut C,
     reader: &mut R,
     writer: &mut W,
@@ -96,220 +94,86 @@ fn show_over<R: Source, W: Sink, C: Carrier>(
     requires whole { W.broken writer.old ≡ false }
     requires carrier { C.broken carrier.old ≡ false }
     requires silent { (c : C) → C.told c ≡ None }
-    requires sizes { first_refusal from.config ≡ None }
-    ensures shows { (input : List ℕ) → R.left reader.old ≡ Some input
-        → ShowsRun view (DrawsBetween (C.direct carrier.old) from)
-        (PlaysBetween (C.direct carrier.old) from view.counters)
-        (streams input (R.left reader.new) (W.contents writer.old) (W.contents writer.new))
-        result }
+    requires sizes { first_refusal args.now.from.config ≡ None }
+    ensures runs { (input : List ℕ) → R.left reader.old ≡ Some input
+        → RunsBetween (C.direct carrier.old) args.now.from args.now.view.counters (is_some picture)
+        (streams input (R.left reader.new) (W.contents writer.old) (W.contents writer.new)) result }
     ensures devices { TellsDevices (source_change (R.left reader.old) (R.left reader.new)
         (R.state reader.new)) (W.broken writer.new) result }
     ensures carried { result ≡ Ending.Fault Fault.Carrier → IsTrue (C.broken carrier.new) }
 {
-    let counted = view.counters;
-    let picture = match (view.svg, view.ladder) {
-        (true, true) => return usage(alloc, TWO_PICTURES),
-        (true, false) => Picture::Svg,
-        (false, true) => Picture::Ladder,
-        (false, false) => return play(alloc, from, counted, carrier, reader, writer),
-    };
-    draw_over(alloc, from, picture, counted, carrier, reader, writer)
-}
-
-/// Runs a script over a carrier that returns what it is passed, and shows it.
-fn show_simulation<R: Source, W: Sink>(
-    alloc: Global,
-    from: Beginning,
-    view: ScriptView,
-    reader: &mut R,
-    writer: &mut W,
-) -> Ending
-    requires fine { R.state reader.old ≡ Worst.Fine }
-    requires whole { W.broken writer.old ≡ false }
-    requires sizes { first_refusal from.config ≡ None }
-    ensures shows { (input : List ℕ) → R.left reader.old ≡ Some input
-        → ShowsRun view (DrawsSimulated from) (Simulates from view.counters)
-        (streams input (R.left reader.new) (W.contents writer.old) (W.contents writer.new)) result }
-    ensures devices { TellsDevices (source_change (R.left reader.old) (R.left reader.new)
-        (R.state reader.new)) (W.broken writer.new) result }
-{
-    show_over(alloc, from, view, &mut Direct, reader, writer)
-}
-
-/// Makes a connection, runs a script over it, and shows it.
-fn show_pair<N: Net<Stream = TcpStream>, R: Source, W: Sink>(
-    net: &N,
-    alloc: Global,
-    from: Beginning,
-    view: ScriptView,
-    reader: &mut R,
-    writer: &mut W,
-) -> Ending
-    requires fine { R.state reader.old ≡ Worst.Fine }
-    requires whole { W.broken writer.old ≡ false }
-    requires sizes { first_refusal from.config ≡ None }
-    ensures shows { (input : List ℕ) → R.left reader.old ≡ Some input
-        → ShowsRun view (DrawsPaired from) (Pairs from view.counters)
-        (streams input (R.left reader.new) (W.contents writer.old) (W.contents writer.new)) result }
-    ensures devices { TellsDevices (source_change (R.left reader.old) (R.left reader.new)
-        (R.state reader.new)) (W.broken writer.new) result }
-{
-    if view.svg && view.ladder {
-        return usage(alloc, TWO_PICTURES);
-    }
-    let Ok(mut sockets) = Sockets::new(net) else {
-        return Ending::Fault(Fault::Carrier);
-    };
-    show_over(alloc, from, view, &mut sockets, reader, writer)
-}
-
-/// Returns whether both pictures are requested.
-fn are_two(view: ScriptView) -> bool
-    ensures { result ≡ (view.svg && view.ladder) }
-{
-    view.svg && view.ladder
-}
-
-/// Opens a file and runs its script, as `simulate` does.
-fn simulate_file<I: Inputs, W: Sink>(
-    inputs: &I,
-    alloc: Global,
-    name: &str,
-    from: Beginning,
-    view: ScriptView,
-    writer: &mut W,
-) -> Ending
-    requires whole { W.broken writer.old ≡ false }
-    requires sizes { first_refusal from.config ≡ None }
-    ensures shows { ShowsBy view.svg view.ladder
-        ((is_refusal result ≡ true) × Keeps (W.contents writer.old) (W.contents writer.new))
-        (ReadsFile name.now (I.held inputs.now name.now) (DrawsSimulated from)
-        (W.contents writer.old) (W.contents writer.new) result)
-        (ReadsFile name.now (I.held inputs.now name.now) (Simulates from view.counters)
-        (W.contents writer.old) (W.contents writer.new) result) }
-    ensures write { (result ≡ Ending.Fault Fault.Write) ↔ IsTrue (W.broken writer.new) }
-{
-    if are_two(view) {
-        return usage(alloc, TWO_PICTURES);
-    }
-    match inputs.open(name) {
-        Ok(mut opened) => show_simulation(alloc, from, view, &mut opened, writer),
-        Err(why) => unopened(alloc, name, why),
-    }
-}
-
-/// Runs `simulate`: the script of a file, or of standard input if none is named.
-pub fn simulate_asked<I: Inputs, R: Source, W: Sink>(
-    inputs: &I,
-    alloc: Global,
-    args: &ScriptArgs<'_>,
-    reader: &mut R,
-    writer: &mut W,
-) -> Ending
-    requires fine { R.state reader.old ≡ Worst.Fine }
-    requires whole { W.broken writer.old ≡ false }
-    requires sizes { first_refusal args.now.from.config ≡ None }
-    ensures shows { (input : List ℕ) → R.left reader.old ≡ Some input
-        → SimulatesAsked (I.held inputs.now) args.now (streams input (R.left reader.new)
-        (W.contents writer.old) (W.contents writer.new)) result }
-    ensures read { R.state reader.new ≢ Worst.Fine → result ≡ Ending.Fault Fault.Read }
-    ensures read_only { option_map (λ name. name.now) args.now.file ≡ None
-        → result ≡ Ending.Fault Fault.Read → (R.state reader.new ≢ Worst.Fine)
-        ⊎ GaveMost (R.left reader.old) (R.left reader.new) }
-    ensures write { (result ≡ Ending.Fault Fault.Write) ↔ IsTrue (W.broken writer.new) }
-    ensures untouched { option_map (λ name. name.now) args.now.file ≢ None
-        → reader.new ≡ reader.old }
-{
-    let ScriptArgs { from, view, file } = *args;
-    match file {
-        None => show_simulation(alloc, from, view, reader, writer),
-        Some(name) => simulate_file(inputs, alloc, name, from, view, writer),
-    }
-}
-
-/// Opens a file and runs its script, as `pair` does.
-fn pair_file<S: Net<Stream = TcpStream> + Inputs, W: Sink>(
-    system: &S,
-    alloc: Global,
-    name: &str,
-    from: Beginning,
-    view: ScriptView,
-    writer: &mut W,
-) -> Ending
-    requires whole { W.broken writer.old ≡ false }
-    requires sizes { first_refusal from.config ≡ None }
-    ensures shows { ShowsBy view.svg view.ladder
-        ((is_refusal result ≡ true) × Keeps (W.contents writer.old) (W.contents writer.new))
-        (ReadsFile name.now (S.held system.now name.now) (DrawsPaired from)
-        (W.contents writer.old) (W.contents writer.new) result)
-        (ReadsFile name.now (S.held system.now name.now) (Pairs from view.counters)
-        (W.contents writer.old) (W.contents writer.new) result) }
-    ensures write { (result ≡ Ending.Fault Fault.Write) ↔ IsTrue (W.broken writer.new) }
-{
-    if are_two(view) {
-        return usage(alloc, TWO_PICTURES);
-    }
-    match system.open(name) {
-        Ok(mut opened) => show_pair(system, alloc, from, view, &mut opened, writer),
-        Err(why) => unopened(alloc, name, why),
-    }
-}
-
-/// Runs `pair`: the script of a file, or of standard input if none is named.
-pub fn pair_asked<S: Net<Stream = TcpStream> + Inputs, R: Source, W: Sink>(
-    system: &S,
-    alloc: Global,
-    args: &ScriptArgs<'_>,
-    reader: &mut R,
-    writer: &mut W,
-) -> Ending
-    requires fine { R.state reader.old ≡ Worst.Fine }
-    requires whole { W.broken writer.old ≡ false }
-    requires sizes { first_refusal args.now.from.config ≡ None }
-    ensures shows { (input : List ℕ) → R.left reader.old ≡ Some input
-        → PairsAsked (S.held system.now) args.now (streams input (R.left reader.new)
-        (W.contents writer.old) (W.contents writer.new)) result }
-    ensures read { R.state reader.new ≢ Worst.Fine → result ≡ Ending.Fault Fault.Read }
-    ensures read_only { option_map (λ name. name.now) args.now.file ≡ None
-        → result ≡ Ending.Fault Fault.Read → (R.state reader.new ≢ Worst.Fine)
-        ⊎ GaveMost (R.left reader.old) (R.left reader.new) }
-    ensures write { (result ≡ Ending.Fault Fault.Write) ↔ IsTrue (W.broken writer.new) }
-    ensures untouched { option_map (λ name. name.now) args.now.file ≢ None
-        → reader.new ≡ reader.old }
-{
-    let ScriptArgs { from, view, file } = *args;
-    match file {
-        None => show_pair(system, alloc, from, view, reader, writer),
-        Some(name) => pair_file(system, alloc, name, from, view, writer),
-    }
-}
-
-/// Runs a script between two ends of the same sizes.
-fn play<R: Source, W: Sink, C: Carrier>(
-    alloc: Global,
-    from: Beginning,
-    counted: bool,
-    carrier: &mut C,
-    reader: &mut R,
-    writer: &mut W,
-) -> Ending
-    requires fine { R.state reader.old ≡ Worst.Fine }
-    requires whole { W.broken writer.old ≡ false }
-    requires carrier { C.broken carrier.old ≡ false }
-    requires silent { (c : C) → C.told c ≡ None }
-    requires sizes { first_refusal from.config ≡ None }
-    ensures plays { (input : List ℕ) → R.left reader.old ≡ Some input
-        → PlaysBetween (C.direct carrier.old) from counted (streams input (R.left reader.new)
-        (W.contents writer.old) (W.contents writer.new)) result }
-    ensures devices { TellsDevices (source_change (R.left reader.old) (R.left reader.new)
-        (R.state reader.new)) (W.broken writer.new) result }
-    ensures carried { result ≡ Ending.Fault Fault.Carrier → C.broken carrier.new ≡ true }
-{
-    let Some(mut pair) = pair_of(alloc, from) else {
+    let counted = args.view.counters;
+    let Some(mut pair) = pair_of(alloc, args.from) else {
         return Ending::Fault(Fault::Memory);
     };
-    match script_with(alloc, &mut pair, reader, writer, carrier, counted) {
-        Ok(()) => Ending::Done,
-        Err(fault) => Ending::Fault(Fault::from(fault)),
+    match picture {
+        None => ended(script_with(alloc, &mut pair, reader, writer, carrier, counted)),
+        Some(picture) => {
+            ended(draw(alloc, &mut pair, reader, writer, carrier, picture, counted))
+        }
+    }
+}
+
+/// Runs a script over a carrier of this kind, which is made first.
+fn play_by<N: Net<Stream = TcpStream>, R: Source, W: Sink>(
+    net: &N,
+    alloc: Global,
+    way: Way,
+    args: &ScriptArgs<'_>,
+    picture: Option<Picture>,
+    reader: &mut R,
+    writer: &mut W,
+) -> Ending
+    requires fine { R.state reader.old ≡ Worst.Fine }
+    requires whole { W.broken writer.old ≡ false }
+    requires sizes { first_refusal args.now.from.config ≡ None }
+    ensures runs { (input : List ℕ) → R.left reader.old ≡ Some input
+        → RunsBy way args.now.from args.now.view.counters (is_some picture) (streams input
+        (R.left reader.new) (W.contents writer.old) (W.contents writer.new)) result }
+    ensures devices { TellsDevices (source_change (R.left reader.old) (R.left reader.new)
+        (R.state reader.new)) (W.broken writer.new) result }
+{
+    match way {
+        Way::Simulated => play(alloc, args, picture, &mut Direct, reader, writer),
+        Way::Paired => match Sockets::new(net) {
+            Ok(mut sockets) => play(alloc, args, picture, &mut sockets, reader, writer),
+            Err(_unmade) => Ending::Fault(Fault::Carrier),
+        },
+    }
+}
+
+/// Runs `simulate` or `pair`: the script of a file, or of standard input if none is named.
+pub fn script_asked<S: Net<Stream = TcpStream> + Inputs, R: Source, W: Sink>(
+    system: &S,
+    alloc: Global,
+    way: Way,
+    args: &ScriptArgs<'_>,
+    reader: &mut R,
+    writer: &mut W,
+) -> Ending
+    requires fine { R.state reader.old ≡ Worst.Fine }
+    requires whole { W.broken writer.old ≡ false }
+    requires sizes { first_refusal args.now.from.config ≡ None }
+    ensures shows { (input : List ℕ) → R.left reader.old ≡ Some input
+        → ScriptAsked way (S.held system.now) args.now (streams input (R.left reader.new)
+        (W.contents writer.old) (W.contents writer.new)) result }
+    ensures read { R.state reader.new ≢ Worst.Fine → result ≡ Ending.Fault Fault.Read }
+    ensures read_only { option_map (λ name. name.now) args.now.file ≡ None
+        → result ≡ Ending.Fault Fault.Read → (R.state reader.new ≢ Worst.Fine)
+        ⊎ GaveMost (R.left reader.old) (R.left reader.new) }
+    ensures write { (result ≡ Ending.Fault Fault.Write) ↔ IsTrue (W.broken writer.new) }
+    ensures untouched { option_map (λ name. name.now) args.now.file ≢ None
+        → reader.new ≡ reader.old }
+{
+    let picture = match picture_of(alloc, args.view) {
+        Ok(picture) => picture,
+        Err(refused) => return refused,
+    };
+    let Some(name) = args.file else {
+        return play_by(system, alloc, way, args, picture, reader, writer);
+    };
+    match system.open(name) {
+        Ok(mut opened) => play_by(system, alloc, way, args, picture, &mut opened, writer),
+        Err(why) => unopened(alloc, name, why),
     }
 }

@@ -25,14 +25,14 @@ returns-in-Explain g c = record {
 
 pub returns-in-Simulate : goal.returns-in-Simulate
 returns-in-Simulate g c = record {
-  performs = λ input left. rw (c.in-Simulate.is) (c.simulate_asked.ensures.shows input left);
-  read = λ _ e. c.simulate_asked.ensures.read e;
+  performs = λ input left. rw (c.in-Simulate.is) (c.script_asked.ensures.shows input left);
+  read = λ _ e. c.script_asked.ensures.read e;
   read_only = λ _ _ _ none e.
-      c.simulate_asked.ensures.read_only (sym (ap file_named c.in-Simulate.is) ∙ none) e;
-  write = λ _ _. c.simulate_asked.ensures.write;
-  whole = unbroken _ _ c.simulate_asked.ensures.write.1;
+      c.script_asked.ensures.read_only (sym (ap file_named c.in-Simulate.is) ∙ none) e;
+  write = λ _ _. c.script_asked.ensures.write;
+  whole = unbroken _ _ c.script_asked.ensures.write.1;
   untouched = λ some.
-      c.simulate_asked.ensures.untouched (λ e. some (ap file_named c.in-Simulate.is ∙ e));
+      c.script_asked.ensures.untouched (λ e. some (ap file_named c.in-Simulate.is ∙ e));
   stations = λ _ are. differ is_station c.in-Simulate.is refl are refl;
   taps = λ _ are. differ is_tap c.in-Simulate.is refl are refl;
   links = λ _ are. differ is_link c.in-Simulate.is refl are refl;
@@ -41,14 +41,14 @@ returns-in-Simulate g c = record {
 
 pub returns-in-Pair : goal.returns-in-Pair
 returns-in-Pair g c = record {
-  performs = λ input left. rw (c.in-Pair.is) (c.pair_asked.ensures.shows input left);
-  read = λ _ e. c.pair_asked.ensures.read e;
+  performs = λ input left. rw (c.in-Pair.is) (c.script_asked-in-Pair.ensures.shows input left);
+  read = λ _ e. c.script_asked-in-Pair.ensures.read e;
   read_only = λ _ _ _ none e.
-      c.pair_asked.ensures.read_only (sym (ap file_named c.in-Pair.is) ∙ none) e;
-  write = λ _ _. c.pair_asked.ensures.write;
-  whole = unbroken _ _ c.pair_asked.ensures.write.1;
+      c.script_asked-in-Pair.ensures.read_only (sym (ap file_named c.in-Pair.is) ∙ none) e;
+  write = λ _ _. c.script_asked-in-Pair.ensures.write;
+  whole = unbroken _ _ c.script_asked-in-Pair.ensures.write.1;
   untouched = λ some.
-      c.pair_asked.ensures.untouched (λ e. some (ap file_named c.in-Pair.is ∙ e));
+      c.script_asked-in-Pair.ensures.untouched (λ e. some (ap file_named c.in-Pair.is ∙ e));
   stations = λ _ are. differ is_station c.in-Pair.is refl are refl;
   taps = λ _ are. differ is_tap c.in-Pair.is refl are refl;
   links = λ _ are. differ is_link c.in-Pair.is refl are refl;
