@@ -14,7 +14,8 @@ pub use ddcmp_args::{
     tap_args, view,
 };
 pub use ddcmp_commands::{
-    Connection, Connections, Ending, Fault, Inputs, connections, ending, fault, inputs,
+    Connection, Connections, Ending, Fault, FilePair, Inputs, connections, ending, fault,
+    file_pair, inputs,
 };
 pub use ddcmp_device::{BridgeEnd, BridgeFault, BridgeOptions, LineName};
 pub use ddcmp_explain::{

@@ -2,11 +2,12 @@
 // What they write otherwise is tested in `worked`.
 use crate::same::is;
 use ddcmp_cli::{
-    BridgeEnd, BridgeFault, BridgeOptions, Connection, Connections, Ending, Fault, Inputs,
-    LineName, LineSystem, LinkFailure, LinkOutcome, Options, Role, run,
+    BridgeEnd, BridgeFault, BridgeOptions, Connection, Connections, Ending, Fault, FilePair,
+    Inputs, LineName, LineSystem, LinkFailure, LinkOutcome, Options, Role, run,
 };
 use ddcmp_frame::failing::{BoundedSink, Pieces};
 use ddcmp_frame::{Sink, Source};
+use ddcmp_tap::Side;
 use std::alloc::Global;
 use std::fmt::Display;
 use std::io::{self, Eprint, ErrorKind};
@@ -93,6 +94,15 @@ impl<S: Inputs> Inputs for Poor<'_, S> {
 
     fn open(&self, name: &str) -> Result<S::Opened, ErrorKind> {
         self.system.open(name)
+    }
+
+    fn open_pair(
+        &self,
+        alloc: Global,
+        caller: &str,
+        called: &str,
+    ) -> Result<FilePair<S::Opened>, (Side, ErrorKind)> {
+        self.system.open_pair(alloc, caller, called)
     }
 
     fn await_typing(&self, what: &str) {

@@ -1,4 +1,5 @@
 pub mod Connections
+pub mod Early
 pub mod Origins
 pub mod Endings
 pub mod Explaining

@@ -4,10 +4,14 @@ ghost use Rattle.ddcmp_commands.specs.Endings.{HasCause, IsUnopened};
 
 use crate::ending::Ending;
 use crate::fault::Fault;
+use crate::file_pair::FilePair;
+use crate::file_poller::FilePoller;
 use ddcmp_io::{FromRead, Source, Worst};
+use ddcmp_tap::Side;
 use std::alloc::Global;
 use std::fs::{self, File};
 use std::io::{ErrorKind, IsTerminal};
+use std::os::fd::AsRawFd;
 
 /// The files that the program reads, besides its standard input.
 pub trait Inputs {
@@ -24,6 +28,15 @@ pub trait Inputs {
         ensures fine { IfOk result (λ opened. Self.Opened.state opened ≡ Fine) }
         ensures held { IfOk result (λ opened. (bytes : List ℕ)
             → held self.now name.now ≡ Some bytes → Self.Opened.left opened ≡ Some bytes) };
+
+    /// Opens two files, one after the other, to be read as their bytes are received; or returns the
+    /// side of the one that can't be opened, and the system's error.
+    fn open_pair(
+        &self,
+        alloc: Global,
+        caller: &str,
+        called: &str,
+    ) -> Result<FilePair<Self::Opened>, (Side, ErrorKind)>;
 
     /// Prints on standard error what is read, if standard input is a terminal.
     fn await_typing(&self, what: &str);
@@ -42,6 +55,25 @@ impl Inputs for HostRuntime {
             Ok(file) => Ok(FromRead::new(file)),
             Err(error) => Err(error.kind()),
         }
+    }
+
+    fn open_pair(
+        &self,
+        alloc: Global,
+        caller: &str,
+        called: &str,
+    ) -> Result<FilePair<FromRead<File>>, (Side, ErrorKind)> {
+        let one = match fs::open(self, caller) {
+            Ok(file) => file,
+            Err(error) => return Err((Side::Caller, error.kind())),
+        };
+        let two = match fs::open(self, called) {
+            Ok(file) => file,
+            Err(error) => return Err((Side::Called, error.kind())),
+        };
+        let poller = FilePoller::new(self, alloc, one.as_raw_fd(), two.as_raw_fd());
+        let (one, two) = (FromRead::new(one), FromRead::new(two));
+        Ok(FilePair::new(alloc, one, two, poller.ok()))
     }
 
     fn await_typing(&self, what: &str) {

@@ -5,6 +5,7 @@ ghost use Rattle.ddcmp_commands.specs.Explaining.{DrawsFiles, IsUnread};
 
 use crate::ending::Ending;
 use crate::fault::Fault;
+use crate::file_pair::{FilePair, HalfPair};
 use crate::inputs::{Inputs, unopened};
 use crate::origin::written;
 use ddcmp_args::ExplainArgs;
@@ -12,24 +13,33 @@ use ddcmp_explain::DetectedFault;
 use ddcmp_io::{Sink, Source};
 use ddcmp_tap::{Capture, DrawFault, NoMemory, Side, draw_captures};
 use std::alloc::Global;
+use std::cell::RefCell;
 
 /// Makes the capture of a side.
-fn capture<R: Source + Drop>(
+fn capture<'a, R: Source + Drop>(
     alloc: Global,
-    reader: R,
+    pair: &'a RefCell<FilePair<R>>,
     side: Side,
     args: &ExplainArgs<'_>,
-) -> Result<Capture<R>, NoMemory>
+) -> Result<Capture<HalfPair<'a, R>>, NoMemory>
     requires max { (1 ≤ args.now.max) × (args.now.max ≤ MAX_COUNT) }
 {
     Capture::new(
         alloc,
-        reader,
+        HalfPair::new(pair, side),
         written(args),
         side,
         args.style.discarded,
         args.max,
     )
+}
+
+/// Returns whether there was no memory for what was read early of two files.
+fn is_refused<R: Source>(pair: &RefCell<FilePair<R>>) -> bool {
+    match pair.try_borrow() {
+        Ok(pair) => pair.is_refused(),
+        Err(_in_use) => false,
+    }
 }
 
 /// Returns the ending if the file of this name had a fault.
@@ -57,23 +67,21 @@ pub(crate) fn draw_files<I: Inputs, W: Sink>(
         result }
     ensures write { (result ≡ Ending.Fault Fault.Write) ↔ IsTrue (W.broken writer.new) }
 {
-    let one = match inputs.open(first) {
-        Ok(opened) => opened,
-        Err(why) => return unopened(alloc, first, why),
+    let pair = match inputs.open_pair(alloc, first, second) {
+        Ok(opened) => RefCell::new(opened),
+        Err((Side::Caller, why)) => return unopened(alloc, first, why),
+        Err((Side::Called, why)) => return unopened(alloc, second, why),
     };
-    let two = match inputs.open(second) {
-        Ok(opened) => opened,
-        Err(why) => return unopened(alloc, second, why),
-    };
-    let Ok(mut one) = capture(alloc, one, Side::Caller, args) else {
+    let Ok(mut one) = capture(alloc, &pair, Side::Caller, args) else {
         return Ending::Fault(Fault::Memory);
     };
-    let Ok(mut two) = capture(alloc, two, Side::Called, args) else {
+    let Ok(mut two) = capture(alloc, &pair, Side::Called, args) else {
         return Ending::Fault(Fault::Memory);
     };
     match draw_captures(&mut one, &mut two, writer) {
         Ok(()) => Ending::Done,
         Err(DrawFault::Write) => Ending::Fault(Fault::Write),
+        Err(DrawFault::Capture(_, _)) if is_refused(&pair) => Ending::Fault(Fault::Memory),
         Err(DrawFault::Capture(Side::Caller, fault)) => unread(alloc, first, fault),
         Err(DrawFault::Capture(Side::Called, fault)) => unread(alloc, second, fault),
     }

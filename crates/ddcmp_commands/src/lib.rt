@@ -3,9 +3,12 @@
 #![tactic(auto)]
 
 pub mod connections;
+mod early;
 pub mod ending;
 mod explain_command;
 pub mod fault;
+pub mod file_pair;
+mod file_poller;
 pub mod inputs;
 mod ladder_command;
 mod origin;
@@ -17,6 +20,7 @@ pub use connections::{Connection, Connections};
 pub use ending::Ending;
 pub use explain_command::explain_asked;
 pub use fault::Fault;
+pub use file_pair::FilePair;
 pub use inputs::Inputs;
 pub use station_command::station;
 pub use tap_command::{TWO_NOTATIONS, is_json, tap};
