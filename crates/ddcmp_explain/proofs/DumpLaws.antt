@@ -1,16 +1,15 @@
 -- What was seen of a dump, and what a result reports of the whole dump.
 use Rattle.std.proofs.Common.{◌≡◌, ◌≢◌, ℕ, ◌+◌, ◌-◌, ◌<◌, ◌^◌, Bool, true, false, List, [], ◌∷◌}
-use Rattle.std.proofs.Common.{◌++◌, length, take, refl, sym, ◌∙◌, ap, subst, arith, Option, Some}
+use Rattle.std.proofs.Common.{◌++◌, length, refl, sym, ◌∙◌, ap, subst, arith, Option, Some}
 use Rattle.std.proofs.Common.{None, Result, Ok, Err, length-append, inl, inr}
 use Rattle.std.specs.Prelude.{◌⊎◌, ◌↔◌, IsOk, IsTrue}
 use Rattle.std.specs.Io.KnownBytes.{Consumes}
-use Rattle.std.proofs.KnownBytes.{Appends-nil, Consumes-trans}
+use Rattle.std.proofs.KnownBytes.{Appends-nil}
 use Rattle.ddcmp_input.specs.declared.place.Place.{Place}
 use Rattle.ddcmp_input.specs.declared.place.Place.TheVariants.{Start}
-use Rattle.ddcmp_input.specs.Dump.{DumpView, dump_after, dump_begun, line_from, not_dumped}
+use Rattle.ddcmp_input.specs.Dump.{DumpView, dump_after, dump_begun, not_dumped}
 use Rattle.ddcmp_input.specs.Dump.{place_after, place_from, shown, shown_from}
-use Rattle.ddcmp_input.proofs.DumpLaws.{shown-more, place-more, line-more}
-use Rattle.std.proofs.lemmas.List.{append-nil}
+use Rattle.ddcmp_input.proofs.DumpLaws.{shown-more}
 use Rattle.ddcmp_io.specs.declared.device.Worst.{Worst}
 use Rattle.ddcmp_io.specs.declared.device.Worst.TheVariants.{Fine}
 use Rattle.ddcmp_io.specs.Input.{GaveMost}
@@ -24,8 +23,6 @@ use Rattle.ddcmp_explain.specs.declared.style.Style.{Style}
 use Rattle.ddcmp_explain.specs.Dumps.{ExplainsDump, dump_answer}
 use Rattle.ddcmp_explain.specs.Explains.{Answer, Explains, Tells, refusal}
 use Rattle.ddcmp_explain.proofs.TakeLaws.{ok-exactly}
-use Rattle.ddcmp_explain.specs.declared.explainer.Explainer.{Explainer}
-use Rattle.ddcmp_explain.specs.Inside.Progress.{Progress}
 
 pub length-shown : (p : Place) (s : List ℕ) → length (shown_from p s) ≡ length s
 unfolding shown_from
@@ -39,87 +36,6 @@ shown-nothing p s e = ap (shown_from p) e
 pub consumes-none : (known : Option (List ℕ)) → Consumes known known []
 consumes-none None = tt
 consumes-none (Some xs) = refl
-
-take-none : (n : ℕ) (xs : List ℕ) → n ≡ 0 → take n xs ≡ []
-take-none n [] e = ap (λ k. take k []) e
-take-none n (x ∷ xs) e = ap (λ k. take k (x ∷ xs)) e
-
--- a read that gave nothing
-pub consumes-end : (before left later : Option (List ℕ)) (seen : List ℕ) (n : ℕ) (buf : List ℕ)
-    → n ≡ 0 → Consumes before left seen → Consumes left later (take n buf)
-    → Consumes before later seen
-consumes-end before left later seen n buf e a b =
-    subst (Consumes before later) (append-nil seen)
-    (Consumes-trans before left later seen [] a (subst (Consumes left later) (take-none n buf e) b))
-
--- so far, and each whole byte of it has been reported
-pub record SoFarDumped (max : ℕ) (start before left : Option (List ℕ)) (begun now : DumpView)
-    (at : Explainer) (broken : Bool) (sink : Option (List ℕ))
-    : Type 0 where
-  pub seen : List ℕ
-  pub consumed : Consumes before left seen
-  pub dump : now ≡ dump_after begun seen
-  pub long : length seen ≡ at.seen
-  pub progress : Progress max start (shown_from begun.place seen) at broken sink
-
-pub shown-after : (begun now : DumpView) (seen piece : List ℕ) → now ≡ dump_after begun seen
-    → shown_from begun.place seen ++ shown_from now.place piece
-    ≡ shown_from begun.place (seen ++ piece)
-shown-after begun now seen piece e =
-    ap (λ (v : DumpView). shown_from begun.place seen ++ shown_from v.place piece) e
-    ∙ sym (shown-more begun.place seen piece)
-
-dump-append : (v : DumpView) (seen piece : List ℕ)
-    → dump_after v (seen ++ piece) ≡ dump_after (dump_after v seen) piece
-dump-append v seen piece =
-    λ i.
-    record {
-      place =
-          place-more v.place seen piece i;
-      line = line-more v.place v.line seen piece i;
-    }
-
-pub dump-more : (begun now new : DumpView) (seen piece : List ℕ) → now ≡ dump_after begun seen
-    → new ≡ dump_after now piece → new ≡ dump_after begun (seen ++ piece)
-dump-more begun now new seen piece e f =
-    f ∙ ap (λ (v : DumpView). dump_after v piece) e ∙ sym (dump-append begun seen piece)
-
--- a piece more
-pub so-far-more
-    : (max : ℕ) (start before left later : Option (List ℕ)) (begun now new : DumpView)
-    (at next : Explainer) (broken fails : Bool) (sink grown : Option (List ℕ)) (piece : List ℕ)
-    → Consumes left later piece → new ≡ dump_after now piece → next.seen ≡ at.seen + length piece
-    → ((seen : List ℕ) → Progress max start seen at broken sink
-    → Progress max start (seen ++ shown_from now.place piece) next fails grown)
-    → SoFarDumped max start before left begun now at broken sink
-    → SoFarDumped max start before later begun new next fails grown
-so-far-more max start before left later begun now new at next broken fails sink grown piece took is
-    long takes s =
-    record {
-      seen = s.seen ++ piece;
-      consumed = Consumes-trans _ _ later s.seen piece s.consumed took;
-      dump = dump-more begun now new s.seen piece s.dump is;
-      long = length-append s.seen piece ∙ omega (arith, s.long, long);
-      progress =
-          subst (λ t. Progress max start t next fails grown)
-          (shown-after begun now s.seen piece s.dump)
-          (takes (shown_from begun.place s.seen) s.progress);
-    }
-
--- nothing yet
-pub so-far-none
-    : (max : ℕ) (start before : Option (List ℕ)) (begun : DumpView) (at : Explainer) (broken : Bool)
-    (sink : Option (List ℕ))
-    → Progress max start [] at broken sink
-    → SoFarDumped max start before before begun begun at broken sink
-unfolding shown_from place_from line_from
-so-far-none max start before begun at broken sink p = record {
-  seen = [];
-  consumed = consumes-none before;
-  dump = refl;
-  long = p.long;
-  progress = p;
-}
 
 -- ---- the whole dump
 

@@ -14,6 +14,7 @@ pub mod PuttingLaws
 pub mod HeadLaws
 pub mod RestLaws
 pub mod PartLaws
+pub mod PieceLaws
 pub mod LineLaws
 pub mod DigitVectors
 pub mod AdjoinLaws

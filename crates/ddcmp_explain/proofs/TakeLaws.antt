@@ -14,22 +14,12 @@ use Rattle.ddcmp_io.specs.declared.device.Worst.TheVariants.{Fine, Idle, Failed}
 use Rattle.ddcmp_explain.specs.declared.explain_fault.ExplainFault.{ExplainFault}
 use Rattle.ddcmp_explain.specs.declared.explain_fault.ExplainFault.TheVariants.{Odd, NotHex, Read}
 use Rattle.ddcmp_explain.specs.declared.explain_fault.ExplainFault.TheVariants.{Write, Memory}
-use Rattle.ddcmp_explain.specs.declared.explainer.Explainer.{Explainer}
 use Rattle.ddcmp_explain.specs.declared.form.Form.{Form}
 use Rattle.ddcmp_explain.specs.declared.style.Style.{Style}
 use Rattle.ddcmp_explain.specs.Digits.{unexpected_in, left_in}
 use Rattle.ddcmp_io.specs.Input.{GaveMost}
 use Rattle.ddcmp_explain.specs.Explains.{refusal, refusal_by, Tells, Explains}
-use Rattle.ddcmp_explain.specs.Inside.Progress.{Progress}
 use Rattle.ddcmp_explain.proofs.FormLaws.{unexpected-stays}
-
--- so far, and each whole byte of it has been reported
-pub record SoFar (max : ℕ) (start before left : Option (List ℕ)) (at : Explainer) (broken : Bool)
-    (sink : Option (List ℕ))
-    : Type 0 where
-  pub seen : List ℕ
-  pub consumed : Consumes before left seen
-  pub progress : Progress max start seen at broken sink
 
 -- what was seen, n bytes, and what was reported of it
 abbrev pub Saw : Form → Style → ℕ → ℕ → Option (List ℕ) → Option (List ℕ) → Option (List ℕ)

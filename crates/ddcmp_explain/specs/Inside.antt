@@ -1,4 +1,5 @@
 -- Definitions used inside the crate only; no public contract depends on them.
+pub mod Blanking
 pub mod Decoding
 pub mod Heads
 pub mod Openings

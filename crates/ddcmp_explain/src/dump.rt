@@ -7,91 +7,18 @@ ghost use Rattle.ddcmp_frame.specs.Limits.{MAX_COUNT};
 ghost use Rattle.ddcmp_frame.specs.Reader.{StandsFor};
 ghost use Rattle.ddcmp_explain.specs.Dumps.{ExplainsDump, IsDumpExplained, dump_answer};
 ghost use Rattle.ddcmp_explain.specs.Explains.{Tells, refusal};
-ghost use Rattle.ddcmp_explain.specs.Inside.Progress.{Progress, Takes};
 ghost use Rattle.ddcmp_io.specs.Change.{sink_change, source_change};
 ghost use Rattle.ddcmp_io.specs.Input.{GaveMost};
 
 use crate::dump_fault::DumpFault;
 use crate::explain_fault::ExplainFault;
-use crate::explainer::{Explainer, PIECE};
+use crate::explainer::Explainer;
 use crate::form::Form;
 use crate::style::Style;
 use ddcmp_frame::Reader;
 use ddcmp_input::Dump;
-use ddcmp_io::input::read_within;
-use ddcmp_io::{Got, Sink, Source, Worst};
+use ddcmp_io::{Sink, Source, Worst};
 use std::alloc::Global;
-
-/// Explains a chunk of a dump as digits, all but its data replaced. `bytes` is a buffer for the
-/// decoded bytes.
-fn take_piece<W: Sink>(
-    explainer: &mut Explainer,
-    dump: &mut Dump,
-    writer: &mut W,
-    piece: &mut [u8],
-    bytes: &mut [u8; PIECE],
-) -> Result<(), ExplainFault>
-    requires size { length piece.old ≤ PIECE }
-    requires room { explainer.old.seen + length piece.old < 2 ^ 64 }
-    ensures dump { dump.new ≡ dump_after dump.old piece.old }
-    ensures form { explainer.new.decoder.form ≡ explainer.old.decoder.form }
-    ensures style { explainer.new.lines.style ≡ explainer.old.lines.style }
-    ensures seen { explainer.new.seen ≡ explainer.old.seen + length piece.old }
-    ensures most { result ≡ Err ExplainFault.Read → explainer.new.seen ≡ 2 ^ 64 - 1 }
-    ensures write { (result ≡ Err ExplainFault.Write) ↔ IsTrue (W.broken writer.new) }
-    ensures takes { (max : ℕ) (start : Option (List ℕ)) (seen : List ℕ)
-        → Progress max start seen explainer.old (W.broken writer.old) (W.contents writer.old)
-        → Takes max start (seen ++ shown_from dump.old.place piece.old) explainer.new
-        (W.broken writer.new) (W.contents writer.new) result }
-{
-    dump.blank(piece);
-    explainer.take(writer, piece, bytes)
-}
-
-/// Explains a dump of which `first` was read (all of it if `is_ended`), to its end.
-fn take_dump<R: Source, W: Sink>(
-    explainer: &mut Explainer,
-    dump: &mut Dump,
-    first: &mut [u8],
-    is_ended: bool,
-    reader: &mut R,
-    writer: &mut W,
-) -> Result<(), ExplainFault>
-    requires fine { R.state reader.old ≡ Worst.Fine }
-    requires whole { W.broken writer.old ≡ false }
-    requires ended { IsTrue is_ended → IsAtEnd (R.left reader.old) }
-    requires size { length first.old ≤ 64 }
-    requires begins { explainer.old.seen ≡ 0 }
-    ensures read { R.state reader.new ≢ Worst.Fine → result ≡ Err ExplainFault.Read }
-    ensures read_only { result ≡ Err ExplainFault.Read
-        → (R.state reader.new ≢ Worst.Fine) ⊎ (explainer.new.seen ≡ 2 ^ 64 - 1) }
-    ensures write { (result ≡ Err ExplainFault.Write) ↔ IsTrue (W.broken writer.new) }
-    ensures tells { (max : ℕ) (before : Option (List ℕ))
-        → Progress max (W.contents writer.old) [] explainer.old
-        (W.broken writer.old) (W.contents writer.old)
-        → Consumes before (R.left reader.old) first.old
-        → (seen : List ℕ) × (length seen ≡ explainer.new.seen)
-        × Consumes before (R.left reader.new) seen
-        × (dump.new ≡ dump_after dump.old seen)
-        × Tells explainer.old.decoder.form explainer.old.lines.style max
-        (shown_from dump.old.place seen) (R.left reader.new)
-        (W.contents writer.old) (W.contents writer.new) result }
-{
-    let mut piece = [0; PIECE];
-    let mut bytes = [0; PIECE];
-    take_piece(explainer, dump, writer, first, &mut bytes)?;
-    if is_ended {
-        return explainer.finish(writer);
-    }
-    while explainer.seen < u64::MAX {
-        match read_within(reader, &mut piece, u64::MAX - explainer.seen) {
-            Got::Bytes(0) => return explainer.finish(writer),
-            Got::Bytes(n) => take_piece(explainer, dump, writer, &mut piece[..n], &mut bytes)?,
-            Got::Idle | Got::Failed => return Err(ExplainFault::Read),
-        }
-    }
-    Err(ExplainFault::Read)
-}
 
 /// Returns the result for a dump, from that for its digits.
 fn answer(explained: Result<(), ExplainFault>, dump: &Dump) -> Result<(), DumpFault>
@@ -128,7 +55,7 @@ pub(crate) fn explain_opened_dump<R: Source, W: Sink>(
 {
     let mut dump = Dump::new();
     let mut explainer = Explainer::new(frames, Form::Hex, style);
-    let explained = take_dump(&mut explainer, &mut dump, first, is_ended, reader, writer);
+    let explained = explainer.take_all(&mut dump, true, first, is_ended, reader, writer);
     answer(explained, &dump)
 }
 

@@ -4,6 +4,7 @@ ghost use Rattle.std.specs.Prelude.{List, ℕ, Option, length, IsTrue};
 ghost use Rattle.std.specs.Io.KnownBytes.{Consumes, IsAtEnd};
 ghost use Rattle.ddcmp_frame.specs.Reader.{StandsFor};
 ghost use Rattle.ddcmp_explain.specs.Explains.{Tells};
+ghost use Rattle.ddcmp_explain.specs.Inside.Blanking.{dump_by, shown_by};
 
 use crate::decoder::Decoder;
 use crate::explain_fault::ExplainFault;
@@ -11,11 +12,22 @@ use crate::form::Form;
 use crate::lines::Lines;
 use crate::style::Style;
 use ddcmp_frame::Reader;
+use ddcmp_input::Dump;
 use ddcmp_io::input::read_within;
 use ddcmp_io::{Got, Sink, Source, Worst};
 
 /// How many bytes of input are read at once.
 pub const PIECE: usize = 16384;
+
+/// Replaces all but the data of a chunk of a dump; does nothing for another input.
+fn blank(dump: &mut Dump, is_dump: bool, piece: &mut [u8])
+    ensures dump { dump.new ≡ dump_by is_dump dump.old piece.old }
+    ensures shows { piece.new ≡ shown_by is_dump dump.old.place piece.old }
+{
+    if is_dump {
+        dump.blank(piece);
+    }
+}
 
 /// Explains an input, chunk by chunk.
 #[derive(Drop)]
@@ -103,10 +115,39 @@ impl Explainer {
         }
     }
 
+    /// Takes a chunk of the input; of a dump all but its data is replaced before. `bytes` is a buffer
+    /// for decoded digits.
+    fn take_piece<W: Sink>(
+        &mut self,
+        dump: &mut Dump,
+        is_dump: bool,
+        writer: &mut W,
+        piece: &mut [u8],
+        bytes: &mut [u8; PIECE],
+    ) -> Result<(), ExplainFault>
+        requires size { length piece.old ≤ PIECE }
+        requires room { self.old.seen + length piece.old < 2 ^ 64 }
+        ensures dump { dump.new ≡ dump_by is_dump dump.old piece.old }
+        ensures form { self.new.decoder.form ≡ self.old.decoder.form }
+        ensures style { self.new.lines.style ≡ self.old.lines.style }
+        ensures seen { self.new.seen ≡ self.old.seen + length piece.old }
+        ensures most { result ≡ Err ExplainFault.Read → self.new.seen ≡ 2 ^ 64 - 1 }
+        ensures write { (result ≡ Err ExplainFault.Write) ↔ IsTrue (W.broken writer.new) }
+        ensures takes { (max : ℕ) (start : Option (List ℕ)) (seen : List ℕ)
+            → Progress max start seen self.old (W.broken writer.old) (W.contents writer.old)
+            → Takes max start (seen ++ shown_by is_dump dump.old.place piece.old) self.new
+            (W.broken writer.new) (W.contents writer.new) result }
+    {
+        blank(dump, is_dump, piece);
+        self.take(writer, piece, bytes)
+    }
+
     /// Takes an input of which `first` was read (all of it if `is_ended`), to its end.
     pub(crate) fn take_all<R: Source, W: Sink>(
         &mut self,
-        first: &[u8],
+        dump: &mut Dump,
+        is_dump: bool,
+        first: &mut [u8],
         is_ended: bool,
         reader: &mut R,
         writer: &mut W,
@@ -114,7 +155,7 @@ impl Explainer {
         requires fine { R.state reader.old ≡ Worst.Fine }
         requires whole { W.broken writer.old ≡ false }
         requires ended { IsTrue is_ended → IsAtEnd (R.left reader.old) }
-        requires size { length first.now ≤ 64 }
+        requires size { length first.old ≤ 64 }
         requires begins { self.old.seen ≡ 0 }
         ensures read { R.state reader.new ≢ Worst.Fine → result ≡ Err ExplainFault.Read }
         ensures read_only { result ≡ Err ExplainFault.Read
@@ -123,22 +164,26 @@ impl Explainer {
         ensures tells { (max : ℕ) (before : Option (List ℕ))
             → Progress max (W.contents writer.old) [] self.old
             (W.broken writer.old) (W.contents writer.old)
-            → Consumes before (R.left reader.old) first.now
+            → Consumes before (R.left reader.old) first.old
             → (seen : List ℕ) × (length seen ≡ self.new.seen)
             × Consumes before (R.left reader.new) seen
-            × Tells self.old.decoder.form self.old.lines.style max seen (R.left reader.new)
+            × (dump.new ≡ dump_by is_dump dump.old seen)
+            × Tells self.old.decoder.form self.old.lines.style max
+            (shown_by is_dump dump.old.place seen) (R.left reader.new)
             (W.contents writer.old) (W.contents writer.new) result }
     {
         let mut piece = [0; PIECE];
         let mut bytes = [0; PIECE];
-        self.take(writer, first, &mut bytes)?;
+        self.take_piece(dump, is_dump, writer, first, &mut bytes)?;
         if is_ended {
             return self.finish(writer);
         }
         while self.seen < u64::MAX {
             match read_within(reader, &mut piece, u64::MAX - self.seen) {
                 Got::Bytes(0) => return self.finish(writer),
-                Got::Bytes(n) => self.take(writer, &piece[..n], &mut bytes)?,
+                Got::Bytes(n) => {
+                    self.take_piece(dump, is_dump, writer, &mut piece[..n], &mut bytes)?
+                }
                 Got::Idle | Got::Failed => return Err(ExplainFault::Read),
             }
         }

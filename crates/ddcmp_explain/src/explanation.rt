@@ -13,6 +13,7 @@ use crate::form::Form;
 use crate::notation::Notation;
 use crate::style::Style;
 use ddcmp_frame::Reader;
+use ddcmp_input::Dump;
 use ddcmp_io::{Sink, Source, Worst};
 use std::alloc::Global;
 
@@ -56,7 +57,7 @@ pub fn explain_as<R: Source, W: Sink>(
 /// Explains an input of which `first` was read (all of it if `is_ended`).
 pub(crate) fn explain_opened<R: Source, W: Sink>(
     frames: Reader,
-    first: &[u8],
+    first: &mut [u8],
     is_ended: bool,
     reader: &mut R,
     writer: &mut W,
@@ -67,14 +68,14 @@ pub(crate) fn explain_opened<R: Source, W: Sink>(
     requires fine { R.state reader.old ≡ Worst.Fine }
     requires whole { W.broken writer.old ≡ false }
     requires ended { IsTrue is_ended → IsAtEnd (R.left reader.old) }
-    requires size { length first.now ≤ 64 }
-    ensures { (before : Option (List ℕ)) → Consumes before (R.left reader.old) first.now
+    requires size { length first.old ≤ 64 }
+    ensures { (before : Option (List ℕ)) → Consumes before (R.left reader.old) first.old
         → IsExplained form style frames.max
         (source_change before (R.left reader.new) (R.state reader.new))
         (sink_change (W.contents writer.old) (W.contents writer.new) (W.broken writer.new)) result }
 {
     let mut explainer = Explainer::new(frames, form, style);
-    explainer.take_all(first, is_ended, reader, writer)
+    explainer.take_all(&mut Dump::new(), false, first, is_ended, reader, writer)
 }
 
 /// Writes the line of each item that the input encodes, and a last line of totals, in a style: with
@@ -95,7 +96,7 @@ pub fn explain_with<R: Source, W: Sink>(
         (sink_change (W.contents writer.old) (W.contents writer.new) (W.broken writer.new)) result }
 {
     match Reader::new(alloc, max) {
-        Ok(frames) => explain_opened(frames, &[], false, reader, writer, form, style),
+        Ok(frames) => explain_opened(frames, &mut [], false, reader, writer, form, style),
         Err(_refused) => Err(ExplainFault::Memory),
     }
 }

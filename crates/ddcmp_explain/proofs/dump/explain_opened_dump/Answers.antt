@@ -11,18 +11,18 @@ use Rattle.ddcmp_explain.proofs.dump.explain_opened_dump.Goals.{After-drop-expla
 
 saw : (g : _) (c : After-drop-explainer g) (before : Option (List ℕ))
     → Consumes before (g.R.Source.left c.args.reader.now) c.args.first.now
-    → SawDump c.args.style c.args.frames.max c.take_dump-explained.new.explainer.seen
-    c.take_dump-explained.new.dump before (g.R.Source.left c.take_dump-explained.new.reader)
-    (g.W.Sink.contents c.args.writer.now) (g.W.Sink.contents c.take_dump-explained.new.writer)
-    c.take_dump-explained.result
+    → SawDump c.args.style c.args.frames.max c.take_all-explained.new.self.seen
+    c.take_all-explained.new.dump before (g.R.Source.left c.take_all-explained.new.reader)
+    (g.W.Sink.contents c.args.writer.now) (g.W.Sink.contents c.take_all-explained.new.writer)
+    c.take_all-explained.result
 saw g c before opened =
-    let n = c.take_dump-explained.new.explainer.seen in
+    let n = c.take_all-explained.new.self.seen in
     let max = c.args.frames.max in
-    let dump = c.take_dump-explained.new.dump in
-    let left = g.R.Source.left c.take_dump-explained.new.reader in
+    let dump = c.take_all-explained.new.dump in
+    let left = g.R.Source.left c.take_all-explained.new.reader in
     let old = g.W.Sink.contents c.args.writer.now in
-    let new = g.W.Sink.contents c.take_dump-explained.new.writer in
-    let result = c.take_dump-explained.result in
+    let new = g.W.Sink.contents c.take_all-explained.new.writer in
+    let result = c.take_all-explained.result in
     let begun =
     subst (λ b. Progress max old [] c.new-explainer.result b old)
     (sym c.requires.whole) (c.new-explainer.ensures.progress old) in
@@ -36,17 +36,17 @@ saw g c before opened =
     (λ style. SawFrom c.new-explainer.result.decoder.form style max n c.new-dump.result dump before
     left old new result)
     c.new-explainer.ensures.style
-    (c.take_dump-explained.ensures.tells max before begun opened)))
+    (c.take_all-explained.ensures.tells max before begun opened)))
 
 pub returns : goal.returns
 returns g c = λ before opened.
-    let n = c.take_dump-explained.new.explainer.seen in
+    let n = c.take_all-explained.new.self.seen in
     let max = c.args.frames.max in
-    let dump = c.take_dump-explained.new.dump in
-    let left = g.R.Source.left c.take_dump-explained.new.reader in
+    let dump = c.take_all-explained.new.dump in
+    let left = g.R.Source.left c.take_all-explained.new.reader in
     let old = g.W.Sink.contents c.args.writer.now in
-    let new = g.W.Sink.contents c.take_dump-explained.new.writer in
-    let explained = c.take_dump-explained.result in
+    let new = g.W.Sink.contents c.take_all-explained.new.writer in
+    let explained = c.take_all-explained.result in
     let s = saw g c before opened in
     record {
       told =
@@ -54,17 +54,17 @@ returns g c = λ before opened.
           c.answer.ensures;
       ok = λ input e.
           ok-dump c.args.style max n dump input left old new explained c.answer.result
-          (g.R.Source.state c.take_dump-explained.new.reader)
-          (g.W.Sink.broken c.take_dump-explained.new.writer)
+          (g.R.Source.state c.take_all-explained.new.reader)
+          (g.W.Sink.broken c.take_all-explained.new.writer)
           (subst (λ b. SawDump c.args.style max n dump b left old new explained) e s)
-          c.answer.ensures c.take_dump-explained.ensures.read
-          c.take_dump-explained.ensures.read_only c.take_dump-explained.ensures.write;
+          c.answer.ensures c.take_all-explained.ensures.read
+          c.take_all-explained.ensures.read_only c.take_all-explained.ensures.write;
       read = read-dump _ dump explained c.answer.result c.answer.ensures
-          c.take_dump-explained.ensures.read;
+          c.take_all-explained.ensures.read;
       read_only =
           read-only-dump c.args.style max n dump before left old new explained c.answer.result
-          (g.R.Source.state c.take_dump-explained.new.reader ≢ Fine) s c.answer.ensures
-          c.take_dump-explained.ensures.read_only;
+          (g.R.Source.state c.take_all-explained.new.reader ≢ Fine) s c.answer.ensures
+          c.take_all-explained.ensures.read_only;
       write = write-dump _ dump explained c.answer.result c.answer.ensures
-          c.take_dump-explained.ensures.write;
+          c.take_all-explained.ensures.write;
     }

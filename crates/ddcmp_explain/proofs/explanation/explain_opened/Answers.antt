@@ -22,6 +22,7 @@ module _ (g : _) (c : After-drop-explainer g) (before : Option (List ℕ))
       let begun =
       subst (λ b. Progress max old [] c.new-explainer.result b old)
       (sym c.requires.whole) (c.new-explainer.ensures.progress old) in
+      let s = c.take_all.ensures.tells max before begun opened in
       subst (λ form. Saw form c.args.style max c.take_all.new.self.seen before left old new
       c.take_all.result)
       c.new-explainer.ensures.form
@@ -29,7 +30,7 @@ module _ (g : _) (c : After-drop-explainer g) (before : Option (List ℕ))
       (λ style. Saw c.new-explainer.result.decoder.form style max c.take_all.new.self.seen
       before left old new c.take_all.result)
       c.new-explainer.ensures.style
-      (c.take_all.ensures.tells max before begun opened))
+      (s.0, s.1, s.2, s.4))
 
   told : (input : List ℕ) → before ≡ Some input
       → Explains c.args.form c.args.style c.args.frames.max input

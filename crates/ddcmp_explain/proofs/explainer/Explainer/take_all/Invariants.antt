@@ -2,7 +2,7 @@ use Rattle.std.proofs.Common.{◌≡◌, ◌-◌, ◌^◌, [], ℕ, List, Option
 use Rattle.std.specs.Io.KnownBytes.{Consumes}
 use Rattle.ddcmp_io.specs.declared.device.Worst.TheVariants.{Fine}
 use Rattle.ddcmp_explain.specs.Inside.Progress.{Progress}
-use Rattle.ddcmp_explain.proofs.TakeLaws.{SoFar}
+use Rattle.ddcmp_explain.proofs.PieceLaws.{SoFar}
 use Rattle.ddcmp_explain.proofs.explainer.Explainer.take_all.Given as goal
 
 abbrev pub invariant-loop-self : goal.invariant-loop-self
@@ -16,8 +16,9 @@ invariant-loop-self g l = record {
       → Progress max (g.W.Sink.contents l.fn.writer) [] l.fn.self
       (g.W.Sink.broken l.fn.writer) (g.W.Sink.contents l.fn.writer)
       → Consumes before (g.R.Source.left l.fn.reader) l.fn.first
-      → SoFar max (g.W.Sink.contents l.fn.writer) before (g.R.Source.left l.reader) l.self
-      (g.W.Sink.broken l.writer) (g.W.Sink.contents l.writer);
+      → SoFar l.fn.is_dump max (g.W.Sink.contents l.fn.writer) before
+      (g.R.Source.left l.reader) l.fn.dump l.dump l.self (g.W.Sink.broken l.writer)
+      (g.W.Sink.contents l.writer);
 }
 
 abbrev pub decreases-loop-self : goal.decreases-loop-self
