@@ -10,8 +10,8 @@ use Rattle.ddcmp_device.specs.declared.bridge.BridgeFault.TheVariants as bridgin
 use Rattle.ddcmp_device.specs.Events.{open_fault_text}
 use Rattle.ddcmp_explain.specs.declared.notation.Notation.{Notation}
 use Rattle.ddcmp_explain.specs.declared.notation.Notation.TheVariants as words
-use Rattle.ddcmp_tap.specs.declared.notation.LogNotation.{LogNotation}
-use Rattle.ddcmp_tap.specs.declared.notation.LogNotation.TheVariants.{Plain, Ladder, Json}
+use Rattle.ddcmp_log.specs.declared.notation.LogNotation.{LogNotation}
+use Rattle.ddcmp_log.specs.declared.notation.LogNotation.TheVariants.{Plain, Ladder, Json}
 use Rattle.ddcmp_args.specs.declared.bridge_args.BridgeArgs.{BridgeArgs}
 use Rattle.ddcmp_commands.specs.declared.fault.Fault.TheVariants.{Write, Memory, Ended}
 use Rattle.ddcmp_commands.specs.declared.ending.Ending.{Ending}

@@ -10,7 +10,7 @@ use ddcmp_commands::{Ending, Fault, TWO_NOTATIONS, is_json};
 use ddcmp_device::{BridgeEnd, BridgeFault, BridgeOptions, LineName};
 use ddcmp_explain::Notation;
 use ddcmp_io::Sink;
-use ddcmp_tap::LogNotation;
+use ddcmp_log::LogNotation;
 use std::alloc::Global;
 
 /// The usage error for a LINE that isn't one.

@@ -6,8 +6,8 @@ use Rattle.std.specs.Io.KnownBytes.{Keeps}
 use Rattle.ddcmp_io.specs.Written.{Known}
 use Rattle.ddcmp_explain.specs.declared.notation.Notation.{Notation}
 use Rattle.ddcmp_explain.specs.declared.notation.Notation.TheVariants.{Plain, Json}
-use Rattle.ddcmp_tap.specs.declared.notation.LogNotation.{LogNotation}
-use Rattle.ddcmp_tap.specs.declared.notation.LogNotation.TheVariants as told
+use Rattle.ddcmp_log.specs.declared.notation.LogNotation.{LogNotation}
+use Rattle.ddcmp_log.specs.declared.notation.LogNotation.TheVariants as told
 use Rattle.ddcmp_args.specs.declared.tap_args.TapArgs.{TapArgs}
 use Rattle.ddcmp_tap.specs.declared.tap_fault.CarrierFault.{CarrierFault}
 use Rattle.ddcmp_tap.specs.declared.tap_fault.TapFault.{TapFault}

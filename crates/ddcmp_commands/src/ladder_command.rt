@@ -11,7 +11,8 @@ use crate::origin::written;
 use ddcmp_args::ExplainArgs;
 use ddcmp_explain::DetectedFault;
 use ddcmp_io::{Sink, Source};
-use ddcmp_tap::{Capture, DrawFault, NoMemory, Side, draw_captures};
+use ddcmp_log::{NoMemory, Side};
+use ddcmp_tap::{Capture, DrawFault, draw_captures};
 use std::alloc::Global;
 use std::cell::RefCell;
 

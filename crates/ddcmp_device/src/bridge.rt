@@ -14,8 +14,8 @@ use crate::line_name::LineName;
 use crate::system::System;
 use ddcmp_bridge::{Bridge, BridgeStop, Counts, Faults, LinePair};
 use ddcmp_io::{Down, End};
+use ddcmp_log::{LogNotation, NoMemory, Side};
 use ddcmp_station::{Clock, Elapsed};
-use ddcmp_tap::{LogNotation, NoMemory, Side};
 use std::alloc::Global;
 use std::fs::{File, Files};
 use std::io::Eprint;
@@ -218,7 +218,7 @@ impl<C: Clock + Drop> Ways<C> {
                 return Ok(ways.end(joined.has_failed));
             }
             openings.lines_ended(ways.has_passed(), ways.clock.now(), &mut ways.errors);
-            ways.restart(alloc);
+            ways.restart();
         }
         Ok(ways.end(false))
     }
@@ -284,12 +284,12 @@ impl<C: Clock + Drop> Ways<C> {
     }
 
     /// Prepares for two other lines: drops what wasn't passed on, and keeps the counters.
-    fn restart(&mut self, alloc: Global) {
+    fn restart(&mut self) {
         self.earlier_there = self.earlier_there.plus(self.bridge.counts(End::A));
         self.earlier_back = self.earlier_back.plus(self.bridge.counts(End::B));
         self.bridge.restart();
-        self.there.restart(alloc);
-        self.back.restart(alloc);
+        self.there.restart();
+        self.back.restart();
     }
 
     /// Returns the counters of all lines.

@@ -78,14 +78,13 @@ impl Intake {
         }
     }
 
-    /// Prepares for another line, with a new log; if an allocation fails there is none any more.
-    pub(crate) fn restart(&mut self, alloc: Global)
+    /// Prepares for another line, with a new log.
+    pub(crate) fn restart(&mut self)
         ensures { self.new.cut ≡ self.old.cut }
     {
-        self.trace = match &self.trace {
-            Some(trace) => trace.restarted(alloc).ok(),
-            None => None,
-        };
+        if let Some(trace) = &mut self.trace {
+            trace.restart();
+        }
     }
 
     /// Returns why received bytes couldn't be saved, if that failed.

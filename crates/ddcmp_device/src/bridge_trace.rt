@@ -2,24 +2,23 @@
 use crate::bridge_errors::BridgeErrors;
 use ddcmp_bridge::Fate;
 use ddcmp_frame::MAX_COUNT;
-use ddcmp_tap::{Direction, LogNotation, NoMemory, Side};
+use ddcmp_io::MemorySink;
+use ddcmp_log::{ItemLog, LogNotation, NoMemory, Side};
 use std::alloc::Global;
 use std::{fmt, str};
 
-/// The log of one direction: the lines of a tap, and what the bridge did to a frame.
+/// The log of one direction: a line for each frame, and what the bridge did to it.
 pub(crate) struct BridgeTrace {
-    direction: Direction,
-    notation: LogNotation,
-    side: Side,
+    log: ItemLog,
+    text: MemorySink,
 }
 
 // Manual, since a derived `Drop` would be expanded wherever a value is dropped.
 impl Drop for BridgeTrace {
     fn drop(self) {
         let BridgeTrace {
-            direction: _direction,
-            notation: _,
-            side: _,
+            log: _log,
+            text: _text,
         } = self;
     }
 }
@@ -31,17 +30,15 @@ impl BridgeTrace {
         notation: LogNotation,
         side: Side,
     ) -> Result<BridgeTrace, NoMemory> {
-        let direction = Direction::new(alloc, side, notation, MAX_COUNT)?;
         Ok(BridgeTrace {
-            direction,
-            notation,
-            side,
+            log: ItemLog::new(alloc, side, notation, MAX_COUNT)?,
+            text: MemorySink::new(alloc),
         })
     }
 
-    /// Makes the log of another line on the same side.
-    pub(crate) fn restarted(&self, alloc: Global) -> Result<BridgeTrace, NoMemory> {
-        BridgeTrace::new(alloc, self.notation, self.side)
+    /// Begins the log of another line on the same side.
+    pub(crate) fn restart(&mut self) {
+        self.log.restart();
     }
 
     /// Queues the lines of received bytes, and the fate of the frame that they completed. Lines for
@@ -53,13 +50,12 @@ impl BridgeTrace {
         bytes: &[u8],
         fate: Option<Fate>,
     ) {
-        if bytes.len() > self.direction.room() {
+        if bytes.len() as u64 >= self.log.room() {
             return;
         }
-        self.direction.push(bytes);
-        self.direction.took(self.direction.waiting().len());
-        if self.direction.explain(Some(now)).is_ok() {
-            errors.write_lines(str::from_utf8(self.direction.text()).unwrap_or(""));
+        self.text.clear();
+        if self.log.log(&mut self.text, Some(now), bytes).is_ok() {
+            errors.write_lines(str::from_utf8(self.text()).unwrap_or(""));
         }
         match fate {
             Some(fate @ (Fate::Lost | Fate::Altered { .. })) => {
@@ -69,16 +65,21 @@ impl BridgeTrace {
         }
     }
 
+    /// Returns the lines that were made last.
+    fn text(&self) -> &[u8] {
+        self.text.bytes.as_slice()
+    }
+
     /// Returns the line of what the bridge did to a frame.
     fn line_of(&self, now: u64, fate: Fate) -> FateLine {
         FateLine {
             now,
-            mark: match self.side {
+            mark: match self.log.side() {
                 Side::Caller => ">",
                 Side::Called => "<",
             },
             fate,
-            is_object: matches!(self.notation, LogNotation::Json),
+            is_object: matches!(self.log.notation(), LogNotation::Json),
         }
     }
 }

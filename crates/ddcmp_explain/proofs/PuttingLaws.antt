@@ -1,7 +1,8 @@
 -- Texts that are put one after another, and the digits of numbers.
 use Rattle.std.proofs.Common.{◌≡◌, ℕ, zero, suc, ◌+◌, ◌-◌, ◌/◌, ◌%◌, ◌^◌, ◌<◌, ◌≤◌, List, [], ◌∷◌}
 use Rattle.std.proofs.Common.{◌++◌, length, take, map, get_or, refl, sym, ◌∙◌, ap, drop, subst}
-use Rattle.std.proofs.Common.{arith, append_assoc, length-append, Bool, true, false, inl, inr}
+use Rattle.std.proofs.Common.{arith, append_assoc, length-append, length-drop, take_all}
+use Rattle.std.proofs.Common.{Bool, true, false, inl, inr}
 use Rattle.std.specs.Prelude.{◌*◌, ◌&&◌, nat_lt}
 use Rattle.std.proofs.lemmas.Bool.{cases_lt}
 use Rattle.std.proofs.lemmas.Nat.{leading_top}
@@ -45,6 +46,13 @@ puts-front {a} {b} {i} {j} {s} k inside short p =
 -- what stands in an array that held nothing
 pub puts-whole : {a b : List ℕ} {k : ℕ} {t : List ℕ} → Puts a 0 b k t → take k b ≡ t
 puts-whole p = p.holds
+
+-- the same without its first bytes
+pub puts-rest : {a b : List ℕ} {k : ℕ} {t : List ℕ} (n : ℕ) → Puts a 0 b k t
+    → take (length (take k b) - n) (drop n (take k b)) ≡ drop n t
+puts-rest {a} {b} {k} {t} n p =
+    take_all (length (take k b) - n) (drop n (take k b)) (omega (arith, length-drop n (take k b)))
+    ∙ ap (drop n) p.holds
 
 -- ---- numbers
 

@@ -1,5 +1,5 @@
 //! The lines of bytes that belong to no item.
-ghost use Rattle.std.specs.Prelude.{◌≡◌, ◌+◌, ◌≤◌, Option};
+ghost use Rattle.std.specs.Prelude.{◌≡◌, ◌+◌, ◌≤◌, Option, drop};
 ghost use Rattle.ddcmp_io.specs.Written.{HandsOver, output_of};
 ghost use Rattle.ddcmp_explain.specs.Discarded.{open_end, open_front};
 ghost use Rattle.ddcmp_explain.specs.Discarded.{open_length as length_of_open, open_text};
@@ -9,43 +9,48 @@ ghost use Rattle.ddcmp_explain.specs.Inside.Putting.{Puts};
 use crate::json::{put_header as put_json_header, put_start};
 use crate::notation::Notation;
 use crate::put::{LINE, put, put_number};
+use crate::skipped::Skipped;
 use crate::text::put_header;
 use ddcmp_frame::Header;
 use ddcmp_io::{Page, Sink};
 
-fn put_skipped(line: &mut [u8; LINE], notation: Notation, from: u64, count: u64) -> usize
-    ensures puts { Puts line.old 0 line.new result (passed_text notation from count) }
+fn put_skipped(line: &mut [u8; LINE], notation: Notation, it: Skipped) -> usize
+    ensures puts { Puts line.old 0 line.new result (passed_text notation it.from it.count) }
+    ensures some { 1 ≤ result }
     ensures within { result ≤ 80 }
 {
     match notation {
         Notation::Plain => {
-            let after_offset = put_number(line, 0, from);
+            let after_offset = put_number(line, 0, it.from);
             let at_count = put(line, after_offset, b" discarded ");
-            let after_count = put_number(line, at_count, count);
+            let after_count = put_number(line, at_count, it.count);
             put(line, after_count, b"\n")
         }
         Notation::Json => {
-            let at_count = put_start(line, from, b",\"discarded\":");
-            let after_count = put_number(line, at_count, count);
+            let at_count = put_start(line, it.from, b",\"discarded\":");
+            let after_count = put_number(line, at_count, it.count);
             put(line, after_count, b"}\n")
         }
     }
 }
 
-/// Writes the line of skipped bytes: the offset of the first, and how many.
+/// Writes the line of skipped bytes, the offset of the first and how many, without its first `from`
+/// bytes.
 pub fn write_discarded<W: Sink>(
     page: &mut Page,
     writer: &mut W,
     notation: Notation,
-    from: u64,
-    count: u64,
+    it: Skipped,
+    from: usize,
 )
+    requires { from ≤ 1 }
     ensures { HandsOver (output_of W.broken W.contents writer.old page.old)
-        (output_of W.broken W.contents writer.new page.new) (passed_text notation from count) }
+        (output_of W.broken W.contents writer.new page.new)
+        (drop from (passed_text notation it.from it.count)) }
 {
     let mut line = [0; LINE];
-    let end = put_skipped(&mut line, notation, from, count);
-    page.write(writer, &line[..end]);
+    let end = put_skipped(&mut line, notation, it);
+    page.write(writer, &line[..end][from..]);
 }
 
 /// Puts the line of an incomplete frame, up to its numbers, as plain text; returns where it ends.

@@ -147,6 +147,7 @@ fn put_fault(line: &mut [u8; LINE], at: usize, fault: &HeaderFault) -> usize
 pub(crate) fn put_start(line: &mut [u8; LINE], offset: u64, text: &[u8]) -> usize
     requires { length text.now ≤ 22 }
     ensures puts { Puts line.old 0 line.new result (json_start offset ++ text.now) }
+    ensures some { 1 ≤ result }
     ensures within { result ≤ 30 + length text.now }
 {
     let at_offset = put(line, 0, b"{\"offset\":");
@@ -169,6 +170,7 @@ fn put_damaged(line: &mut [u8; LINE], at: usize, header: &Header) -> usize
 #[tactic(auto, unfolding(crate::specs::Json::json_item))]
 fn put_item(line: &mut [u8; LINE], item: &Item) -> usize
     ensures puts { Puts line.old 0 line.new result (json_item item.now) }
+    ensures some { 1 ≤ result }
     ensures within { result ≤ 161 }
 {
     match item {
@@ -205,6 +207,7 @@ fn item_end(item: &Item) -> &'static [u8]
 #[inline(never)]
 pub(crate) fn put_json_front(line: &mut [u8; LINE], item: &Item) -> usize
     ensures puts { Puts line.old 0 line.new result (json_front item.now) }
+    ensures some { 1 ≤ result }
     ensures within { result ≤ 170 }
 {
     let after_item = put_item(line, item);
@@ -221,6 +224,7 @@ pub(crate) fn put_json_totals(
     left_open: u64,
 ) -> usize
     ensures puts { Puts line.old 0 line.new result (json_totals items bytes left_open) }
+    ensures some { 1 ≤ result }
     ensures within { result ≤ 90 }
 {
     let at_items = put(line, 0, b"{\"items\":");

@@ -44,7 +44,7 @@ pub use explanation::{explain, explain_as, explain_with};
 pub use form::Form;
 pub use input_bytes::{InputBytes, InputForm};
 pub use label::{LABEL_ROOM, label_frame, label_item};
-pub use notation::{Notation, write_item, write_last};
+pub use notation::{Notation, write_item, write_last, write_words};
 pub use reasons::reason_name;
 pub use skipped::{Reached, Skipped, reached_by};
 pub use style::Style;

@@ -90,6 +90,7 @@ impl Lines {
                 self.style.notation,
                 &item,
                 data,
+                0,
             );
             return end + 2;
         }
@@ -105,6 +106,7 @@ impl Lines {
                     self.style.notation,
                     &item,
                     data,
+                    0,
                 );
             }
             None => {}
@@ -134,7 +136,7 @@ impl Lines {
                 self.is_found = finds_good(self.is_found, &item);
                 self.reach(writer, &item);
                 let data = self.frames.data();
-                write_item(&mut self.page, writer, self.style.notation, &item, data);
+                write_item(&mut self.page, writer, self.style.notation, &item, data, 0);
             }
             None => {}
         }
@@ -173,13 +175,7 @@ impl Lines {
     {
         match self.reached.skipped_to(to) {
             Some(it) => {
-                write_discarded(
-                    &mut self.page,
-                    writer,
-                    self.style.notation,
-                    it.from,
-                    it.count,
-                );
+                write_discarded(&mut self.page, writer, self.style.notation, it, 0);
             }
             None => {}
         }
@@ -298,6 +294,7 @@ impl Lines {
             self.items,
             bytes,
             left_open,
+            0,
         );
         self.page.flush(writer)
     }

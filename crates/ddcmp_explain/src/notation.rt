@@ -1,12 +1,13 @@
 //! The notation of lines.
-ghost use Rattle.std.specs.Prelude.{◌≤◌};
+ghost use Rattle.std.specs.Prelude.{◌≤◌, drop};
 ghost use Rattle.ddcmp_io.specs.Written.{HandsOver, output_of};
 ghost use Rattle.ddcmp_explain.specs.Output.{after_in, front_in, line_in, totals_in};
 ghost use Rattle.ddcmp_explain.specs.Inside.Putting.{Puts};
+ghost use Rattle.ddcmp_explain.specs.Text.{item_text};
 
 use crate::json::{put_json_front, put_json_totals};
 use crate::put::LINE;
-use crate::text::{lends, put_front, put_totals};
+use crate::text::{lends, put_front, put_item, put_totals};
 use ddcmp_frame::Item;
 use ddcmp_io::text::write_hex;
 use ddcmp_io::{Page, Sink};
@@ -25,6 +26,7 @@ impl Notation {
     #[inline(always)]
     fn put_front(self, line: &mut [u8; LINE], item: &Item) -> usize
         ensures puts { Puts line.old 0 line.new result (front_in self item.now) }
+        ensures some { 1 ≤ result }
         ensures within { result ≤ 170 }
     {
         match self {
@@ -48,6 +50,7 @@ impl Notation {
     /// Puts the last line; returns where it ends.
     fn put_totals(self, line: &mut [u8; LINE], items: u64, bytes: u64, left_open: u64) -> usize
         ensures puts { Puts line.old 0 line.new result (totals_in self items bytes left_open) }
+        ensures some { 1 ≤ result }
         ensures within { result ≤ 90 }
     {
         match self {
@@ -57,20 +60,22 @@ impl Notation {
     }
 }
 
-/// Writes the line of an item, with its data.
+/// Writes the line of an item, with its data, without its first `from` bytes.
 pub fn write_item<W: Sink>(
     page: &mut Page,
     writer: &mut W,
     notation: Notation,
     item: &Item,
     data: &[u8],
+    from: usize,
 )
+    requires { from ≤ 1 }
     ensures { HandsOver (output_of W.broken W.contents writer.old page.old)
         (output_of W.broken W.contents writer.new page.new)
-        (line_in notation (item.now, «data».now)) }
+        (drop from (line_in notation (item.now, «data».now))) }
 {
     let mut line = [0; LINE];
-    write_item_by(&mut line, page, writer, notation, item, data);
+    write_item_by(&mut line, page, writer, notation, item, data, from);
 }
 
 /// Does the same by way of `line`, which it overwrites and which needn't be cleared for each item.
@@ -82,21 +87,33 @@ pub(crate) fn write_item_by<W: Sink>(
     notation: Notation,
     item: &Item,
     data: &[u8],
+    from: usize,
 )
+    requires { from ≤ 1 }
     ensures { HandsOver (output_of W.broken W.contents writer.old page.old)
         (output_of W.broken W.contents writer.new page.new)
-        (line_in notation (item.now, «data».now)) }
+        (drop from (line_in notation (item.now, «data».now))) }
 {
     let end = notation.put_front(line, item);
-    page.write(writer, &line[..end]);
+    page.write(writer, &line[..end][from..]);
     if lends(item) {
         write_hex(page, writer, data);
         notation.write_after(page, writer);
     }
 }
 
+/// Writes an item in words, without its data and the end of its line.
+pub fn write_words<W: Sink>(page: &mut Page, writer: &mut W, item: &Item)
+    ensures { HandsOver (output_of W.broken W.contents writer.old page.old)
+        (output_of W.broken W.contents writer.new page.new) (item_text item.now) }
+{
+    let mut line = [0; LINE];
+    let end = put_item(&mut line, item);
+    page.write(writer, &line[..end]);
+}
+
 /// Writes the last line: how many items, how many bytes, and how many of these in the incomplete
-/// frame.
+/// frame; without its first `from` bytes.
 pub fn write_last<W: Sink>(
     page: &mut Page,
     writer: &mut W,
@@ -104,12 +121,14 @@ pub fn write_last<W: Sink>(
     items: u64,
     bytes: u64,
     left_open: u64,
+    from: usize,
 )
+    requires { from ≤ 1 }
     ensures { HandsOver (output_of W.broken W.contents writer.old page.old)
         (output_of W.broken W.contents writer.new page.new)
-        (totals_in notation items bytes left_open) }
+        (drop from (totals_in notation items bytes left_open)) }
 {
     let mut line = [0; LINE];
     let end = notation.put_totals(&mut line, items, bytes, left_open);
-    page.write(writer, &line[..end]);
+    page.write(writer, &line[..end][from..]);
 }

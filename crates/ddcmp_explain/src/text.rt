@@ -146,7 +146,7 @@ fn put_labelled<const N: usize>(
 /// Puts the text of an item, without its data.
 #[tactic(auto, unfolding(crate::specs::Text::item_text))]
 #[inline(always)]
-fn put_item(line: &mut [u8; LINE], item: &Item) -> usize
+pub(crate) fn put_item(line: &mut [u8; LINE], item: &Item) -> usize
     ensures puts { Puts line.old 0 line.new result (item_text item.now) }
     ensures within { result ≤ 98 }
 {
@@ -193,6 +193,7 @@ fn item_end(item: &Item) -> &'static [u8; 1]
 #[inline(always)]
 pub(crate) fn put_front(line: &mut [u8; LINE], item: &Item) -> usize
     ensures puts { Puts line.old 0 line.new result (front_text item.now) }
+    ensures some { 1 ≤ result }
     ensures within { result ≤ 99 }
 {
     let after_item = put_item(line, item);
@@ -203,6 +204,7 @@ pub(crate) fn put_front(line: &mut [u8; LINE], item: &Item) -> usize
 /// frame; returns where it ends.
 pub(crate) fn put_totals(line: &mut [u8; LINE], items: u64, bytes: u64, left_open: u64) -> usize
     ensures puts { Puts line.old 0 line.new result (totals items bytes left_open) }
+    ensures some { 1 ≤ result }
     ensures within { result ≤ 80 }
 {
     let at_items = put(line, 0, b"items=");

@@ -1,4 +1,3 @@
 pub mod ErrorsLaws
 pub mod HeardLaws
 pub mod JunkLaws
-pub mod TraceLaws

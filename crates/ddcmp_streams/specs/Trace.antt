@@ -5,23 +5,18 @@ use Rattle.std.specs.Prelude.{if◌then◌else◌, Option, Some, None, IfSome}
 use Rattle.std.specs.List.{list_any, position_from}
 use Rattle.std.specs.Option.{option_map}
 use Rattle.ddcmp_frame.specs.declared.codes.TheConstants.{SYN}
-use Rattle.ddcmp_frame.specs.declared.header.ControlType.{ControlType}
-use Rattle.ddcmp_frame.specs.declared.header.ControlType.TheVariants.{Ack, Nak, Rep, Strt, Stack}
-use Rattle.ddcmp_frame.specs.declared.header.Header.TheVariants.{Data, Maint, Control}
 use Rattle.ddcmp_frame.specs.declared.item.Item.{Item}
-use Rattle.ddcmp_frame.specs.declared.item.Item.TheVariants.{Good, HeaderCheck, DataCheck, TooLong}
-use Rattle.ddcmp_frame.specs.declared.item.Item.TheVariants.{Format}
-use Rattle.ddcmp_frame.specs.declared.nak.Nak.{Nak as Reason}
-use Rattle.ddcmp_frame.specs.Naks.{reason_of}
 use Rattle.ddcmp_frame.specs.Reader.{ReaderView, StandsFor, items_given}
 use Rattle.ddcmp_frame.specs.Reading.{ReadItem, ending, items}
 use Rattle.ddcmp_frame.specs.Step.{item_offset}
 use Rattle.ddcmp_explain.specs.declared.skipped.Reached.{Reached}
 use Rattle.ddcmp_explain.specs.declared.skipped.Skipped.{Skipped}
-use Rattle.ddcmp_explain.specs.declared.notation.Notation.TheVariants.{Plain}
+use Rattle.ddcmp_explain.specs.declared.notation.Notation.TheVariants as wording
 use Rattle.ddcmp_explain.specs.Discarded.{behind, passed_text, taken_by}
-use Rattle.ddcmp_explain.specs.Json.{reason_in_words}
-use Rattle.ddcmp_explain.specs.Text.{data_text, item_text}
+use Rattle.ddcmp_log.specs.declared.side.Side.{Side}
+use Rattle.ddcmp_log.specs.declared.side.Side.TheVariants.{Caller, Called}
+use Rattle.ddcmp_log.specs.Logged.{fronted}
+use Rattle.ddcmp_log.specs.Reasons.{reasoned_line}
 use Rattle.ddcmp_streams.specs.declared.errors.TheConstants.{LAST_ROOM}
 use Rattle.ddcmp_streams.specs.declared.skipped.Completed.{Completed}
 use Rattle.ddcmp_streams.specs.declared.skipped.TheConstants.{DEL}
@@ -124,44 +119,19 @@ TakesByte old byte given new =
 
 -- ---- lines
 
-abbrev pub mark_of : Way → List ℕ
-mark_of ToLine = codes " > "
-mark_of FromLine = codes " < "
-
--- why a NAK was sent
-abbrev pub reason_by : ControlType → ℕ → Option Reason
-reason_by Nak sub = Some (reason_of sub)
-reason_by Ack sub = None
-reason_by Rep sub = None
-reason_by Strt sub = None
-reason_by Stack sub = None
-
-abbrev pub reason_in : Item → Option Reason
-reason_in (Good offset (Control h)) = reason_by h.kind h.sub
-reason_in (Good offset (Data h)) = None
-reason_in (Good offset (Maint h)) = None
-reason_in (HeaderCheck offset) = None
-reason_in (DataCheck offset h) = None
-reason_in (TooLong offset h) = None
-reason_in (Format offset fault) = None
-
-abbrev pub reason_text : Option Reason → List ℕ
-reason_text None = []
-reason_text (Some reason) = codes " (" ++ reason_in_words reason ++ codes ")"
-
--- each line begins with the moment and the direction
-abbrev pub front_of : ℕ → Way → List ℕ
-front_of now way = decimal now ++ mark_of way
+-- the side of the line that bytes come from: this end is on the left
+abbrev pub side_of : Way → Side
+side_of ToLine = Caller
+side_of FromLine = Called
 
 -- an item with its data
 abbrev pub item_line : ℕ → Way → ReadItem → List ℕ
-item_line now way given =
-    front_of now way ++ item_text given.0 ++ data_text given.0 given.1
-    ++ reason_text (reason_in given.0) ++ codes "\n"
+item_line now way given = reasoned_line (Some now) (side_of way) given
 
 -- discarded bytes
 abbrev pub skipped_line : ℕ → Way → Skipped → List ℕ
-skipped_line now way it = front_of now way ++ passed_text Plain it.from it.count
+skipped_line now way it =
+    fronted wording.Plain (Some now) (side_of way) (passed_text wording.Plain it.from it.count)
 
 abbrev pub timer_line : ℕ → List ℕ
 timer_line now = decimal now ++ codes " timer\n"

@@ -1,25 +1,22 @@
 //! A trace: the frames that were written to the line and those received from it, discarded bytes,
 //! and expiries of the reply timer.
-ghost use Rattle.std.specs.Prelude.{◌≡◌, ◌+◌, ◌*◌, ◌∷◌, ◌++◌, List, ℕ, [], length, max, min};
-ghost use Rattle.std.specs.Prelude.{codes, IfErr, IfOk, Some};
-ghost use Rattle.ddcmp_explain.specs.Output.{line_in};
-ghost use Rattle.ddcmp_io.specs.Queue.{QueueView};
+ghost use Rattle.std.specs.Prelude.{◌≡◌, ◌+◌, ◌*◌, [], IfErr, IfOk, length, max, min};
 ghost use Rattle.ddcmp_io.specs.Written.{HandsOver};
 ghost use Rattle.ddcmp_streams.specs.Queued.{queued};
 ghost use Rattle.ddcmp_streams.specs.Errors.{HasLine, has_room};
 ghost use Rattle.ddcmp_streams.specs.Trace.{BeginsAnew, Discards, HasLines, IsNew, TakesByte};
-ghost use Rattle.ddcmp_streams.specs.Trace.{Logs, LogsByte, LogsDiscarded, LogsEnd, front_of};
-ghost use Rattle.ddcmp_streams.specs.Trace.{capped, heard_of, item_line, mark_of};
-ghost use Rattle.ddcmp_streams.specs.Trace.{reason_in as reason_of, reason_text, room_beside};
+ghost use Rattle.ddcmp_streams.specs.Trace.{Logs, LogsByte, LogsDiscarded, LogsEnd};
+ghost use Rattle.ddcmp_streams.specs.Trace.{capped, heard_of, item_line, room_beside, side_of};
 ghost use Rattle.ddcmp_streams.specs.Trace.{skipped_line, skipped_lines};
 ghost use Rattle.ddcmp_streams.specs.Trace.{timer_line, timer_lines, with_heard};
 
 use crate::errors::{Errors, LAST_ROOM};
 use crate::skipped::{Completed, MOST_DISCARDED, WayReader};
-use ddcmp_explain::{Notation, Skipped, reason_name, write_discarded, write_item};
-use ddcmp_frame::{ControlType, Header, Item, MAX_COUNT, Nak, ReaderRefusal};
+use ddcmp_explain::Skipped;
+use ddcmp_frame::{Item, MAX_COUNT, ReaderRefusal};
 use ddcmp_io::text::write_number;
 use ddcmp_io::{ByteQueue, Page};
+use ddcmp_log::{LogNotation, Side, write_reasoned, write_skipped};
 use std::alloc::Global;
 use std::marker::Model;
 
@@ -34,13 +31,13 @@ pub enum Way {
 }
 
 impl Way {
-    /// Returns the mark between the moment and the text of a frame.
-    fn mark(self) -> &'static [u8]
-        ensures { result.now ≡ mark_of self }
+    /// Returns the side of the line that bytes in this direction come from.
+    fn side(self) -> Side
+        ensures { result ≡ side_of self }
     {
         match self {
-            Way::ToLine => b" > ",
-            Way::FromLine => b" < ",
+            Way::ToLine => Side::Caller,
+            Way::FromLine => Side::Called,
         }
     }
 }
@@ -239,22 +236,21 @@ fn put_discarded(spared: usize, now: u64, way: Way, skipped: Skipped, errors: &m
         errors.old errors.new }
 {
     if begin_line(spared, NOTE, errors) {
-        write_skipped(now, way, skipped, &mut errors.queue);
+        write_discarded(now, way, skipped, &mut errors.queue);
     }
 }
 
-fn write_skipped(now: u64, way: Way, skipped: Skipped, text: &mut ByteQueue)
+fn write_discarded(now: u64, way: Way, skipped: Skipped, text: &mut ByteQueue)
     ensures { HandsOver (queued text.old) (queued text.new) (skipped_line now way skipped) }
 {
     let mut page = Page::new();
-    write_number(&mut page, text, now);
-    page.write(text, way.mark());
-    write_discarded(
+    write_skipped(
         &mut page,
         text,
-        Notation::Plain,
-        skipped.from,
-        skipped.count,
+        LogNotation::Plain,
+        Some(now),
+        way.side(),
+        skipped,
     );
     let _is_whole = page.flush(text);
 }
@@ -274,62 +270,7 @@ fn write_line(now: u64, way: Way, item: &Item, data: &[u8], text: &mut ByteQueue
     ensures { HandsOver (queued text.old) (queued text.new)
         (item_line now way (item.now, «data».now)) }
 {
-    let before = text.waiting().len();
-    write_plain(now, way, item, data, text);
-    match reason_in(item) {
-        None => {}
-        Some(reason) => write_reason(before, reason, text),
-    }
-}
-
-/// Writes the line of an item without the reason of a NAK.
-fn write_plain(now: u64, way: Way, item: &Item, data: &[u8], text: &mut ByteQueue)
-    ensures { HandsOver (queued text.old) (queued text.new)
-        (front_of now way ++ line_in Notation.Plain (item.now, «data».now)) }
-{
     let mut page = Page::new();
-    write_number(&mut page, text, now);
-    page.write(text, way.mark());
-    write_item(&mut page, text, Notation::Plain, item, data);
+    write_reasoned(&mut page, text, Some(now), way.side(), item, data);
     let _is_whole = page.flush(text);
-}
-
-/// Writes a reason before the end of the last line, after `before` bytes; a line that was cut is
-/// dropped.
-fn write_reason(before: usize, reason: Nak, text: &mut ByteQueue)
-    ensures { (front : List ℕ) (first : QueueView) → before ≡ length first.waiting
-        → HandsOver (queued first) (queued text.old) (front ++ codes "\n")
-        → HandsOver (queued first) (queued text.new)
-        (front ++ reason_text (Some reason) ++ codes "\n") }
-{
-    if text.is_cut() {
-        let after = text.waiting().len();
-        return text.take_back(after.saturating_sub(before));
-    }
-    text.take_back(1);
-    write_words(reason, text);
-}
-
-fn write_words(reason: Nak, text: &mut ByteQueue)
-    ensures { HandsOver (queued text.old) (queued text.new)
-        (reason_text (Some reason) ++ codes "\n") }
-{
-    let mut page = Page::new();
-    page.write(text, b" (");
-    page.write(text, reason_name(reason));
-    page.write(text, b")\n");
-    let _is_whole = page.flush(text);
-}
-
-/// Returns the reason of a good NAK.
-fn reason_in(item: &Item) -> Option<Nak>
-    ensures { result ≡ reason_of item.now }
-{
-    let Item::Good(_, Header::Control(header)) = item else {
-        return None;
-    };
-    match header.kind {
-        ControlType::Nak => Some(Nak::of(header.sub)),
-        _ => None,
-    }
 }

@@ -1,8 +1,8 @@
 -- A direction that has just begun.
 use Rattle.std.proofs.Common.{◌≡◌, ◌∙◌, ap, sym, subst, ℕ, [], Bool, true, false}
 use Rattle.ddcmp_tap.specs.Passing.{DirectionView, Passes}
-use Rattle.ddcmp_tap.specs.declared.notation.LogNotation.{LogNotation}
-use Rattle.ddcmp_tap.specs.declared.side.Side.{Side}
+use Rattle.ddcmp_log.specs.declared.notation.LogNotation.{LogNotation}
+use Rattle.ddcmp_log.specs.declared.side.Side.{Side}
 use Rattle.ddcmp_tap.specs.Pumping.{Begins, Ends, FlowView, IsOf}
 
 true-false : {A : Type 0} (b : Bool) → b ≡ false → b ≡ true → A

@@ -1,5 +1,3 @@
-pub mod TextLaws
-pub mod TellLaws
 pub mod MoveLaws
 pub mod PieceLaws
 pub mod SaidLaws

@@ -4,16 +4,17 @@ use Rattle.std.proofs.Common.{refl, subst, append_assoc, Bool, true, false, Opti
 use Rattle.std.proofs.Common.{Result, Ok, Err, inl, inr, ◌⊎◌, is_some}
 use Rattle.std.specs.Io.KnownBytes.{Appends, Consumes, IsAtEnd}
 use Rattle.std.proofs.KnownBytes.{Appends-nil, Appends-trans, Consumes-nil, Consumes-trans}
-use Rattle.std.proofs.Math.Seq.{drop-append_seam, take-append-add, take-append_seam}
+use Rattle.std.proofs.Math.Seq.{take-append-add, take-append_seam}
 use Rattle.std.proofs.lemmas.List.{append-nil, take-append-drop}
 use Rattle.std.proofs.lemmas.List.Elements.{All-cons, All-nil}
 use Rattle.ddcmp_io.specs.Written.{AppendsPart, Known}
 use Rattle.ddcmp_frame.specs.Reading.{items}
-use Rattle.ddcmp_tap.specs.declared.notation.LogNotation.{LogNotation}
-use Rattle.ddcmp_tap.specs.declared.side.Side.{Side}
-use Rattle.ddcmp_tap.specs.declared.side.Side.TheVariants.{Caller, Called}
-use Rattle.ddcmp_tap.specs.Passing.{DirectionView, HasTold, Passes, Tells}
-use Rattle.ddcmp_tap.specs.Tapped.{tapped_last, tapped_lines}
+use Rattle.ddcmp_log.specs.declared.notation.LogNotation.{LogNotation}
+use Rattle.ddcmp_log.specs.declared.side.Side.{Side}
+use Rattle.ddcmp_log.specs.declared.side.Side.TheVariants.{Caller, Called}
+use Rattle.ddcmp_log.specs.Items.{HasTold}
+use Rattle.ddcmp_log.specs.Logged.{items_added, logged_last, logged_lines}
+use Rattle.ddcmp_tap.specs.Passing.{DirectionView, Passes}
 use Rattle.ddcmp_tap.specs.declared.tap_fault.CarrierFault.{CarrierFault}
 use Rattle.ddcmp_tap.specs.declared.tap_fault.TapFault.{TapFault}
 use Rattle.ddcmp_tap.specs.declared.tap_fault.TapFault.TheVariants.{Carrier, Read, Write, Report}
@@ -21,17 +22,7 @@ use Rattle.ddcmp_tap.specs.declared.tap_fault.TapFault.TheVariants.{Memory}
 use Rattle.ddcmp_tap.specs.Pumping.{Begins, Ends, FlowView, HasReported, Pumps, tap_text, HasFlown}
 use Rattle.ddcmp_tap.specs.Pumping.{HasMoved, IsOf, IsOfReport, IsOfSide, IsSame, Moves, Piece}
 use Rattle.ddcmp_tap.specs.Pumping.{Runs, Stopped, Stops, TellsOf, Turns, WritesText, AreStamped}
-use Rattle.ddcmp_tap.specs.Pumping.{items_added, pieces_text, said}
-
--- the text of the items that bytes add
-pub text-told
-    : (notation : LogNotation) (side : Side) (max : ℕ) (stamp : Option ℕ) (told more text : List ℕ)
-    → Tells notation side max stamp told more [] text
-    → text ≡ tapped_lines notation stamp side (items_added max told more)
-text-told notation side max stamp told more text t =
-    t.puts
-    ∙ ap (tapped_lines notation stamp side)
-    (sym (ap (drop (length (items max told))) t.adds ∙ drop-append_seam (items max told) t.given))
+use Rattle.ddcmp_tap.specs.Pumping.{pieces_text, said}
 
 -- a direction whose bytes moved since its pieces were reported
 pub record HasCome (start now : FlowView) (told : List ℕ) : Type 0 where
@@ -112,12 +103,12 @@ lines-as
     : (side : Side) (notation : LogNotation) (max : ℕ) (stamp : Option ℕ) (d : DirectionView)
     (told more : List ℕ)
     → IsOf side notation max d
-    → tapped_lines d.notation stamp d.side (items_added d.frames.max told more)
-    ≡ tapped_lines notation stamp side (items_added max told more)
+    → logged_lines d.notation stamp d.side (items_added d.frames.max told more)
+    ≡ logged_lines notation stamp side (items_added max told more)
 lines-as side notation max stamp d told more is =
-    ap (λ x. tapped_lines x stamp d.side (items_added d.frames.max told more)) is.1
-    ∙ ap (λ x. tapped_lines notation stamp x (items_added d.frames.max told more)) is.0
-    ∙ ap (λ x. tapped_lines notation stamp side (items_added x told more)) is.2
+    ap (λ x. logged_lines x stamp d.side (items_added d.frames.max told more)) is.1
+    ∙ ap (λ x. logged_lines notation stamp x (items_added d.frames.max told more)) is.0
+    ∙ ap (λ x. logged_lines notation stamp side (items_added x told more)) is.2
 
 pub is-still : (side : Side) (notation : LogNotation) (max : ℕ) (a b : DirectionView) → IsSame a b
     → IsOf side notation max a → IsOf side notation max b
@@ -144,7 +135,7 @@ said-caller stamp more pieces = append-nil (said Caller pieces)
 
 text-more : (notation : LogNotation) (max : ℕ) (p : Piece) (pieces : List Piece)
     → pieces_text notation max pieces
-    ++ tapped_lines notation p.stamp p.side (items_added max (said p.side pieces) p.bytes)
+    ++ logged_lines notation p.stamp p.side (items_added max (said p.side pieces) p.bytes)
     ≡ pieces_text notation max (p ∷ pieces)
 unfolding pieces_text
 text-more notation max p pieces = refl
@@ -202,12 +193,12 @@ pub last-as
     : (side : Side) (notation : LogNotation) (max : ℕ) (stamp : Option ℕ) (d : DirectionView)
     (told : List ℕ)
     → IsOf side notation max d
-    → tapped_last d.notation stamp d.side d.frames.max told
-    ≡ tapped_last notation stamp side max told
+    → logged_last d.notation stamp d.side d.frames.max told
+    ≡ logged_last notation stamp side max told
 last-as side notation max stamp d told is =
-    ap (λ x. tapped_last x stamp d.side d.frames.max told) is.1
-    ∙ ap (λ x. tapped_last notation stamp x d.frames.max told) is.0
-    ∙ ap (λ x. tapped_last notation stamp side x told) is.2
+    ap (λ x. logged_last x stamp d.side d.frames.max told) is.1
+    ∙ ap (λ x. logged_last notation stamp x d.frames.max told) is.0
+    ∙ ap (λ x. logged_last notation stamp side x told) is.2
 
 -- where nothing has come yet, a tap runs
 pub begins-runs
@@ -467,8 +458,8 @@ module _ (notation : LogNotation) (timed : Bool) (max : ℕ) (stamp : Option ℕ
       → (r : Runs notation timed max up0 ua down0 da start w0) → ub.left ≡ ua.left
       → ub.sent ≡ ua.sent → ub.closed ≡ ua.closed → db.left ≡ da.left → db.sent ≡ da.sent
       → db.closed ≡ da.closed
-      → Appends w0 w1 (tapped_last notation stamp Caller max (said Caller r.pieces))
-      → Appends w1 w2 (tapped_last notation stamp Called max (said Called r.pieces))
+      → Appends w0 w1 (logged_last notation stamp Caller max (said Caller r.pieces))
+      → Appends w1 w2 (logged_last notation stamp Called max (said Called r.pieces))
       → Ends ua → Ends da → (result ≡ Ok tt → (ua.closed ≡ true) × (da.closed ≡ true))
       → Pumps notation timed max up0 ub down0 db start w2 result
   unfolding moved-still said has-moved
@@ -507,7 +498,7 @@ module _ (notation : LogNotation) (timed : Bool) (max : ℕ) (stamp : Option ℕ
   pub first-failed : (ua ub da : FlowView) (w0 w1 : Known) (fault : TapFault) → IsOfReport fault
       → (r : Runs notation timed max up0 ua down0 da start w0) → ub.left ≡ ua.left
       → ub.sent ≡ ua.sent
-      → WritesText w0 w1 (Err fault) (tapped_last notation stamp Caller max (said Caller r.pieces))
+      → WritesText w0 w1 (Err fault) (logged_last notation stamp Caller max (said Caller r.pieces))
       → Pumps notation timed max up0 ub down0 da start w1 (Err fault)
   first-failed ua ub da w0 w1 fault f r ul us one =
       pumps-part ub da w1 fault r.pieces f r.stamped
@@ -520,8 +511,8 @@ module _ (notation : LogNotation) (timed : Bool) (max : ℕ) (stamp : Option ℕ
       → IsOfReport fault
       → (r : Runs notation timed max up0 ua down0 da start w0) → ub.left ≡ ua.left
       → ub.sent ≡ ua.sent → db.left ≡ da.left → db.sent ≡ da.sent
-      → Appends w0 w1 (tapped_last notation stamp Caller max (said Caller r.pieces))
-      → WritesText w1 w2 (Err fault) (tapped_last notation stamp Called max (said Called r.pieces))
+      → Appends w0 w1 (logged_last notation stamp Caller max (said Caller r.pieces))
+      → WritesText w1 w2 (Err fault) (logged_last notation stamp Called max (said Called r.pieces))
       → Pumps notation timed max up0 ub down0 db start w2 (Err fault)
   second-failed ua ub da db w0 w1 w2 fault f r ul us dl ds one two =
       pumps-part ub db w2 fault r.pieces f r.stamped
@@ -534,14 +525,14 @@ module _ (notation : LogNotation) (timed : Bool) (max : ℕ) (stamp : Option ℕ
   abbrev TellsLast : DirectionView → Known → Known → Result (Unit {0}) TapFault → Type 0
   TellsLast d old new result =
       (told : List ℕ) → HasTold d.frames d.items told
-      → WritesText old new result (tapped_last d.notation stamp d.side d.frames.max told)
+      → WritesText old new result (logged_last d.notation stamp d.side d.frames.max told)
 
   last-of
       : (side : Side) (flow0 flow : FlowView) (old new : Known)
       (result : Result (Unit {0}) TapFault) (told : List ℕ)
       → IsOf side notation max flow.direction → HasFlown flow0 flow told
       → TellsLast flow.direction old new result
-      → WritesText old new result (tapped_last notation stamp side max told)
+      → WritesText old new result (logged_last notation stamp side max told)
   last-of side flow0 flow old new result told is h tells =
       subst (λ t. WritesText old new result t)
       (last-as side notation max stamp flow.direction told is) (tells told h.passes.has_told)

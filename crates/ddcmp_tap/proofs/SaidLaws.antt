@@ -1,7 +1,7 @@
 -- What follows from whether the last lines of a tap are to come.
 use Rattle.std.proofs.Common.{ℕ, Bool, Result, Ok, Err, inl, inr, refl}
 use Rattle.ddcmp_io.specs.Written.{Known}
-use Rattle.ddcmp_tap.specs.declared.notation.LogNotation.{LogNotation}
+use Rattle.ddcmp_log.specs.declared.notation.LogNotation.{LogNotation}
 use Rattle.ddcmp_tap.specs.declared.tap_fault.TapFault.{TapFault}
 use Rattle.ddcmp_tap.specs.declared.tap_fault.TapFault.TheVariants.{Carrier, Read, Write, Report}
 use Rattle.ddcmp_tap.specs.declared.tap_fault.TapFault.TheVariants.{Memory}

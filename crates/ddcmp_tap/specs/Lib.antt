@@ -1,10 +1,5 @@
-pub mod Inside
-pub mod Ladder
-pub mod Tapped
 pub mod Passing
 pub mod Outlets
 pub mod Pumping
 pub mod InTurn
 pub mod Order
-pub use Rattle.ddcmp_explain.specs.Label
-pub use Rattle.ddcmp_explain.specs.Output

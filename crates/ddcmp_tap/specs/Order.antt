@@ -15,8 +15,8 @@ use Rattle.ddcmp_tap.specs.declared.order.Order.{Order}
 use Rattle.ddcmp_tap.specs.declared.order.ItemSummary.{ItemSummary}
 use Rattle.ddcmp_tap.specs.declared.order.ItemSummary.TheVariants.{Bad, Maint, Data, Ack, Nak, Rep}
 use Rattle.ddcmp_tap.specs.declared.order.ItemSummary.TheVariants.{Strt, Stack}
-use Rattle.ddcmp_tap.specs.declared.side.Side.{Side}
-use Rattle.ddcmp_tap.specs.declared.side.Side.TheVariants.{Caller, Called}
+use Rattle.ddcmp_log.specs.declared.side.Side.{Side}
+use Rattle.ddcmp_log.specs.declared.side.Side.TheVariants.{Caller, Called}
 
 -- ---- what the order needs to know about an item
 

@@ -1,15 +1,14 @@
 -- What a tap forwards in both directions, and what it writes.
-use Rattle.std.specs.Prelude.{◌≡◌, ◌⊎◌, ℕ, Bool, true, false, List, [], ◌∷◌, ◌++◌, All, drop}
-use Rattle.std.specs.Prelude.{is_some, length, codes, ⊤, Option, Result, Ok, Err}
+use Rattle.std.specs.Prelude.{◌≡◌, ◌⊎◌, ℕ, Bool, true, false, List, [], ◌∷◌, ◌++◌, All}
+use Rattle.std.specs.Prelude.{is_some, codes, ⊤, Option, Result, Ok, Err}
 use Rattle.std.specs.Io.KnownBytes.{Appends, Consumes, IsAtEnd, Keeps}
 use Rattle.ddcmp_io.specs.Written.{AppendsPart, Known}
-use Rattle.ddcmp_frame.specs.Reading.{ReadItem, items}
-use Rattle.ddcmp_tap.specs.declared.notation.LogNotation.{LogNotation}
-use Rattle.ddcmp_tap.specs.declared.notation.LogNotation.TheVariants.{Plain, Json, Ladder}
+use Rattle.ddcmp_log.specs.declared.notation.LogNotation.{LogNotation}
+use Rattle.ddcmp_log.specs.declared.notation.LogNotation.TheVariants.{Plain, Json, Ladder}
 use Rattle.ddcmp_tap.specs.Passing.{DirectionView, Passes}
-use Rattle.ddcmp_tap.specs.Tapped.{tapped_last, tapped_lines}
-use Rattle.ddcmp_tap.specs.declared.side.Side.{Side}
-use Rattle.ddcmp_tap.specs.declared.side.Side.TheVariants.{Caller, Called}
+use Rattle.ddcmp_log.specs.Logged.{items_added, logged_last, logged_lines}
+use Rattle.ddcmp_log.specs.declared.side.Side.{Side}
+use Rattle.ddcmp_log.specs.declared.side.Side.TheVariants.{Caller, Called}
 use Rattle.ddcmp_tap.specs.declared.flow.Flow.{Flow}
 use Rattle.ddcmp_tap.specs.declared.tap_fault.TapFault.{TapFault}
 use Rattle.ddcmp_tap.specs.declared.tap_fault.TapFault.TheVariants.{Carrier, Read, Write, Report}
@@ -33,23 +32,19 @@ unfoldable pub said : Side → List Piece → List ℕ
 said side [] = []
 said side (p ∷ before) = said side before ++ of_side side p.side p.bytes
 
--- the items that `more` adds to those of `told`
-abbrev pub items_added : ℕ → List ℕ → List ℕ → List ReadItem
-items_added max told more = drop (length (items max told)) (items max (told ++ more))
-
 -- the lines of pieces: for each, those of the items that it adds to its side
 unfoldable pub pieces_text : LogNotation → ℕ → List Piece → List ℕ
 pieces_text notation max [] = []
 pieces_text notation max (p ∷ before) =
     pieces_text notation max before
-    ++ tapped_lines notation p.stamp p.side (items_added max (said p.side before) p.bytes)
+    ++ logged_lines notation p.stamp p.side (items_added max (said p.side before) p.bytes)
 
 -- all that a tap writes: those lines, and a last line for each side
 abbrev pub tap_text : LogNotation → ℕ → Option ℕ → List Piece → List ℕ
 tap_text notation max stamp pieces =
     pieces_text notation max pieces
-    ++ (tapped_last notation stamp Caller max (said Caller pieces)
-    ++ tapped_last notation stamp Called max (said Called pieces))
+    ++ (logged_last notation stamp Caller max (said Caller pieces)
+    ++ logged_last notation stamp Called max (said Called pieces))
 
 -- Each piece has a time stamp exactly if these are requested.
 abbrev pub AreStamped : Bool → List Piece → Type 0
@@ -139,7 +134,7 @@ abbrev pub TellsOf : DirectionView → Option ℕ → Known → Known
     → Result (Unit {0}) TapFault → List ℕ → Type 0
 TellsOf was stamp old new result told =
     WritesText old new result
-    (tapped_lines was.notation stamp was.side (items_added was.frames.max told was.queue.unlogged))
+    (logged_lines was.notation stamp was.side (items_added was.frames.max told was.queue.unlogged))
 
 -- One direction since its start: `told` was received and explained, and a prefix of it was
 -- forwarded.

@@ -2,18 +2,14 @@
 ghost use Rattle.std.specs.Prelude.{◌≡◌, ◌+◌, ◌-◌, ◌<◌, ◌≤◌, ◌^◌, ◌↔◌, IsTrue, false};
 ghost use Rattle.ddcmp_frame.specs.Limits.{MAX_COUNT};
 
-use crate::front::write_plain_front;
-use crate::no_memory::NoMemory;
 use crate::order::{ItemSummary, Order};
-use crate::rung::write_rung;
-use crate::side::Side;
-use ddcmp_explain::{
-    DetectedFault, InputBytes, InputForm, Notation, PIECE, Reached, reached_by, write_discarded,
-    write_last,
-};
+use ddcmp_explain::{DetectedFault, InputBytes, InputForm, PIECE, Reached, reached_by};
 use ddcmp_frame::{Item, Pushed, Reader};
 use ddcmp_io::{Page, Sink, Source};
+use ddcmp_log::{LogNotation, NoMemory, Side, write_line, write_skipped, write_totals};
 use std::alloc::Global;
+
+const LADDER: LogNotation = LogNotation::Ladder;
 
 /// A captured direction of a line, read up to its next item.
 pub struct Capture<R> {
@@ -169,7 +165,7 @@ impl<R: Source + Drop> Capture<R> {
                 if self.discarded {
                     write_skipped_to(page, writer, self.side, &self.reached, reached.offset);
                 }
-                write_rung(page, writer, None, self.side, item);
+                write_line(page, writer, LADDER, None, self.side, item, &[]);
                 self.reached = reached;
             }
             None => {}
@@ -180,13 +176,13 @@ impl<R: Source + Drop> Capture<R> {
     /// Writes the last line.
     fn finish<W: Sink>(&self, page: &mut Page, writer: &mut W) {
         let bytes = self.frames.offset();
-        let left_open = self.frames.open() as u64;
+        let open = self.frames.open() as u64;
         if self.discarded {
-            let end = bytes.saturating_sub(left_open);
+            let end = bytes.saturating_sub(open);
             write_skipped_to(page, writer, self.side, &self.reached, end);
         }
-        write_plain_front(page, writer, None, self.side);
-        write_last(page, writer, Notation::Plain, self.items, bytes, left_open);
+        let items = self.items;
+        write_totals(page, writer, LADDER, None, self.side, items, bytes, open);
     }
 }
 
@@ -199,10 +195,7 @@ fn write_skipped_to<W: Sink>(
     to: u64,
 ) {
     match reached.skipped_to(to) {
-        Some(it) => {
-            write_plain_front(page, writer, None, side);
-            write_discarded(page, writer, Notation::Plain, it.from, it.count);
-        }
+        Some(it) => write_skipped(page, writer, LADDER, None, side, it),
         None => {}
     }
 }

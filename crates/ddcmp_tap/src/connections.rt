@@ -9,13 +9,12 @@ ghost use Rattle.ddcmp_tap.specs.InTurn.{Lasts, PassesOver, SaysInTurn};
 
 use crate::direction::{Direction, ROOM};
 use crate::flow::Flow;
-use crate::notation::LogNotation;
 use crate::proxy::pump;
-use crate::side::Side;
 use crate::socket_options::keep_alive;
 use crate::sockets::{Socket, Sockets, ToSocket};
 use crate::tap_fault::{CarrierFault, Stage, TapFault};
 use ddcmp_io::{FromRead, Sink, WriteFailed, write_all};
+use ddcmp_log::{LogNotation, Side};
 use ddcmp_station::Elapsed;
 use mio::net::TcpStream;
 use std::alloc::Global;

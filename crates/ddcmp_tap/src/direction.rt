@@ -2,15 +2,12 @@
 ghost use Rattle.std.specs.Prelude.{◌≡◌, ◌+◌, ◌<◌, ◌≤◌, ◌++◌, [], ℕ, List, IfOk, IsOk, drop, false};
 ghost use Rattle.std.specs.Prelude.{length, take, true};
 ghost use Rattle.ddcmp_frame.specs.Limits.{MAX_COUNT};
-ghost use Rattle.ddcmp_tap.specs.Passing.{HasTold, Passes, Tells, room_of};
-ghost use Rattle.ddcmp_tap.specs.Tapped.{tapped_last};
+ghost use Rattle.ddcmp_log.specs.Items.{HasTold};
+ghost use Rattle.ddcmp_log.specs.Logged.{items_added, logged_last, logged_lines};
+ghost use Rattle.ddcmp_tap.specs.Passing.{Passes, room_of};
 
-use crate::item_log::ItemLog;
-use crate::no_memory::NoMemory;
-use crate::notation::LogNotation;
-use crate::side::Side;
-use ddcmp_frame::Reader;
 use ddcmp_io::{ByteQueue, MemorySink};
+use ddcmp_log::{ItemLog, LogNotation, NoMemory, Side};
 use std::alloc::Global;
 use std::marker::Model;
 
@@ -87,18 +84,11 @@ impl Direction {
         let Ok(unlogged) = ByteQueue::new(alloc, ROOM) else {
             return Err(NoMemory);
         };
-        let Ok(frames) = Reader::new(alloc, max) else {
-            return Err(NoMemory);
-        };
+        let log = ItemLog::new(alloc, side, notation, max)?;
         Ok(Direction {
             waiting,
             unlogged,
-            log: ItemLog {
-                side,
-                notation,
-                frames,
-                items: 0,
-            },
+            log,
             text: MemorySink::new(alloc),
             ended: false,
         })
@@ -114,7 +104,7 @@ impl Direction {
     {
         let room = self.waiting.room().min(self.unlogged.room());
         let unlogged = self.unlogged.waiting().len() as u64;
-        let countable = u64::MAX - self.log.frames.offset() - unlogged;
+        let countable = self.log.room() - unlogged;
         if countable < room as u64 {
             countable as usize
         } else {
@@ -175,8 +165,8 @@ impl Direction {
     pub fn explain(&mut self, stamp: Option<u64>) -> Result<(), NoMemory>
         ensures passes { IsOk result → (came handed told : List ℕ)
             → Passes self.old came handed told → Passes self.new came handed came
-            × Tells self.old.notation self.old.side self.old.frames.max stamp told
-            self.old.queue.unlogged [] self.new.text }
+            × (self.new.text ≡ logged_lines self.old.notation stamp self.old.side
+            (items_added self.old.frames.max told self.old.queue.unlogged)) }
         ensures waiting { self.new.queue.waiting ≡ self.old.queue.waiting }
 
         // Even if an allocation failed: no byte is read twice.
@@ -197,7 +187,7 @@ impl Direction {
     pub fn finish(&mut self, stamp: Option<u64>) -> Result<(), NoMemory>
         ensures last { IsOk result → (told : List ℕ)
             → HasTold self.old.frames self.old.items told
-            → self.new.text ≡ tapped_last self.old.notation stamp self.old.side
+            → self.new.text ≡ logged_last self.old.notation stamp self.old.side
             self.old.frames.max told }
         ensures stays { self.new ≡ record self.old { text = self.new.text } }
     {

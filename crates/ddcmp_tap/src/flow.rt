@@ -1,8 +1,9 @@
 //! One direction of a tap with its devices.
 ghost use Rattle.std.specs.Prelude.{◌≡◌, ◌≢◌, ◌<◌, ◌⊎◌, ◌↔◌, [], Err, IsOk, IsTrue, List, ℕ};
 ghost use Rattle.std.specs.Prelude.{false, length};
-ghost use Rattle.ddcmp_tap.specs.Passing.{HasTold, Passes};
-ghost use Rattle.ddcmp_tap.specs.Tapped.{tapped_last};
+ghost use Rattle.ddcmp_log.specs.Items.{HasTold};
+ghost use Rattle.ddcmp_log.specs.Logged.{logged_last};
+ghost use Rattle.ddcmp_tap.specs.Passing.{Passes};
 ghost use Rattle.ddcmp_tap.specs.Pumping.{Ends, IsOfReport, IsOfSide, IsSame, Moves};
 ghost use Rattle.ddcmp_tap.specs.Pumping.{TellsOf, WritesText, flow_of};
 ghost use Rattle.ddcmp_tap.specs.declared.tap_fault.TapFault.{TapFault as TapFaultValue};
@@ -185,7 +186,7 @@ impl<R: Source, O: Outlet> Flow<R, O> {
         ensures tells { (told : List ℕ)
             → HasTold self.old.direction.frames self.old.direction.items told
             → WritesText (W.contents writer.old) (W.contents writer.new) result
-            (tapped_last self.old.direction.notation stamp self.old.direction.side
+            (logged_last self.old.direction.notation stamp self.old.direction.side
             self.old.direction.frames.max told) }
         ensures stays { self.new ≡ record self.old { direction = self.new.direction } }
         ensures direction { self.new.direction

@@ -10,8 +10,8 @@ ghost use Rattle.ddcmp_tap.specs.Order.{higher, is_after, is_undrawn, must_wait,
 ghost use Rattle.ddcmp_tap.specs.Order.{next_side, nothing_drawn, raised, summary_of};
 ghost use Rattle.ddcmp_tap.specs.Order.{refers as refers_to_other, waits as waits_for_other};
 
-use crate::side::Side;
 use ddcmp_frame::{ControlType, Header, Item, Short};
+use ddcmp_log::Side;
 use ddcmp_num::Seq;
 
 /// What the order needs to know about an item: what it acknowledges, and its own number.

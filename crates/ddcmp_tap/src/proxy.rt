@@ -3,13 +3,13 @@
 ghost use Rattle.std.specs.Prelude.{◌≡◌, ◌≢◌, ◌<◌, ◌↔◌, Bool, Err, IsOk, IsTrue, Ok, ℕ};
 ghost use Rattle.std.specs.Prelude.{false, is_some, length, true};
 ghost use Rattle.ddcmp_io.specs.Written.{Known};
-ghost use Rattle.ddcmp_tap.specs.declared.notation.LogNotation.{LogNotation};
+ghost use Rattle.ddcmp_log.specs.declared.notation.LogNotation.{LogNotation};
 ghost use Rattle.ddcmp_tap.specs.Pumping.{Begins, Both, Ends, HasReported, FlowView, IsOfSide};
 ghost use Rattle.ddcmp_tap.specs.Pumping.{Moves};
 ghost use Rattle.ddcmp_tap.specs.Pumping.{Pumps, Runs, Stops, Turns, flow_of};
 ghost use Rattle.ddcmp_tap.specs.declared.tap_fault.TapFault.{TapFault as TapFaultValue};
-ghost use Rattle.ddcmp_tap.specs.declared.side.Side.TheVariants.{Caller as CallerSide};
-ghost use Rattle.ddcmp_tap.specs.declared.side.Side.TheVariants.{Called as CalledSide};
+ghost use Rattle.ddcmp_log.specs.declared.side.Side.TheVariants.{Caller as CallerSide};
+ghost use Rattle.ddcmp_log.specs.declared.side.Side.TheVariants.{Called as CalledSide};
 
 use crate::flow::Flow;
 use crate::outlet::Outlet;

@@ -2,7 +2,8 @@
 use crate::same::is;
 use ddcmp_explain::{DetectedFault, Form, InputForm, NotDumped};
 use ddcmp_frame::failing::{BoundedSink, Pieces};
-use ddcmp_tap::{Capture, DrawFault, Side, draw_captures};
+use ddcmp_log::Side;
+use ddcmp_tap::{Capture, DrawFault, draw_captures};
 use std::process::Abort;
 
 /// Checks the result and the output for two inputs in chunks of at most this many bytes, of one of

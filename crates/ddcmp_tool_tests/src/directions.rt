@@ -1,5 +1,6 @@
 // What a direction of a tap forwards and logs, compared with lines written by hand.
-use ddcmp_tap::{Direction, LogNotation, ROOM, Side};
+use ddcmp_log::{LogNotation, Side};
+use ddcmp_tap::{Direction, ROOM};
 use std::process::Abort;
 
 /// A start byte alone, a DATA frame with `abc`, and an ACK.

@@ -3,8 +3,9 @@
 ghost use Rattle.std.specs.Prelude.{◌≡◌, false};
 
 use ddcmp_io::failing::{BoundedSink, Pieces};
+use ddcmp_log::{LogNotation, Side};
 use ddcmp_station::Clock;
-use ddcmp_tap::{Direction, Flow, LogNotation, Outlet, Readiness, Side, TapFault, pump};
+use ddcmp_tap::{Direction, Flow, Outlet, Readiness, TapFault, pump};
 use std::cell::Cell;
 use std::process::Abort;
 

@@ -1,0 +1,20 @@
+-- Lines that are put into a text in memory.
+use Rattle.std.specs.Prelude.{◌≡◌, ℕ, List, ◌++◌, Option, Some}
+use Rattle.ddcmp_frame.specs.Reading.{ReadItem, items}
+use Rattle.ddcmp_io.specs.Written.{HandsOver, Output}
+use Rattle.ddcmp_io.specs.declared.memory.MemorySink.{MemorySink}
+use Rattle.ddcmp_log.specs.Logged.{logged_lines}
+use Rattle.ddcmp_log.specs.declared.notation.LogNotation.{LogNotation}
+use Rattle.ddcmp_log.specs.declared.side.Side.{Side}
+
+-- a text, and the page that buffers what is written to it
+abbrev pub output_in : MemorySink → List ℕ → Output
+output_in text page =
+    record { broken = text.refused; sink = Some text.bytes.items; waiting = page }
+
+-- The lines of the items that `more` adds to `told` were written.
+pub record Tells (notation : LogNotation) (side : Side) (max : ℕ) (stamp : Option ℕ)
+    (told more : List ℕ) (old new : Output) : Type 0 where
+  pub given : List ReadItem
+  pub adds : items max (told ++ more) ≡ items max told ++ given
+  pub puts : HandsOver old new (logged_lines notation stamp side given)

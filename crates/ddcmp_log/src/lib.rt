@@ -1,0 +1,20 @@
+//! The log of a line's bytes: a line for each item, in words, as JSON or as an arrow of a ladder,
+//! after the milliseconds and the mark of its side; a line for skipped bytes, and the totals.
+//! `ItemLog` reads the bytes of one side, and writes their lines.
+#![tactic(auto)]
+
+mod front;
+mod item_log;
+mod line;
+mod no_memory;
+pub mod notation;
+mod reason;
+mod rung;
+pub mod side;
+
+pub use item_log::ItemLog;
+pub use line::{write_line, write_skipped, write_totals};
+pub use no_memory::NoMemory;
+pub use notation::LogNotation;
+pub use reason::write_reasoned;
+pub use side::Side;

@@ -1,0 +1,35 @@
+//! The two sides of a line.
+ghost use Rattle.std.specs.Prelude.{◌≡◌};
+ghost use Rattle.ddcmp_log.specs.Logged.{mark_of};
+
+/// A side of a line: bytes are received from it and sent to it.
+#[derive(Clone, Copy, Debug, PartialEq, Eq)]
+pub enum Side {
+    /// The side that connected, or the first line.
+    Caller,
+    /// The side that was connected to, or the second line.
+    Called,
+}
+
+impl Side {
+    /// Returns the mark of the bytes from this side.
+    pub(crate) fn mark(self) -> &'static [u8]
+        ensures { result.now ≡ mark_of self }
+    {
+        match self {
+            Side::Caller => b">",
+            Side::Called => b"<",
+        }
+    }
+
+    /// Returns the side to which bytes from this one are forwarded.
+    pub fn other(self) -> Side
+        ensures caller { self ≡ Side.Caller → result ≡ Side.Called }
+        ensures called { self ≡ Side.Called → result ≡ Side.Caller }
+    {
+        match self {
+            Side::Caller => Side::Called,
+            Side::Called => Side::Caller,
+        }
+    }
+}

@@ -1,2 +1,0 @@
--- Definitions used inside the crate only; no public contract depends on them.
-pub mod InMemory
