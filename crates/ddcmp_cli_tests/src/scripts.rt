@@ -7,7 +7,7 @@ use ddcmp_cli::{
 };
 use ddcmp_frame::failing::{BoundedSink, Pieces};
 use ddcmp_frame::{Sink, Source};
-use ddcmp_tap::Side;
+use ddcmp_log::Side;
 use std::alloc::Global;
 use std::fmt::Display;
 use std::io::{self, Eprint, ErrorKind};

@@ -7,7 +7,7 @@ ghost use Rattle.ddcmp_commands.specs.Early.{Reads, unread};
 use crate::early::Early;
 use crate::file_poller::FilePoller;
 use ddcmp_io::{Got, Source, Worst};
-use ddcmp_tap::Side;
+use ddcmp_log::Side;
 use std::alloc::Global;
 use std::cell::RefCell;
 

@@ -1,5 +1,5 @@
 //! Waits for two files whose readiness the system reports.
-use ddcmp_tap::Side;
+use ddcmp_log::Side;
 use mio::unix::SourceFd;
 use mio::{Events, Interest, Poll, Token};
 use std::alloc::Global;

@@ -7,7 +7,7 @@ use crate::fault::Fault;
 use crate::file_pair::FilePair;
 use crate::file_poller::FilePoller;
 use ddcmp_io::{FromRead, Source, Worst};
-use ddcmp_tap::Side;
+use ddcmp_log::Side;
 use std::alloc::Global;
 use std::fs::{self, File};
 use std::io::{ErrorKind, IsTerminal};
