@@ -6,7 +6,7 @@ ghost use Rattle.ddcmp_args.specs.Args.{HasBridge, bridge_app};
 use crate::given::{flag_given, notation_given, number_given, text_given};
 use crate::options::Takes::{Nothing, Number, Place, Text};
 use crate::options::{CommandOption, CommandText, table};
-use crate::parser::Parser;
+use crate::parser::{Made, begun, with_options};
 use clap::ArgMatches;
 use ddcmp_bridge::Faults;
 use ddcmp_explain::Notation;
@@ -79,10 +79,10 @@ static BRIDGE_OPTIONS: [CommandOption; 14] = table! {
 };
 
 /// Returns the parser of `bridge` with its options.
-pub(crate) fn bridge_parser<'a>(alloc: Global) -> Parser<'a>
+pub(crate) fn bridge_parser<'a>(alloc: Global) -> Made<'a>
     ensures { Makes result bridge_app }
 {
-    Parser::begin(alloc, &BRIDGE).with(&BRIDGE_OPTIONS)
+    with_options(alloc, Ok(begun(alloc, &BRIDGE)), &BRIDGE_OPTIONS)
 }
 
 /// Returns the arguments of `bridge`.

@@ -1,18 +1,17 @@
 //! The arguments of the command line, and the command that they name.
-ghost use Rattle.std.specs.Prelude.{◌≡◌, ◌≢◌, ◌⊎◌, IfSome, IsOk, None, Some, map, false, List, ℕ};
+ghost use Rattle.std.specs.Prelude.{◌≡◌, ◌≢◌, ◌⊎◌, IfSome, IsOk, None, Some, map, List, ℕ};
 ghost use Rattle.std.specs.Option.{option_and_then};
-ghost use Rattle.ddcmp_args.specs.Inside.Making.{Makes};
+ghost use Rattle.ddcmp_args.specs.Inside.Making.{IsMade, Makes};
 ghost use Rattle.ddcmp_args.specs.Args.{Declines, HasOptions, IsAsked, IsName, Reads, bare_app};
 ghost use Rattle.ddcmp_args.specs.Args.{name_of, program};
-ghost use Rattle.clap.specs.Words.{kind_of, app_of, first_of, one_of, subcommand_name_of};
+ghost use Rattle.clap.specs.Words.{kind_of, first_of, one_of, subcommand_name_of};
 ghost use Rattle.clap.specs.Words.{subcommand_rows_of};
-ghost use Rattle.clap.specs.declared.builder.command.Command.TheViews.{out-Command as fields_of};
 
 use crate::bridge_args::{BridgeArgs, bridge_given, bridge_parser};
 use crate::explain_args::{ExplainArgs, explain_given, explain_parser};
 use crate::link_args::{LinkArgs, link_given, link_parser};
 use crate::no_command::NoCommand;
-use crate::parser::Parser;
+use crate::parser::{Made, with_command};
 use crate::script_args::{PAIR, SIMULATE, ScriptArgs, script_given, script_parser};
 use crate::station_args::{StationArgs, station_given, station_parser};
 use crate::tap_args::{TapArgs, tap_given, tap_parser};
@@ -41,8 +40,7 @@ pub enum Command<'a> {
 
 /// Returns `ddcmp` without its commands.
 fn program_command<'a>(alloc: Global) -> clap::Command<'a>
-    ensures app { app_of result ≡ bare_app }
-    ensures local { (fields_of result).has_globals ≡ false }
+    ensures { IsMade result bare_app }
 {
     clap::Command::new(alloc, "ddcmp")
         .version("0.1.0")
@@ -50,17 +48,16 @@ fn program_command<'a>(alloc: Global) -> clap::Command<'a>
         .subcommand_required(true)
 }
 
-fn program_parser<'a>(alloc: Global) -> Parser<'a>
+fn program_parser<'a>(alloc: Global) -> Made<'a>
     ensures { Makes result program }
 {
-    Parser::new(alloc, program_command(alloc))
-        .subcommand(explain_parser(alloc))
-        .subcommand(script_parser(alloc, &SIMULATE))
-        .subcommand(script_parser(alloc, &PAIR))
-        .subcommand(station_parser(alloc))
-        .subcommand(tap_parser(alloc))
-        .subcommand(link_parser(alloc))
-        .subcommand(bridge_parser(alloc))
+    let mut made = with_command(Ok(program_command(alloc)), explain_parser(alloc));
+    made = with_command(made, script_parser(alloc, &SIMULATE));
+    made = with_command(made, script_parser(alloc, &PAIR));
+    made = with_command(made, station_parser(alloc));
+    made = with_command(made, tap_parser(alloc));
+    made = with_command(made, link_parser(alloc));
+    with_command(made, bridge_parser(alloc))
 }
 
 /// Converts an error of clap.
@@ -119,9 +116,8 @@ pub fn parse_args<'a>(alloc: Global, words: &'a [&'a str]) -> Result<Command<'a>
     // Whatever the arguments: what they ask for.
     ensures reads { Reads (map (λ word. word.now) words.entry.now) result }
 {
-    let command = match program_parser(alloc).made() {
-        Ok(made) => made,
-        Err(_refused) => return Err(NoCommand::Memory),
+    let Ok(command) = program_parser(alloc) else {
+        return Err(NoCommand::Memory);
     };
     match command.try_get_matches_from(words) {
         Ok(matches) => match asked(&matches) {

@@ -7,7 +7,7 @@ ghost use Rattle.ddcmp_args.specs.Args.{HasExplain, HasForm, HasStyle, explain_a
 use crate::given::{file_given, flag_given, notation_given, number_given};
 use crate::options::Takes::{Nothing, Number, Place, Text};
 use crate::options::{CommandOption, CommandText, table};
-use crate::parser::Parser;
+use crate::parser::{Made, begun, with_options};
 use clap::ArgMatches;
 use ddcmp_core::MAX_COUNT;
 use ddcmp_explain::{Form, Style};
@@ -57,10 +57,10 @@ static EXPLAIN_OPTIONS: [CommandOption; 8] = table! {
 };
 
 /// Returns the parser of `explain` with its options.
-pub(crate) fn explain_parser<'a>(alloc: Global) -> Parser<'a>
+pub(crate) fn explain_parser<'a>(alloc: Global) -> Made<'a>
     ensures { Makes result explain_app }
 {
-    Parser::begin(alloc, &EXPLAIN).with(&EXPLAIN_OPTIONS)
+    with_options(alloc, Ok(begun(alloc, &EXPLAIN)), &EXPLAIN_OPTIONS)
 }
 
 /// Returns the form of the input: raw bytes if `--raw` is given, else digits.

@@ -10,7 +10,7 @@ ghost use Rattle.ddcmp_proto.specs.declared.config.TheConstants.{MAX_SYN};
 use crate::given::{flag_given, number_given, text_given};
 use crate::options::Takes::{Nothing, Number, Text};
 use crate::options::{CommandOption, CommandText, table};
-use crate::parser::Parser;
+use crate::parser::{Made, begun, with_options};
 use crate::size_args::{SIZE_OPTIONS, sizes_given};
 use clap::ArgMatches;
 use ddcmp_streams::{MessageForm, Options};
@@ -82,13 +82,12 @@ static LINK_OPTIONS: [CommandOption; 14] = table! {
 };
 
 /// Returns the parser of `link` with its options.
-pub(crate) fn link_parser<'a>(alloc: Global) -> Parser<'a>
+pub(crate) fn link_parser<'a>(alloc: Global) -> Made<'a>
     ensures { Makes result link_app }
 {
-    Parser::begin(alloc, &LINK)
-        .with(&LINE_OPTIONS)
-        .with(&SIZE_OPTIONS)
-        .with(&LINK_OPTIONS)
+    let lined = with_options(alloc, Ok(begun(alloc, &LINK)), &LINE_OPTIONS);
+    let sized = with_options(alloc, lined, &SIZE_OPTIONS);
+    with_options(alloc, sized, &LINK_OPTIONS)
 }
 
 /// Returns the default for SYN bytes before each frame of a line: a serial line needs them for

@@ -6,7 +6,7 @@ ghost use Rattle.ddcmp_args.specs.Args.{HasScript, script_app};
 use crate::given::{file_given, flag_given};
 use crate::options::Takes::{Nothing, Place};
 use crate::options::{CommandOption, CommandText, table};
-use crate::parser::Parser;
+use crate::parser::{Made, begun, with_options};
 use crate::size_args::{SIZE_OPTIONS, sizes_given};
 use crate::view::{ScriptView, VIEW_OPTIONS, view_given};
 use clap::ArgMatches;
@@ -72,13 +72,12 @@ static SCRIPT_OPTIONS: [CommandOption; 2] = table! {
 };
 
 /// Returns the parser of a command that runs a script, with its options.
-pub(crate) fn script_parser<'a>(alloc: Global, named: &CommandText) -> Parser<'a>
+pub(crate) fn script_parser<'a>(alloc: Global, named: &CommandText) -> Made<'a>
     ensures { Makes result (script_app named.now.name.now) }
 {
-    Parser::begin(alloc, named)
-        .with(&SCRIPT_OPTIONS)
-        .with(&SIZE_OPTIONS)
-        .with(&VIEW_OPTIONS)
+    let scripted = with_options(alloc, Ok(begun(alloc, named)), &SCRIPT_OPTIONS);
+    let sized = with_options(alloc, scripted, &SIZE_OPTIONS);
+    with_options(alloc, sized, &VIEW_OPTIONS)
 }
 
 /// Returns the arguments of a script.

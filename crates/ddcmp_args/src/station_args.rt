@@ -7,7 +7,7 @@ ghost use Rattle.ddcmp_args.specs.Args.{HasStation, role_of, station_app};
 use crate::given::{flag_given, number_given, text_given};
 use crate::options::Takes::{Nothing, Number, Text};
 use crate::options::{CommandOption, CommandText, table};
-use crate::parser::Parser;
+use crate::parser::{Made, begun, with_options};
 use clap::ArgMatches;
 use std::alloc::Global;
 
@@ -60,10 +60,10 @@ static STATION_OPTIONS: [CommandOption; 7] = table! {
 };
 
 /// Returns the parser of `station` with its options.
-pub(crate) fn station_parser<'a>(alloc: Global) -> Parser<'a>
+pub(crate) fn station_parser<'a>(alloc: Global) -> Made<'a>
     ensures { Makes result station_app }
 {
-    Parser::begin(alloc, &STATION).with(&STATION_OPTIONS)
+    with_options(alloc, Ok(begun(alloc, &STATION)), &STATION_OPTIONS)
 }
 
 /// Returns the role of this name.

@@ -6,7 +6,7 @@ ghost use Rattle.ddcmp_args.specs.Args.{HasTap, tap_app};
 use crate::given::{flag_given, notation_given, number_given, text_given};
 use crate::options::Takes::{Nothing, Number, Text};
 use crate::options::{CommandOption, CommandText, table};
-use crate::parser::Parser;
+use crate::parser::{Made, begun, with_options};
 use clap::ArgMatches;
 use ddcmp_core::MAX_COUNT;
 use ddcmp_explain::Notation;
@@ -54,10 +54,10 @@ static TAP_OPTIONS: [CommandOption; 7] = table! {
 };
 
 /// Returns the parser of `tap` with its options.
-pub(crate) fn tap_parser<'a>(alloc: Global) -> Parser<'a>
+pub(crate) fn tap_parser<'a>(alloc: Global) -> Made<'a>
     ensures { Makes result tap_app }
 {
-    Parser::begin(alloc, &TAP).with(&TAP_OPTIONS)
+    with_options(alloc, Ok(begun(alloc, &TAP)), &TAP_OPTIONS)
 }
 
 /// Returns the arguments of `tap`.

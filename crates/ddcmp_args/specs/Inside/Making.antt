@@ -1,18 +1,22 @@
--- A parser that is being built.
-use Rattle.std.specs.Prelude.{◌≡◌, ◌∷◌, [], IfOk, List, false}
+-- The parsers of the commands.
+use Rattle.std.specs.Prelude.{◌≡◌, ◌∷◌, [], IfOk, List, Result, false}
+use Rattle.std.specs.declared.alloc.AllocError.{AllocError}
 use Rattle.clap.specs.Words.{App, Rule, Text, app_of, with_rule}
+use Rattle.clap.specs.declared.builder.command.Command.{Command}
 use Rattle.clap.specs.declared.builder.command.Command.TheViews.{out-Command as fields_of}
 use Rattle.ddcmp_args.specs.declared.options.CommandOption.{CommandOption}
 use Rattle.ddcmp_args.specs.declared.options.Takes.{Takes}
 use Rattle.ddcmp_args.specs.declared.options.Takes.TheVariants.{Nothing, Number, Text as TakesText}
 use Rattle.ddcmp_args.specs.declared.options.Takes.TheVariants.{Place}
 use Rattle.ddcmp_args.specs.Args.{flag_rule, number_rule, place_rule, text_rule}
-use Rattle.ddcmp_args.specs.declared.parser.Parser.{Parser}
 
--- If no allocation failed, the command that was built has this shape, and no global options.
-abbrev pub Makes : Parser → App → Type 0
-Makes parser app =
-    IfOk parser.made (λ command. (app_of command ≡ app) × ((fields_of command).has_globals ≡ false))
+-- The command has this shape, and no global options.
+abbrev pub IsMade : Command → App → Type 0
+IsMade command app = (app_of command ≡ app) × ((fields_of command).has_globals ≡ false)
+
+-- Such a command was built, unless an allocation failed.
+abbrev pub Makes : Result Command AllocError → App → Type 0
+Makes made app = IfOk made (λ command. IsMade command app)
 
 -- the rule of an option, by its name and its value
 abbrev pub rule_by : Text → Takes → Rule

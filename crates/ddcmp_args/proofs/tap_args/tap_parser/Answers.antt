@@ -3,4 +3,4 @@ use Rattle.ddcmp_args.proofs.tap_args.tap_parser.Goals as goal
 
 pub returns : goal.returns
 unfolding with_rules
-returns c = c.with.ensures _ c.begin.ensures
+returns c = c.with_options.ensures _ c.begun.ensures
