@@ -291,7 +291,7 @@ def last_ack_lost():
     if not peer.waits(lambda it: len(it.named("ACK")) > count, 1):
         wrong(f"it isn't there any more: {link.lines()}")
     wants("it", link, 0, seconds=12)
-    if not 6 <= time.monotonic() - begun <= 9:
+    if not 5 <= time.monotonic() - begun <= 8:
         wrong(f"it stays for {time.monotonic() - begun:.1f} s")
 
 
