@@ -8,30 +8,16 @@ one of two hundred stands junk. A megabyte is drawn and repeated. With --control
 with --hex each byte is two digits.
 """
 import argparse
+import os
 import random
 import sys
 
-DATA, CONTROL, SYN = 0x81, 0x05, 0x96
+sys.path.insert(0, os.path.dirname(os.path.dirname(os.path.realpath(__file__))))
+from tests.wire import CONTROL, DATA, SYN, checked  # noqa: E402
+
 ACK, NAK, REP = 1, 2, 3
 SIZES = [8, 64, 200, 576, 1500]
 DRAWN = 1_000_000
-
-
-def remainder(byte):
-    for _ in range(8):
-        byte = byte >> 1 ^ (0xA001 if byte & 1 else 0)
-    return byte
-
-
-REMAINDERS = [remainder(byte) for byte in range(256)]
-
-
-def checked(text):
-    """A text with its block check, low byte first."""
-    check = 0
-    for byte in text:
-        check = check >> 8 ^ REMAINDERS[(check ^ byte) & 255]
-    return text + check.to_bytes(2, "little")
 
 
 def frame(draw, number, has_data):

@@ -2,12 +2,9 @@
 import os
 import re
 
+from sources import read
+
 USE = re.compile(r"^\s*(?:ghost |pub )*use Rattle\.(\w+)\.specs\.(\w+)[\w.]*?(?:\.\{([^}]*)\}| as (\w+))?;?$", re.M)
-
-
-def read(path):
-    with open(path, encoding="utf-8") as it:
-        return it.read()
 
 
 class Definitions:

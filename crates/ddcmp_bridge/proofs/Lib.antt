@@ -1,4 +1,5 @@
 pub mod AmountLaws
+pub mod CrossLaws
 pub mod DelayLaws
 pub mod JoinLaws
 pub mod RelayLaws

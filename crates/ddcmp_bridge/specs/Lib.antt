@@ -1,5 +1,5 @@
+pub mod Crossing
 pub mod Delaying
 pub mod Faults
-pub mod Joining
 pub mod Relaying
 pub mod Report

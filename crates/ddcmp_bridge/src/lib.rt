@@ -1,24 +1,29 @@
 //! A bridge between two lines, without I/O. `Relay` takes the bytes of one line and passes on its
 //! good frames, one at a time, with the `Faults` that are set; `Direction` delays each of these
-//! frames; `write_report` writes the counters of both directions; `Bridge` runs both over the
-//! `LinePair`, until one is down.
+//! frames; `Bridge` opens two lines and runs a direction each way, as a machine for
+//! `ddcmp_ports::run`; `write_report` writes the counters of both directions.
 #![tactic(auto)]
 
 mod bridge;
 pub mod counts;
 mod delay_line;
 mod direction;
+mod errors;
 pub mod faults;
-mod flow;
 pub mod laws;
-pub mod line_pair;
+mod line;
+mod options;
+mod pause;
 mod relay;
 mod report;
+mod running;
+mod trace;
 
-pub use bridge::{Bridge, BridgeStop};
+pub use bridge::{Bridge, BridgeEnd, BridgeStop};
 pub use counts::Counts;
 pub use direction::Direction;
 pub use faults::{Fate, Faults};
-pub use line_pair::{LinePair, Needs};
+pub use options::BridgeOptions;
 pub use relay::{Relay, RelayStep};
 pub use report::write_report;
+pub use running::run_bridge;

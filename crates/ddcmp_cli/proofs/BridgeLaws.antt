@@ -2,8 +2,8 @@
 use Rattle.std.proofs.Common.{◌≡◌, ◌∙◌, Bool, true, false, ap, inl, inr, Ok, Err, subst, sym}
 use Rattle.std.specs.Prelude.{if◌then◌else◌}
 use Rattle.ddcmp_io.specs.Written.{Known}
-use Rattle.ddcmp_device.specs.declared.bridge.BridgeFault.TheVariants as bridging
-use Rattle.ddcmp_device.specs.Events.{open_fault_text}
+use Rattle.ddcmp_device.specs.declared.bridging.BridgeFault.TheVariants as bridging
+use Rattle.ddcmp_ports.specs.Events.{open_fault_text}
 use Rattle.ddcmp_commands.specs.declared.fault.Fault.TheVariants.{Read, Write, Memory, Ended}
 use Rattle.ddcmp_commands.specs.declared.ending.Ending.{Ending}
 use Rattle.ddcmp_commands.specs.declared.ending.Ending.TheVariants.{Done, Fault as Faulted}

@@ -4,10 +4,10 @@ use Rattle.std.specs.Prelude.{None}
 use Rattle.std.specs.Io.KnownBytes.{Appends, Keeps}
 use Rattle.ddcmp_bridge.specs.Report.{bridge_report}
 use Rattle.ddcmp_io.specs.Written.{AppendsPart, Known}
-use Rattle.ddcmp_device.specs.declared.bridge.BridgeEnd.{BridgeEnd}
-use Rattle.ddcmp_device.specs.declared.bridge.BridgeFault.{BridgeFault}
-use Rattle.ddcmp_device.specs.declared.bridge.BridgeFault.TheVariants as bridging
-use Rattle.ddcmp_device.specs.Events.{open_fault_text}
+use Rattle.ddcmp_bridge.specs.declared.bridge.BridgeEnd.{BridgeEnd}
+use Rattle.ddcmp_device.specs.declared.bridging.BridgeFault.{BridgeFault}
+use Rattle.ddcmp_device.specs.declared.bridging.BridgeFault.TheVariants as bridging
+use Rattle.ddcmp_ports.specs.Events.{open_fault_text}
 use Rattle.ddcmp_explain.specs.declared.notation.Notation.{Notation}
 use Rattle.ddcmp_explain.specs.declared.notation.Notation.TheVariants as words
 use Rattle.ddcmp_log.specs.declared.notation.LogNotation.{LogNotation}

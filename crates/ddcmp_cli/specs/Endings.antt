@@ -92,7 +92,8 @@ LinksOrNoMemory lines words ending =
 -- names, `peers` what is known of connections, and `lines` of lines.
 abbrev pub Performs : (List ℕ → Known) → Peers → LinesKnown → Command → Streams → Ending → Type 0
 Performs held peers lines (Explain explained) s ending = ExplainsAsked held explained s ending
-Performs held peers lines (Simulate scripted) s ending = ScriptAsked Simulated held scripted s ending
+Performs held peers lines (Simulate scripted) s ending =
+    ScriptAsked Simulated held scripted s ending
 Performs held peers lines (Pair scripted) s ending = ScriptAsked Paired held scripted s ending
 Performs held peers lines (Station served) s ending =
     (s.left ≡ Some s.input) × Stations peers served s.before s.after ending

@@ -3,12 +3,12 @@ use Rattle.std.specs.Prelude.{◌≡◌, ◌≢◌, ◌⊎◌, ◌==◌, ◌&&�
 use Rattle.std.specs.Prelude.{Option, Some, None, Result, Ok, Err, is_some, option_map}
 use Rattle.std.specs.Borrow.{Bor}
 use Rattle.ddcmp_streams.specs.declared.options.Options.{Options}
-use Rattle.ddcmp_device.specs.LineNames.{word_of}
-use Rattle.ddcmp_device.specs.Events.{open_fault_text}
+use Rattle.ddcmp_ports.specs.LineNames.{word_of}
+use Rattle.ddcmp_ports.specs.Events.{open_fault_text}
 use Rattle.ddcmp_link.specs.declared.fault.LinkFailure.{LinkFailure}
 use Rattle.ddcmp_link.specs.declared.fault.LinkFailure.TheVariants as failure
-use Rattle.ddcmp_device.specs.declared.line_name.LineName.{LineName}
-use Rattle.ddcmp_device.specs.declared.line_name.LineName.TheVariants.{Device, Listen}
+use Rattle.ddcmp_ports.specs.declared.line_name.LineName.{LineName}
+use Rattle.ddcmp_ports.specs.declared.line_name.LineName.TheVariants.{Device, Listen}
 use Rattle.ddcmp_session.specs.declared.link.LinkOutcome.{LinkOutcome}
 use Rattle.ddcmp_session.specs.declared.link.LinkOutcome.TheVariants as outcome
 use Rattle.ddcmp_args.specs.Args.{default_timer_of}

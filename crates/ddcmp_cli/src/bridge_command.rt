@@ -4,13 +4,14 @@ ghost use Rattle.ddcmp_cli.specs.BridgeEndings.{BridgeEnds, Bridges, Reports, tr
 
 use crate::link_command::LineSystem;
 use ddcmp_args::BridgeArgs;
-use ddcmp_bridge::write_report;
+use ddcmp_bridge::{BridgeEnd, BridgeOptions, write_report};
 use ddcmp_commands::usage::{no_line, usage};
 use ddcmp_commands::{Ending, Fault, TWO_NOTATIONS, is_json};
-use ddcmp_device::{BridgeEnd, BridgeFault, BridgeOptions, LineName};
+use ddcmp_device::BridgeFault;
 use ddcmp_explain::Notation;
 use ddcmp_io::Sink;
 use ddcmp_log::LogNotation;
+use ddcmp_ports::LineName;
 use std::alloc::Global;
 
 /// The usage error for a LINE that isn't one.

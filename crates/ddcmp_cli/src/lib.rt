@@ -13,17 +13,19 @@ pub use ddcmp_args::{
     TapArgs, bridge_args, command, link_args, no_command, parse_args, script_args, station_args,
     tap_args, view,
 };
+pub use ddcmp_bridge::{BridgeEnd, BridgeOptions};
 pub use ddcmp_commands::{
     Connection, Connections, Ending, Fault, FilePair, Inputs, connections, ending, fault,
     file_pair, inputs,
 };
-pub use ddcmp_device::{BridgeEnd, BridgeFault, BridgeOptions, LineName};
+pub use ddcmp_device::BridgeFault;
 pub use ddcmp_explain::{
     DumpFault, ExplainFault, Form, NotDumped, Notation, Style, dump, dump_fault, explain,
     explain_as, explain_dump, explain_fault, explain_with, explanation, form, notation, style,
 };
 pub use ddcmp_link::{LinkFailure, LinkOutcome, Options};
 pub use ddcmp_net::{SERVED_MAX, ServeFault, serve, serve_fault, server};
+pub use ddcmp_ports::LineName;
 pub use ddcmp_tap::{TapFault, tap_fault};
 pub use link_command::LineSystem;
 pub use program::{

@@ -4,13 +4,19 @@ ghost use Rattle.ddcmp_cli.specs.LinkEndings.{LinkEnds, Links, has_no_callers, h
 ghost use Rattle.ddcmp_cli.specs.LinkEndings.{means_nothing};
 
 use ddcmp_args::link_args::{DEFAULT_ATTEMPTS, LinkArgs, default_timer};
+use ddcmp_bridge::{BridgeEnd, BridgeOptions};
 use ddcmp_commands::usage::{no_line, usage};
 use ddcmp_commands::{Ending, Fault};
-use ddcmp_device::{BridgeEnd, BridgeFault, BridgeOptions, LineName, bridge_lines};
+use ddcmp_device::{BridgeFault, bridge_lines};
 use ddcmp_io::{LineKind, Sink, Source};
 use ddcmp_link::{LinkFailure, LinkOutcome, Options, link_line};
+use ddcmp_ports::LineName;
 use ddcmp_proto::Config;
 use std::alloc::Global;
+use std::fs::{File, Files};
+use std::io::Eprint;
+use std::net::{self, Net};
+use std::time;
 
 /// The usage error for another value of `--line`.
 const NO_LINE: &str =
@@ -61,7 +67,7 @@ fn means_nothing(args: &LinkArgs<'_>) -> bool
 /// A system that opens the lines of links.
 pub trait LineSystem {
     ghost use Rattle.std.specs.Prelude.{◌≡◌, ◌↔◌, Err, IsTrue, Result, Some};
-    ghost use Rattle.ddcmp_device.specs.LineNames.{word_of};
+    ghost use Rattle.ddcmp_ports.specs.LineNames.{word_of};
     ghost use Rattle.ddcmp_link.specs.declared.fault.LinkFailure.{LinkFailure as FaultValue};
     ghost use Rattle.ddcmp_link.specs.declared.fault.LinkFailure.TheVariants.{Write};
     ghost use Rattle.ddcmp_session.specs.declared.link.LinkOutcome.{LinkOutcome as OutcomeValue};
@@ -120,8 +126,26 @@ impl LineSystem for HostRuntime {
         second: LineName<'a>,
         options: BridgeOptions<'a>,
     ) -> Result<BridgeEnd, BridgeFault<'a>> {
-        bridge_lines(self, alloc, first, second, options)
+        bridge_over(self, alloc, first, second, options)
     }
+}
+
+/// Opens two lines and passes frames on between them. The system's traits are listed, since
+/// `ddcmp_device::System` can't stand for them where the system is known.
+fn bridge_over<'a, S>(
+    system: &S,
+    alloc: Global,
+    first: LineName<'a>,
+    second: LineName<'a>,
+    options: BridgeOptions<'a>,
+) -> Result<BridgeEnd, BridgeFault<'a>>
+where
+    S: Net<Stream = net::TcpStream, Listener = net::TcpListener>
+        + Files<File = File>
+        + Eprint
+        + time::Clock,
+{
+    bridge_lines(system, alloc, first, second, options)
 }
 
 /// Runs a link until all of standard input is delivered, or its line ends.

@@ -1,9 +1,9 @@
 //! Each fault has its text, including those that the program reports with another's text.
 use crate::same::is;
 use ddcmp_cli::{DumpFault, ExplainFault, Fault, NotDumped, ServeFault, TapFault};
-use ddcmp_device::{Attempt, Cause, OpenFault};
 use ddcmp_io::cause::words_of;
 use ddcmp_line::ScriptFault;
+use ddcmp_ports::{Attempt, Cause, OpenFault};
 use ddcmp_station::LineFault;
 use ddcmp_tap::{CarrierFault, Stage};
 use std::fmt::Display;

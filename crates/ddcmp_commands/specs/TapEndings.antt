@@ -16,11 +16,11 @@ use Rattle.ddcmp_tap.specs.declared.tap_fault.Stage.{Stage}
 use Rattle.ddcmp_tap.specs.declared.tap_fault.Stage.TheVariants as stage
 use Rattle.ddcmp_tap.specs.InTurn.{Lasts, SaysInTurn}
 use Rattle.ddcmp_tap.specs.Pumping.{Says, head_of}
-use Rattle.ddcmp_device.specs.declared.fault.Attempt.{Attempt}
-use Rattle.ddcmp_device.specs.declared.fault.Attempt.TheVariants as attempt
-use Rattle.ddcmp_device.specs.declared.fault.Cause.{Cause}
-use Rattle.ddcmp_device.specs.declared.fault.Cause.TheVariants as cause
-use Rattle.ddcmp_device.specs.Events.{attempt_text, cause_text}
+use Rattle.ddcmp_ports.specs.declared.fault.Attempt.{Attempt}
+use Rattle.ddcmp_ports.specs.declared.fault.Attempt.TheVariants as attempt
+use Rattle.ddcmp_ports.specs.declared.fault.Cause.{Cause}
+use Rattle.ddcmp_ports.specs.declared.fault.Cause.TheVariants as cause
+use Rattle.ddcmp_ports.specs.Events.{attempt_text, cause_text}
 use Rattle.ddcmp_commands.specs.declared.fault.Fault.TheVariants.{Read, Write, Memory as NoMemory}
 use Rattle.ddcmp_commands.specs.declared.ending.Ending.{Ending}
 use Rattle.ddcmp_commands.specs.declared.ending.Ending.TheVariants.{Done, Fault as Faulted}

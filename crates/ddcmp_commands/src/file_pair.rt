@@ -93,16 +93,24 @@ impl<R: Source> FilePair<R> {
     /// Reads the file of a side.
     fn read(&mut self, side: Side, buf: &mut [u8]) -> Got
         ensures caller { side ≡ Side.Caller → Reads
-            (unread self.old.caller.taken self.old.caller.bytes.items (R.left self.old.caller.source))
-            (unread self.new.caller.taken self.new.caller.bytes.items (R.left self.new.caller.source))
-            (unread self.old.called.taken self.old.called.bytes.items (R.left self.old.called.source))
-            (unread self.new.called.taken self.new.called.bytes.items (R.left self.new.called.source))
+            (unread self.old.caller.taken self.old.caller.bytes.items
+            (R.left self.old.caller.source))
+            (unread self.new.caller.taken self.new.caller.bytes.items
+            (R.left self.new.caller.source))
+            (unread self.old.called.taken self.old.called.bytes.items
+            (R.left self.old.called.source))
+            (unread self.new.called.taken self.new.called.bytes.items
+            (R.left self.new.called.source))
             result buf.new }
         ensures called { side ≡ Side.Called → Reads
-            (unread self.old.called.taken self.old.called.bytes.items (R.left self.old.called.source))
-            (unread self.new.called.taken self.new.called.bytes.items (R.left self.new.called.source))
-            (unread self.old.caller.taken self.old.caller.bytes.items (R.left self.old.caller.source))
-            (unread self.new.caller.taken self.new.caller.bytes.items (R.left self.new.caller.source))
+            (unread self.old.called.taken self.old.called.bytes.items
+            (R.left self.old.called.source))
+            (unread self.new.called.taken self.new.called.bytes.items
+            (R.left self.new.called.source))
+            (unread self.old.caller.taken self.old.caller.bytes.items
+            (R.left self.old.caller.source))
+            (unread self.new.caller.taken self.new.caller.bytes.items
+            (R.left self.new.caller.source))
             result buf.new }
     {
         let (caller, called, poller) = (&mut self.caller, &mut self.called, &mut self.poller);

@@ -43,8 +43,8 @@ fn token_of(side: Side) -> Token {
 }
 
 impl FilePoller {
-    /// Makes a poller for two descriptors. The system doesn't report a regular file, which can always
-    /// be read: then there is an error.
+    /// Makes a poller for two descriptors. The system doesn't report a regular file, which can
+    /// always be read: then there is an error.
     pub(crate) fn new<N: Net>(
         net: &N,
         alloc: Global,

@@ -1,6 +1,6 @@
 //! How an input is written, by the value of `--from`.
 ghost use Rattle.std.specs.Prelude.{◌≡◌};
-ghost use Rattle.ddcmp_commands.specs.Origins.{named_by, origin_of as origin_of_word};
+ghost use Rattle.ddcmp_commands.specs.Origins.{origin_of as origin_of_word};
 ghost use Rattle.ddcmp_commands.specs.Origins.{written as written_of};
 
 use ddcmp_args::ExplainArgs;

@@ -1,8 +1,7 @@
 //! `station`: one station over a connection.
-ghost use Rattle.std.specs.Prelude.{◌≡◌, ◌≢◌, ◌≤◌, ◌*◌, length, false, true, option_map, IfSome};
+ghost use Rattle.std.specs.Prelude.{◌≡◌, ◌≤◌, ◌*◌, length, false, option_map, IfSome};
 ghost use Rattle.std.specs.Result.{result_ok};
 ghost use Rattle.hex.specs.Hex.{decode_of};
-ghost use Rattle.ddcmp_commands.specs.Endings.{is_refusal};
 ghost use Rattle.ddcmp_commands.specs.Stations.{Stations};
 
 use crate::connections::Connections;

@@ -4,16 +4,16 @@ ghost use Rattle.ddcmp_core.specs.Limits.{MAX_COUNT};
 ghost use Rattle.ddcmp_commands.specs.Endings.{is_json as is_json_notation};
 ghost use Rattle.ddcmp_commands.specs.TapEndings.{TapEnds, Taps, TapsAsked, TapsInTurn};
 ghost use Rattle.ddcmp_commands.specs.TapEndings.{carrier_text, notation_of as notation};
-ghost use Rattle.ddcmp_device.specs.Events.{open_fault_text};
+ghost use Rattle.ddcmp_ports.specs.Events.{open_fault_text};
 
 use crate::ending::Ending;
 use crate::fault::Fault;
 use crate::usage::{no_line, usage};
 use ddcmp_args::TapArgs;
-use ddcmp_device::{Attempt, Cause, OpenFault};
 use ddcmp_explain::Notation;
 use ddcmp_io::Sink;
 use ddcmp_log::LogNotation;
+use ddcmp_ports::{Attempt, Cause, OpenFault};
 use ddcmp_tap::{CarrierFault, Stage, TapFault, tap_again};
 use std::alloc::Global;
 use std::io::Eprint;

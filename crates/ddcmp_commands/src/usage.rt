@@ -2,11 +2,11 @@
 ghost use Rattle.std.specs.Prelude.{◌≡◌, ◌≢◌, IfOk, string_bytes, true};
 ghost use Rattle.ddcmp_commands.specs.Endings.{IsLineUnopened, IsUsage, is_refusal};
 ghost use Rattle.ddcmp_commands.specs.Endings.{usage_text as text_of};
-ghost use Rattle.ddcmp_device.specs.Events.{open_fault_text};
+ghost use Rattle.ddcmp_ports.specs.Events.{open_fault_text};
 
 use crate::ending::Ending;
 use crate::fault::Fault;
-use ddcmp_device::OpenFault;
+use ddcmp_ports::OpenFault;
 use std::alloc::{AllocError, Global};
 
 /// Returns a usage error: what is wrong, and where to find help.

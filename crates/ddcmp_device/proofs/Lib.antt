@@ -1,1 +1,1 @@
-mod LineNameLaws
+mod PaceLaws

@@ -1,3 +1,3 @@
 -- Definitions used inside the crate only; no public contract depends on them.
 pub mod Lines
-pub mod BridgeLines
+pub mod Lives

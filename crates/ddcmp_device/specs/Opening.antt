@@ -1,7 +1,7 @@
 -- The possible results of opening a line, by its kind, and what is reported about them.
 use Rattle.std.specs.Prelude.{⊤, ◌≡◌, Option, Some, None}
-use Rattle.ddcmp_device.specs.declared.event.LineEvent.{LineEvent}
-use Rattle.ddcmp_device.specs.declared.event.LineEvent.TheVariants as event
+use Rattle.ddcmp_ports.specs.declared.event.LineEvent.{LineEvent}
+use Rattle.ddcmp_ports.specs.declared.event.LineEvent.TheVariants as event
 use Rattle.ddcmp_device.specs.declared.line.Line.{Line as LineValue}
 use Rattle.ddcmp_device.specs.declared.line.Line.TheVariants as line
 use Rattle.ddcmp_device.specs.declared.opener.Opened.{Opened}

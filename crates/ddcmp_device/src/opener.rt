@@ -2,17 +2,16 @@
 ghost use Rattle.std.specs.Prelude.{◌≡◌, ◌≢◌, ◌+◌, ◌-◌, ◌^◌, IfErr, IfOk, None, Some, false, min};
 ghost use Rattle.std.specs.Prelude.{true};
 ghost use Rattle.std.specs.declared.net.socket_addr.SocketAddr.{SocketAddr as AddrValue};
-ghost use Rattle.ddcmp_device.specs.LineNames.{line_kind, open_fault_of};
+ghost use Rattle.ddcmp_ports.specs.LineNames.{line_kind, open_fault_of};
 ghost use Rattle.ddcmp_device.specs.Opening.{Begins, SameIfNotYet, Opens, event_of};
 ghost use Rattle.ddcmp_device.specs.Opening.{line_of};
 ghost use Rattle.ddcmp_io.specs.declared.line_kind.LineKind.TheVariants as kind;
 
-use crate::event::LineEvent;
-use crate::fault::{Cause, OpenFault};
 use crate::line::Line;
-use crate::line_name::LineName;
-use crate::poller::Poller;
+use crate::place::LinePlace;
 use crate::socket::{prepare_datagrams, prepare_stream};
+use ddcmp_ports::{Cause, LineEvent, LineName, OpenFault, OpenRefusal};
+use mio::Poll;
 use mio::net::{TcpListener, TcpStream, UdpSocket};
 use std::fs::{self, File, Files, OpenOptions, TryLockError};
 use std::io::{self, ErrorKind};
@@ -70,7 +69,7 @@ pub enum Opened {
 
 impl Opened {
     /// Returns the event to be reported, if there is one.
-    pub fn event(&self) -> Option<LineEvent<'static>>
+    pub fn event(&self) -> Option<LineEvent>
         ensures { result ≡ event_of self.now }
     {
         match self {
@@ -92,13 +91,6 @@ impl Opened {
                 None,
         }
     }
-}
-
-/// Why a line can't be opened, and whether the remote one of its two addresses is the cause.
-#[derive(Clone, Copy)]
-pub struct OpenRefusal {
-    pub cause: Cause,
-    pub is_remote: bool,
 }
 
 /// Returns the refusal for an error of the system.
@@ -144,7 +136,8 @@ impl<'a> Opener<'a> {
     pub(crate) fn listen<N: Net<Stream = net::TcpStream, Listener = net::TcpListener>>(
         &mut self,
         net: &N,
-        poller: &mut Poller,
+        poll: &Poll,
+        place: &mut LinePlace,
     ) -> Result<Opened, OpenRefusal>
         ensures { IfOk result (Begins (line_kind self.old.name)) }
     {
@@ -152,8 +145,8 @@ impl<'a> Opener<'a> {
             return Ok(Opened::NotYet);
         };
         let listens = match self.bound {
-            Some(addr) => listening_again(net, poller, addr),
-            None => listening(net, poller, name),
+            Some(addr) => listening_again(net, poll, place, addr),
+            None => listening(net, poll, place, name),
         };
         match listens {
             Ok((listener, addr)) => {
@@ -167,7 +160,12 @@ impl<'a> Opener<'a> {
 
     /// Opens the line, accepts a caller, or checks whether a connection is made. Listens first, if
     /// the line is one for callers and doesn't listen yet.
-    pub fn open<S>(&mut self, system: &S, poller: &mut Poller) -> Result<Opened, OpenRefusal>
+    pub fn open<S>(
+        &mut self,
+        system: &S,
+        poll: &Poll,
+        place: &mut LinePlace,
+    ) -> Result<Opened, OpenRefusal>
     where
         S: Net<Stream = net::TcpStream, Listener = net::TcpListener> + Files<File = File>,
         ensures opened { IfOk result (Opens (line_kind self.old.name)) }
@@ -175,16 +173,16 @@ impl<'a> Opener<'a> {
         ensures listens { IfOk result (SameIfNotYet self.old.listener self.new.listener) }
     {
         match self.name {
-            LineName::Connect(name) => self.connect(system, poller, name),
+            LineName::Connect(name) => self.connect(system, poll, place, name),
             LineName::Listen(_) => match &self.listener {
-                None => self.listen(system, poller),
-                Some(listener) => match accepted(system, listener, poller, self.only) {
+                None => self.listen(system, poll, place),
+                Some(listener) => match accepted(system, listener, poll, place, self.only) {
                     Ok(opened) => Ok(opened),
                     Err(error) => Err(refused_by(&error)),
                 },
             },
-            LineName::Udp { local, remote } => bound(system, poller, local, remote),
-            LineName::Device(path) => device(system, poller, path),
+            LineName::Udp { local, remote } => bound(system, poll, place, local, remote),
+            LineName::Device(path) => device(system, poll, place, path),
         }
     }
 
@@ -199,7 +197,8 @@ impl<'a> Opener<'a> {
     fn connect<N: Net>(
         &mut self,
         net: &N,
-        poller: &mut Poller,
+        poll: &Poll,
+        place: &mut LinePlace,
         name: &str,
     ) -> Result<Opened, OpenRefusal>
         ensures opened { IfOk result (Opens kind.Connect) }
@@ -228,7 +227,7 @@ impl<'a> Opener<'a> {
                     return Err(refused(cause));
                 }
             };
-            match begin_connecting(net, poller, addr) {
+            match begin_connecting(net, poll, place, addr) {
                 Ok(stream) => {
                     self.connecting = Some(stream);
                     return Ok(Opened::Connecting(addr));
@@ -279,19 +278,21 @@ fn peer_of(stream: &TcpStream) -> Result<Option<SocketAddr>, ErrorKind> {
 /// Begins to connect to an address.
 fn begin_connecting<N: Net>(
     net: &N,
-    poller: &mut Poller,
+    poll: &Poll,
+    place: &mut LinePlace,
     addr: SocketAddr,
 ) -> io::Result<TcpStream> {
     let mut stream = TcpStream::connect(net, addr)?;
     prepare_stream(&stream);
-    poller.add_socket(&mut stream)?;
+    place.add_socket(poll, &mut stream)?;
     Ok(stream)
 }
 
 /// Returns a listener at the first address of a name that can be listened at, and that address.
 fn listening<N: Net<Stream = net::TcpStream, Listener = net::TcpListener>>(
     net: &N,
-    poller: &mut Poller,
+    poll: &Poll,
+    place: &mut LinePlace,
     name: &str,
 ) -> Result<(TcpListener, SocketAddr), Cause> {
     let mut failed = ErrorKind::InvalidInput;
@@ -299,7 +300,7 @@ fn listening<N: Net<Stream = net::TcpStream, Listener = net::TcpListener>>(
         let Some(addr) = address(net, name, index)? else {
             break;
         };
-        match listening_at(net, poller, addr) {
+        match listening_at(net, poll, place, addr) {
             Ok(listens) => return Ok(listens),
             Err(error) => failed = error.kind(),
         }
@@ -309,24 +310,26 @@ fn listening<N: Net<Stream = net::TcpStream, Listener = net::TcpListener>>(
 
 fn listening_at<N: Net<Stream = net::TcpStream, Listener = net::TcpListener>>(
     net: &N,
-    poller: &mut Poller,
+    poll: &Poll,
+    place: &mut LinePlace,
     addr: SocketAddr,
 ) -> io::Result<(TcpListener, SocketAddr)> {
     let listener = net::TcpListener::bind(net, addr)?;
     let addr = listener.local_addr()?;
     listener.set_nonblocking(true)?;
     let mut listener = TcpListener::from_std(listener);
-    poller.add_listener(&mut listener)?;
+    place.add_listener(poll, &mut listener)?;
     Ok((listener, addr))
 }
 
 /// Returns a listener at the address of an earlier one, and that address.
 fn listening_again<N: Net<Stream = net::TcpStream, Listener = net::TcpListener>>(
     net: &N,
-    poller: &mut Poller,
+    poll: &Poll,
+    place: &mut LinePlace,
     addr: SocketAddr,
 ) -> Result<(TcpListener, SocketAddr), Cause> {
-    match listening_at(net, poller, addr) {
+    match listening_at(net, poll, place, addr) {
         Ok(listens) => Ok(listens),
         Err(error) => Err(Cause::System(error.kind())),
     }
@@ -359,7 +362,8 @@ fn is_of_host<N: Net>(net: &N, host: &str, ip: IpAddr) -> bool {
 fn accepted<N: Net>(
     net: &N,
     listener: &TcpListener,
-    poller: &mut Poller,
+    poll: &Poll,
+    place: &mut LinePlace,
     only: Option<&str>,
 ) -> io::Result<Opened>
     ensures opened { IfOk result (Opens kind.Listen) }
@@ -371,11 +375,11 @@ fn accepted<N: Net>(
             Ok((mut stream, peer)) => {
                 if !may_call(net, only, peer) {
                     // More callers may be pending, and the next wait is to report them again.
-                    poller.ask_callers(listener.as_raw_fd())?;
+                    place.ask_callers(poll, listener.as_raw_fd())?;
                     return Ok(Opened::Refused(peer));
                 }
                 prepare_stream(&stream);
-                poller.add_socket(&mut stream)?;
+                place.add_socket(poll, &mut stream)?;
                 return Ok(Opened::Connected(Line::Stream(stream), peer));
             }
             Err(error) => match error.kind() {
@@ -463,23 +467,29 @@ fn addresses<N: Net>(
 
 fn bound<N: Net>(
     net: &N,
-    poller: &mut Poller,
+    poll: &Poll,
+    place: &mut LinePlace,
     local: &str,
     remote: &str,
 ) -> Result<Opened, OpenRefusal>
     ensures { IfOk result (Opens kind.Datagrams) }
 {
     let (local, remote) = addresses(net, local, remote)?;
-    match bind(net, poller, local) {
+    match bind(net, poll, place, local) {
         Ok(socket) => Ok(Opened::Line(Line::Datagrams(socket, remote))),
         Err(error) => Err(refused_by(&error)),
     }
 }
 
-fn bind<N: Net>(net: &N, poller: &mut Poller, local: SocketAddr) -> io::Result<UdpSocket> {
+fn bind<N: Net>(
+    net: &N,
+    poll: &Poll,
+    place: &mut LinePlace,
+    local: SocketAddr,
+) -> io::Result<UdpSocket> {
     let mut socket = UdpSocket::bind(net, local)?;
     prepare_datagrams(&socket);
-    poller.add_socket(&mut socket)?;
+    place.add_socket(poll, &mut socket)?;
     Ok(socket)
 }
 
@@ -487,7 +497,8 @@ fn bind<N: Net>(net: &N, poller: &mut Poller, local: SocketAddr) -> io::Result<U
 /// for writing.
 fn device<S: Files<File = File>>(
     files: &S,
-    poller: &mut Poller,
+    poll: &Poll,
+    place: &mut LinePlace,
     path: &str,
 ) -> Result<Opened, OpenRefusal>
     ensures { IfOk result (Opens kind.Device) }
@@ -512,6 +523,6 @@ fn device<S: Files<File = File>>(
     if os::set_nonblocking(file.as_raw_fd(), true) < 0 {
         return Err(refused(Cause::System(ErrorKind::Other)));
     }
-    poller.add_device(file.as_raw_fd());
+    place.add_device(poll, file.as_raw_fd());
     Ok(Opened::Line(Line::Device(file)))
 }

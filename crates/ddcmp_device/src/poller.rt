@@ -1,10 +1,11 @@
 //! Waits for standard input, standard output, standard error, the line, or a moment.
 ghost use Rattle.std.specs.Prelude.{◌≡◌, ◌||◌, MatchOption, false, not};
 ghost use Rattle.mio.specs.Interest.{is_readable, is_writable};
-ghost use Rattle.ddcmp_device.specs.Readiness.{is_any_ready, line_ready};
+ghost use Rattle.ddcmp_device.specs.Readiness.{is_any_ready};
 
+use crate::place::LinePlace;
 use ddcmp_io::Wanted;
-use mio::event::Source;
+use mio::event::Event;
 use mio::unix::SourceFd;
 use mio::{Events, Interest, Poll, Token};
 use std::alloc::Global;
@@ -129,18 +130,22 @@ fn interest_in(to_read: bool, to_write: bool) -> Option<Interest>
     }
 }
 
-/// What a link waits for, and a bridge while it opens a line: standard input, output and error, and
-/// the line.
+/// Returns what an event reports to be ready.
+pub(crate) fn reported_by(event: &Event) -> Ready {
+    Ready {
+        to_read: event.is_readable() || event.is_read_closed() || event.is_error(),
+        to_write: event.is_writable() || event.is_write_closed() || event.is_error(),
+    }
+}
+
+/// What a link waits for: standard input, output and error, and the line.
 pub struct Poller {
-    poll: Poll,
+    pub poll: Poll,
     events: Events,
     pub input: Descriptor,
     pub output: Descriptor,
     pub errors: Descriptor,
-    /// The line, if it is a serial device.
-    pub device: Option<Descriptor>,
-    /// The line, if it is a socket.
-    pub socket: Ready,
+    pub line: LinePlace,
 }
 
 // Manual, since a derived `Drop` would be expanded wherever a value is dropped.
@@ -152,8 +157,7 @@ impl Drop for Poller {
             input: _input,
             output: _output,
             errors: _errors,
-            device: _device,
-            socket: _,
+            line: _line,
         } = self;
     }
 }
@@ -172,76 +176,8 @@ impl Poller {
             input,
             output,
             errors,
-            device: None,
-            socket: Ready::NOT,
+            line: LinePlace::new(LINE, CALLERS),
         })
-    }
-
-    /// Adds a socket, which is the line.
-    pub(crate) fn add_socket<S: Source>(&mut self, socket: &mut S) -> io::Result<()> {
-        self.socket = Ready::BOTH;
-        let both = Interest::READABLE | Interest::WRITABLE;
-        self.poll.registry().register(socket, LINE, both)
-    }
-
-    /// Adds a serial device, which is the line.
-    pub(crate) fn add_device(&mut self, number: RawFd) {
-        let both = Interest::READABLE | Interest::WRITABLE;
-        self.device = Some(Descriptor::new(&self.poll, number, LINE, both));
-    }
-
-    /// Adds a listener, to wait for callers.
-    pub(crate) fn add_listener<S: Source>(&mut self, listener: &mut S) -> io::Result<()> {
-        let registry = self.poll.registry();
-        registry.register(listener, CALLERS, Interest::READABLE)
-    }
-
-    /// Has the next wait report the pending callers of a listener again.
-    pub(crate) fn ask_callers(&mut self, number: RawFd) -> io::Result<()> {
-        let registry = self.poll.registry();
-        registry.reregister(&mut SourceFd(&number), CALLERS, Interest::READABLE)
-    }
-
-    /// Forgets the line, which was closed.
-    pub fn forget_line(&mut self) {
-        self.socket = Ready::NOT;
-        self.device = None;
-    }
-
-    /// Returns whether a read from the line may return something.
-    pub fn may_read_line(&self) -> bool
-        ensures { result ≡ (line_ready self.now).to_read }
-    {
-        match &self.device {
-            Some(device) => device.ready.to_read,
-            None => self.socket.to_read,
-        }
-    }
-
-    /// Returns whether a write to the line may succeed.
-    pub fn may_write_line(&self) -> bool
-        ensures { result ≡ (line_ready self.now).to_write }
-    {
-        match &self.device {
-            Some(device) => device.ready.to_write,
-            None => self.socket.to_write,
-        }
-    }
-
-    /// Notes a read from the line; `is_dry` if it returned nothing.
-    pub fn line_was_read(&mut self, is_dry: bool) {
-        match &mut self.device {
-            Some(device) => device.has_read(),
-            None => self.socket.to_read = !is_dry,
-        }
-    }
-
-    /// Notes a write to the line; `is_full` if it took nothing.
-    pub fn line_was_written(&mut self, is_full: bool) {
-        match &mut self.device {
-            Some(device) => device.has_written(),
-            None => self.socket.to_write = !is_full,
-        }
     }
 
     /// Waits until something that is needed is ready, or `most_ms` milliseconds or an hour have
@@ -250,9 +186,7 @@ impl Poller {
         self.input.ask(&self.poll, wanted.input, false);
         self.output.ask(&self.poll, false, wanted.output);
         self.errors.ask(&self.poll, false, wanted.errors);
-        if let Some(device) = &mut self.device {
-            device.ask(&self.poll, wanted.from_line, wanted.to_line);
-        }
+        self.line.ask(&self.poll, wanted.from_line, wanted.to_line);
         let most = if self.is_any_ready(wanted) {
             0
         } else {
@@ -273,23 +207,18 @@ impl Poller {
         wanted.input && self.input.ready.to_read
             || wanted.output && self.output.ready.to_write
             || wanted.errors && self.errors.ready.to_write
-            || wanted.from_line && self.may_read_line()
-            || wanted.to_line && self.may_write_line()
+            || self.line.is_ready(wanted.from_line, wanted.to_line)
     }
 
     /// Notes what the wait reported.
     fn note(&mut self) {
         for event in self.events.iter() {
-            let reported = Ready {
-                to_read: event.is_readable() || event.is_read_closed() || event.is_error(),
-                to_write: event.is_writable() || event.is_write_closed() || event.is_error(),
-            };
+            let reported = reported_by(event);
             match event.token() {
                 INPUT => self.input.ready.add(reported),
                 OUTPUT => self.output.ready.add(reported),
                 ERRORS => self.errors.ready.add(reported),
-                LINE => add_to_line(&mut self.device, &mut self.socket, reported),
-                _ => {}
+                token => self.line.note(token, reported),
             }
         }
     }
@@ -307,12 +236,4 @@ pub fn errors_take<N: Net>(net: &N, alloc: Global) -> bool {
         }
     }
     poller.errors.ready.to_write
-}
-
-/// Notes what the wait reported about the line.
-fn add_to_line(device: &mut Option<Descriptor>, socket: &mut Ready, reported: Ready) {
-    match device {
-        Some(device) => device.ready.add(reported),
-        None => socket.add(reported),
-    }
 }

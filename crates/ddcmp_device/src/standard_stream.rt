@@ -1,11 +1,13 @@
 //! A standard stream, written without blocking.
-ghost use Rattle.std.specs.Prelude.{◌≡◌, take};
+ghost use Rattle.std.specs.Prelude.{◌≡◌, ◌≤◌, length, take};
+ghost use Rattle.ddcmp_io.specs.Transfers.{count_moved};
 ghost use Rattle.ddcmp_device.specs.StandardStreams.{at_once};
 
 use crate::line::moved_by;
+use crate::poller::Descriptor;
 use ddcmp_io::Transfer;
 use std::fs::{self, File, Files, OpenOptions};
-use std::io::{IsTerminal, Write};
+use std::io::{Eprint, IsTerminal, Write};
 use std::os::fd::AsRawFd;
 use std::os::unix::fs::FileTypeExt;
 
@@ -56,7 +58,8 @@ impl StandardStream {
 
     /// Returns those of these bytes that its owner writes in one call.
     pub fn piece<'b>(&self, bytes: &'b [u8]) -> &'b [u8]
-        ensures { result.now ≡ at_once self.now bytes.now }
+        ensures piece { result.now ≡ at_once self.now bytes.now }
+        ensures most { length result.now ≤ length bytes.now }
     {
         match self {
             StandardStream::File => bytes,
@@ -67,9 +70,42 @@ impl StandardStream {
 
 /// Returns a prefix of some bytes, so short that writing it doesn't block.
 fn front(bytes: &[u8]) -> &[u8]
-    ensures { result.now ≡ take 4096 bytes.now }
+    ensures front { result.now ≡ take 4096 bytes.now }
+    ensures most { length result.now ≤ length bytes.now }
 {
     &bytes[..SMALL.min(bytes.len())]
+}
+
+/// Writes bytes to standard error, if it is ready. What its owner has to write counts as written
+/// even if that fails.
+pub fn write_errors<E: Eprint>(
+    system: &E,
+    stream: &mut StandardStream,
+    there: &mut Descriptor,
+    bytes: &[u8],
+) -> Transfer
+    ensures { count_moved result ≤ length bytes.now }
+{
+    if !there.ready.to_write {
+        return Transfer::Nothing;
+    }
+    match stream.write(bytes) {
+        Some(Transfer::Bytes(n)) => Transfer::Bytes(n.min(bytes.len())),
+        Some(Transfer::Interrupted) => Transfer::Interrupted,
+        Some(Transfer::Nothing) => {
+            there.has_written();
+            Transfer::Nothing
+        }
+        // The stream's owner gets the error.
+        Some(Transfer::Ended(_)) | None => {
+            there.has_written();
+            let piece = stream.piece(bytes);
+            if let Ok(text) = str::from_utf8(piece) {
+                let _ = system.eprint(text);
+            }
+            Transfer::Bytes(piece.len())
+        }
+    }
 }
 
 /// Opens a pipe or a terminal for nonblocking writes. Opening a pipe would block if it had no

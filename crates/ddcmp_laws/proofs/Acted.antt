@@ -224,7 +224,8 @@ split (one ∷ rest) s uses act r e =
         → Split rest one.session vs act r)
         → Split (one ∷ rest) s us act r
     by (inl none) us e more =
-        let m = more us (ap (λ (xs : List LineAct). xs ++ acts_in rest one.session) (sym none) ∙ e) in
+        let m =
+        more us (ap (λ (xs : List LineAct). xs ++ acts_in rest one.session) (sym none) ∙ e) in
         record {
           xs = one ∷ m.xs;
           step = m.step;

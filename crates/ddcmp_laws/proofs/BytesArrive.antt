@@ -80,7 +80,8 @@ was-run options binary kind last after new =
       };
       left = new.held.received;
       follows =
-          subst (λ g. Follows (log_of (record { made = made; steps = w.steps })) new.held.received g)
+          subst
+          (λ g. Follows (log_of (record { made = made; steps = w.steps })) new.held.received g)
           (sym logs) (w.order no_log first-follows);
     }
   where

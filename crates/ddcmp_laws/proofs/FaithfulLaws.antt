@@ -124,7 +124,8 @@ pub one_more : (fs sent : List WholeFrame) (g : WholeFrame) → IsSubsequence fs
 one_more [] sent g s = tt
 one_more (f ∷ fs) sent g s = inr s
 
-pub front_of : (fs gs sent : List WholeFrame) → IsSubsequence (fs ++ gs) sent → IsSubsequence fs sent
+pub front_of : (fs gs sent : List WholeFrame) → IsSubsequence (fs ++ gs) sent
+    → IsSubsequence fs sent
 front_of [] gs sent s = tt
 front_of (f ∷ fs) gs [] s = s
 front_of (f ∷ fs) gs (g ∷ sent) (inl s) = inl (s.0, front_of fs gs sent s.1)

@@ -3,7 +3,8 @@ use Rattle.std.proofs.Common.{◌≡◌, ◌≢◌, ℕ, ◌+◌, ◌<◌, ◌�
 use Rattle.std.proofs.Common.{List}
 use Rattle.std.proofs.Common.{[], ◌∷◌, ◌++◌, length, refl, sym, ◌∙◌, ap, subst, arith, Option, None}
 use Rattle.std.proofs.Common.{Some, append-nil}
-use Rattle.std.specs.Prelude.{◌↔◌, ◌&&◌, ◌||◌, ◌^◌, ◌==◌, not, nat_le, nat_lt, min, is_some, is_none, Ok}
+use Rattle.std.specs.Prelude.{◌↔◌, ◌&&◌, ◌||◌, ◌^◌, ◌==◌, not, nat_le, nat_lt, min, is_some}
+use Rattle.std.specs.Prelude.{is_none, Ok}
 use Rattle.ddcmp_core.specs.SendRefusal.TheVariants as refusal
 use Rattle.ddcmp_core.specs.Sender.{accept_refusal, answer_unless}
 use Rattle.ddcmp_core.specs.declared.state.State.{State}

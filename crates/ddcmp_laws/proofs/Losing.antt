@@ -251,7 +251,8 @@ refusal-lost : (ms : ℕ) (why : Option Nak) (c : Course) → (after_refusal ms 
 refusal-lost ms None c = refl
 refusal-lost ms (Some reason) c =
     if-lost (not c.is_refused) _ _ c.lost refl
-    (if-lost (is_none c.pause) (pause_begun ms (Some reason) c) c c.lost (pause-lost ms (Some reason) c)
+    (if-lost (is_none c.pause) (pause_begun ms (Some reason) c) c c.lost
+    (pause-lost ms (Some reason) c)
     refl)
 
 state-lost : (s : State) (c : Course) → (after_state s c).lost ≡ c.lost

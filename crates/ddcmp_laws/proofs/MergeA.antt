@@ -143,24 +143,30 @@ begins-some-a first second [] sb p log honest some done once bare other next = a
 begins-some-a first second (x ∷ rest) sb p log honest some done once bare other next =
     let one = step-once x.call x.session rest p.a done.0 once bare in
     by one.2 (zero-or (connects_in_call x.call)) (λ none.
-    begins-some-a first second rest sb (after_step_at A x p) (log_after x.call p.a.history.session log) honest none
+    begins-some-a first second rest sb (after_step_at A x p)
+    (log_after x.call p.a.history.session log) honest none
     done.1 one.2 one.3 other)
   where
     is : (after_step_at A x p).a.history.session ≡ x.session
     is = session-after x.call x.session p.a
 
-    by : Once rest (after_step_at A x p).a.history → (connects_in_call x.call ≡ 0) ⊎ (connects_in_call x.call ≡ 0 → ⊥)
+    by : Once rest (after_step_at A x p).a.history
+        → (connects_in_call x.call ≡ 0) ⊎ (connects_in_call x.call ≡ 0 → ⊥)
         → ((connections_in rest ≡ 0 → ⊥)
-        → Begun-a first second sb (log_over rest (after_step_at A x p).a.history.session (log_after x.call p.a.history.session log)).acts (after_step_at A x p)
+        → Begun-a first second sb
+        (log_over rest (after_step_at A x p).a.history.session
+        (log_after x.call p.a.history.session log)).acts (after_step_at A x p)
         → Merged first second rest sb (after_step_at A x p))
         → Merged first second (x ∷ rest) sb p
     by later (inl z) more =
         let none : connections_in rest ≡ 0 → ⊥ = λ e. some (omega (arith, z, e)) in
         then-a first second x rest sb p
         (frames-bare first second (after_step_at A x p) honest
-        (bare-new (after_step_at A x p).a.history (new-once rest (after_step_at A x p).a.history none later)) other)
+        (bare-new (after_step_at A x p).a.history
+        (new-once rest (after_step_at A x p).a.history none later)) other)
         (more none (λ post r alone acts bare_r same.
-        next post r alone (acts ∙ ap (λ v. (log_over rest v (log_after x.call p.a.history.session log)).acts) is) bare_r same))
+        next post r alone (acts ∙ ap
+        (λ v. (log_over rest v (log_after x.call p.a.history.session log)).acts) is) bare_r same))
     by later (inr n) more =
         let last : connections_in rest ≡ 0 =
         let m = once-most (x ∷ rest) p.a.history once in
@@ -168,10 +174,12 @@ begins-some-a first second (x ∷ rest) sb p log honest some done once bare othe
         omega (arith, m, k) in
         let empty : AreBare (after_step_at A x p).a.history =
         (used-anew x.call x.session p.a n, gone-anew x.call x.session p.a n) in
-        then-a first second x rest sb p (frames-bare first second (after_step_at A x p) honest empty other)
+        then-a first second x rest sb p
+        (frames-bare first second (after_step_at A x p) honest empty other)
         (next rest (after_step_at A x p) (are-alone rest last)
         (ap (acts_in rest) is
-        ∙ sym (log-alone rest x.session (log_after x.call p.a.history.session log) (are-alone rest last)
+        ∙ sym (log-alone rest x.session (log_after x.call p.a.history.session log)
+        (are-alone rest last)
         ∙ ap (λ (l : LineLog). l.acts ++ acts_in rest x.session)
         (log-anew x.call p.a.history.session log n))) empty refl)
 

@@ -101,24 +101,30 @@ begins-some-b first second [] sa p log honest some done once bare other next = a
 begins-some-b first second (x ∷ rest) sa p log honest some done once bare other next =
     let one = step-once x.call x.session rest p.b done.0 once bare in
     by one.2 (zero-or (connects_in_call x.call)) (λ none.
-    begins-some-b first second rest sa (after_step_at B x p) (log_after x.call p.b.history.session log) honest none
+    begins-some-b first second rest sa (after_step_at B x p)
+    (log_after x.call p.b.history.session log) honest none
     done.1 one.2 one.3 other)
   where
     is : (after_step_at B x p).b.history.session ≡ x.session
     is = session-after x.call x.session p.b
 
-    by : Once rest (after_step_at B x p).b.history → (connects_in_call x.call ≡ 0) ⊎ (connects_in_call x.call ≡ 0 → ⊥)
+    by : Once rest (after_step_at B x p).b.history
+        → (connects_in_call x.call ≡ 0) ⊎ (connects_in_call x.call ≡ 0 → ⊥)
         → ((connections_in rest ≡ 0 → ⊥)
-        → Begun-b first second sa (log_over rest (after_step_at B x p).b.history.session (log_after x.call p.b.history.session log)).acts (after_step_at B x p)
+        → Begun-b first second sa
+        (log_over rest (after_step_at B x p).b.history.session
+        (log_after x.call p.b.history.session log)).acts (after_step_at B x p)
         → Merged first second sa rest (after_step_at B x p))
         → Merged first second sa (x ∷ rest) p
     by later (inl z) more =
         let none : connections_in rest ≡ 0 → ⊥ = λ e. some (omega (arith, z, e)) in
         then-b first second x sa rest p
         (frames-bare first second (after_step_at B x p) honest other
-        (bare-new (after_step_at B x p).b.history (new-once rest (after_step_at B x p).b.history none later)))
+        (bare-new (after_step_at B x p).b.history
+        (new-once rest (after_step_at B x p).b.history none later)))
         (more none (λ post r alone acts bare_r same.
-        next post r alone (acts ∙ ap (λ v. (log_over rest v (log_after x.call p.b.history.session log)).acts) is) bare_r same))
+        next post r alone (acts ∙ ap
+        (λ v. (log_over rest v (log_after x.call p.b.history.session log)).acts) is) bare_r same))
     by later (inr n) more =
         let last : connections_in rest ≡ 0 =
         let m = once-most (x ∷ rest) p.b.history once in
@@ -126,10 +132,12 @@ begins-some-b first second (x ∷ rest) sa p log honest some done once bare othe
         omega (arith, m, k) in
         let empty : AreBare (after_step_at B x p).b.history =
         (used-anew x.call x.session p.b n, gone-anew x.call x.session p.b n) in
-        then-b first second x sa rest p (frames-bare first second (after_step_at B x p) honest other empty)
+        then-b first second x sa rest p
+        (frames-bare first second (after_step_at B x p) honest other empty)
         (next rest (after_step_at B x p) (are-alone rest last)
         (ap (acts_in rest) is
-        ∙ sym (log-alone rest x.session (log_after x.call p.b.history.session log) (are-alone rest last)
+        ∙ sym (log-alone rest x.session (log_after x.call p.b.history.session log)
+        (are-alone rest last)
         ∙ ap (λ (l : LineLog). l.acts ++ acts_in rest x.session)
         (log-anew x.call p.b.history.session log n))) empty refl)
 

@@ -13,7 +13,8 @@ use Rattle.ddcmp_laws.specs.Connections.{first_connections}
 use Rattle.ddcmp_laws.specs.Pipe.{Made, connects_in_call, session_of}
 use Rattle.ddcmp_laws.specs.SessionRuns.{Ran}
 use Rattle.ddcmp_laws.specs.Traces.{IsHonest, acts_of}
-use Rattle.ddcmp_laws.proofs.Acted.{AreAlone, Split, act-gone, act-used, act_of, acts_in, alone-back}
+use Rattle.ddcmp_laws.proofs.Acted.{AreAlone, Split, act-gone, act-used, act_of, acts_in}
+use Rattle.ddcmp_laws.proofs.Acted.{alone-back}
 use Rattle.ddcmp_laws.proofs.Acted.{alone-front, split}
 use Rattle.ddcmp_laws.proofs.FramesTogether.{RanOverFrames}
 use Rattle.ddcmp_laws.proofs.LastSteps.{after-same}

@@ -135,7 +135,8 @@ among-none : (fs : List WholeFrame) → IsSubsequence fs [] → fs ≡ []
 among-none [] a = refl
 among-none (f ∷ fs) a = absurd a
 
-pub none-good : (max : ℕ) (text : List ℕ) → IsSubsequence (good_frames max text) (good_frames max [])
+pub none-good : (max : ℕ) (text : List ℕ)
+    → IsSubsequence (good_frames max text) (good_frames max [])
     → good_frames max text ≡ []
 unfolding good_frames_in
 none-good max text a =

@@ -10,7 +10,8 @@ use Rattle.ddcmp_core.specs.declared.state.State.TheVariants.{Halted, IStart, AS
 use Rattle.ddcmp_core.specs.declared.state.State.TheVariants.{Maintenance}
 use Rattle.ddcmp_core.specs.declared.state.Timer.{Timer}
 use Rattle.ddcmp_core.specs.declared.state.Timer.TheVariants.{Off, Fresh, On}
-use Rattle.ddcmp_core.specs.Table.{next, next_by, next_frame, next_maintenance, after_take_arm, is_on}
+use Rattle.ddcmp_core.specs.Table.{next, next_by, next_frame, next_maintenance, after_take_arm}
+use Rattle.ddcmp_core.specs.Table.{is_on}
 use Rattle.ddcmp_core.specs.Table.{has_room, Frame, Strt, Stack, Maint, Limits, StationState}
 use Rattle.ddcmp_proto.specs.Bytes.{frame_on_line}
 use Rattle.ddcmp_proto.specs.Config.{first_refusal}

@@ -1,5 +1,6 @@
 -- Two links, over honest lines and over streams.
-use Rattle.std.proofs.Common.{length-append, ◌≡◌, ℕ, ◌+◌, Bool, true, false, cond, List, [], ◌∷◌, ◌++◌, length}
+use Rattle.std.proofs.Common.{length-append, ◌≡◌, ℕ, ◌+◌, Bool, true, false, cond, List, [], ◌∷◌}
+use Rattle.std.proofs.Common.{◌++◌, length}
 use Rattle.std.proofs.Common.{refl, sym, ◌∙◌, ap, subst, arith, None}
 use Rattle.std.specs.Prelude.{◌&&◌}
 use Rattle.std.proofs.lemmas.List.Sums.{sum_by-append}
@@ -319,13 +320,15 @@ module _ (first second : Config) (ms other_ms : ℕ) (line other_line : ReaderVi
   pub all_acknowledged_a : NoneOut (after_steps steps links).a
       → (after_steps steps links).a.acknowledged ≡ length (after_steps steps links).a.accepted
   all_acknowledged_a =
-      counted_all _ _ _ ends.a ((calls_in_order first second calls f g).where_clean honest clean).a_to_b
+      counted_all _ _ _ ends.a
+      ((calls_in_order first second calls f g).where_clean honest clean).a_to_b
       (calls_acknowledged first second calls f g honest clean).0
 
   pub all_acknowledged_b : NoneOut (after_steps steps links).b
       → (after_steps steps links).b.acknowledged ≡ length (after_steps steps links).b.accepted
   all_acknowledged_b =
-      counted_all _ _ _ ends.b ((calls_in_order first second calls f g).where_clean honest clean).b_to_a
+      counted_all _ _ _ ends.b
+      ((calls_in_order first second calls f g).where_clean honest clean).b_to_a
       (calls_acknowledged first second calls f g honest clean).1
 
   pub all_to_b : delivered (after_steps steps links).a.link ≡ true

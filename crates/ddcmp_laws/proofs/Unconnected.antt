@@ -22,7 +22,8 @@ use Rattle.ddcmp_station.specs.Linking.{with_state}
 use Rattle.ddcmp_streams.specs.Messages.{after_input, entries_of_input}
 use Rattle.ddcmp_session.specs.declared.course.Course.{Course}
 use Rattle.ddcmp_session.specs.Course.{after_looked, after_moment, after_notices}
-use Rattle.ddcmp_session.specs.Course.{after_opening_failed, after_pauses, after_unheard, after_writing}
+use Rattle.ddcmp_session.specs.Course.{after_opening_failed, after_pauses, after_unheard}
+use Rattle.ddcmp_session.specs.Course.{after_writing}
 use Rattle.ddcmp_session.specs.Course.{expiry_counted}
 use Rattle.ddcmp_session.specs.Session.{SessionView, after_last_line, after_time, after_timeout}
 use Rattle.ddcmp_session.specs.Session.{after_telling, after_tried, after_unfinished, awaits_peer}

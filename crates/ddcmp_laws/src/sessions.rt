@@ -1,5 +1,5 @@
 //! A session does what its link does, and writes the text of that.
-ghost use Rattle.std.specs.Prelude.{◌≡◌, ◌++◌, ℕ, List, false};
+ghost use Rattle.std.specs.Prelude.{◌≡◌, ◌++◌, List, false};
 ghost use Rattle.ddcmp_frame.specs.Reader.{ReaderView};
 ghost use Rattle.ddcmp_input.specs.InBinary.{in_binary};
 ghost use Rattle.ddcmp_io.specs.declared.line_kind.LineKind.{LineKind as LineKindValue};

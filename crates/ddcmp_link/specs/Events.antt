@@ -1,13 +1,17 @@
 -- What a link reports about its line on standard error.
 use Rattle.std.specs.Prelude.{◌≡◌, ℕ, List, Option, Some, None}
 use Rattle.std.specs.Fmt.Cut.{IsTextOrCut}
-use Rattle.ddcmp_device.specs.Events.{event_text}
-use Rattle.ddcmp_device.specs.declared.event.LineEvent.{LineEvent}
+use Rattle.ddcmp_ports.specs.Events.{event_text}
+use Rattle.ddcmp_ports.specs.declared.event.LineEvent.{LineEvent}
 use Rattle.ddcmp_streams.specs.Errors.{ErrorsView, HasEvent}
 use Rattle.ddcmp_streams.specs.declared.errors.TheConstants.{EVENT_ROOM}
 
--- The event was reported, if there is one: its text, whole or truncated with dots at the end.
+-- The text was reported, whole or truncated with dots at the end.
+abbrev pub HasReported : List ℕ → ErrorsView → ErrorsView → Type 0
+HasReported event old new =
+    (text : List ℕ) × IsTextOrCut EVENT_ROOM event text × HasEvent text old new
+
+-- The event was reported, if there is one.
 abbrev pub Reports : Option LineEvent → ErrorsView → ErrorsView → Type 0
 Reports None old new = new ≡ old
-Reports (Some event) old new =
-    (text : List ℕ) × IsTextOrCut EVENT_ROOM (event_text event) text × HasEvent text old new
+Reports (Some event) old new = HasReported (event_text event) old new

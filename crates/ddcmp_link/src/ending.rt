@@ -1,10 +1,10 @@
 //! Why the run of a link ends before all is delivered.
 ghost use Rattle.std.specs.Prelude.{◌≡◌, ◌≢◌, ℕ};
-ghost use Rattle.ddcmp_device.specs.LineNames.{open_fault_of};
-ghost use Rattle.ddcmp_device.specs.declared.opener.OpenRefusal.{OpenRefusal as RefusalValue};
+ghost use Rattle.ddcmp_ports.specs.LineNames.{open_fault_of};
+ghost use Rattle.ddcmp_ports.specs.declared.fault.OpenRefusal.{OpenRefusal as RefusalValue};
 
 use crate::fault::LinkFailure;
-use ddcmp_device::{Attempt, Cause, LineName, OpenFault, OpenRefusal};
+use ddcmp_ports::{Attempt, Cause, LineName, OpenFault, OpenRefusal};
 use ddcmp_session::{DeviceFault, Stop};
 use std::io::ErrorKind;
 

@@ -1,5 +1,5 @@
 //! Why a link over a line failed.
-use ddcmp_device::OpenFault;
+use ddcmp_ports::OpenFault;
 
 /// Why a link over a line ended before all was delivered.
 #[derive(Clone, Copy)]

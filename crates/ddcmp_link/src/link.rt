@@ -4,8 +4,9 @@ ghost use Rattle.std.specs.Prelude.{◌≡◌, ◌≢◌, ◌↔◌, Err, IsTrue
 use crate::ending::LinkStop;
 use crate::fault::LinkFailure;
 use crate::live::{Live, Parts};
-use ddcmp_device::{LineName, Poller, StandardInput, System};
+use ddcmp_device::{Poller, StandardInput, System};
 use ddcmp_io::{LineKind, Sink, Source, Worst};
+use ddcmp_ports::LineName;
 use ddcmp_session::{LinkFault, LinkOutcome, Options, run_link};
 use ddcmp_station::Elapsed;
 use std::alloc::Global;

@@ -6,11 +6,11 @@ ghost use Rattle.ddcmp_link.specs.Events.{Reports};
 ghost use Rattle.ddcmp_session.specs.Traffic.{count_read};
 
 use ddcmp_device::{
-    Descriptor, Framing, Line, LineEvent, LineName, OpenRefusal, Opener, Pace, Poller,
-    StandardStream, System,
+    Descriptor, Framing, Line, Opener, Pace, Poller, StandardStream, System, write_errors,
 };
 use ddcmp_frame::ReaderRefusal;
 use ddcmp_io::{Down, Got, Sink, Source, Transfer, Wanted, Worst};
+use ddcmp_ports::{LineEvent, LineName, OpenRefusal, Retry};
 use ddcmp_session::{Buffers, Devices, Session};
 use ddcmp_station::Clock;
 use std::alloc::Global;
@@ -123,17 +123,6 @@ impl<'a, S: System, C: Clock + Drop, R: Source, W: Sink> Live<'a, S, C, R, W> {
             None => FAILED,
         }
     }
-
-    /// Prints some of the pending bytes. They count as written even if that fails.
-    fn print_some(&mut self, bytes: &[u8]) -> Transfer
-        ensures { result ≡ Transfer.Bytes (length (at_once self.old.errors bytes.now)) }
-    {
-        let bytes = self.errors.piece(bytes);
-        if let Ok(text) = str::from_utf8(bytes) {
-            let _ = self.system.eprint(text);
-        }
-        Transfer::Bytes(bytes.len())
-    }
 }
 
 /// A write by the owner of an output failed.
@@ -172,9 +161,9 @@ fn written(stream: &mut StandardStream, there: &mut Descriptor, bytes: &[u8]) ->
 }
 
 /// Reports an event of the line on standard error, if there is one.
-fn report(session: &mut Session, event: Option<LineEvent<'_>>)
+fn report(session: &mut Session, event: Option<LineEvent>)
     ensures state { session.new.state ≡ session.old.state }
-    ensures errors { Reports event.entry session.old.log.errors session.new.log.errors }
+    ensures errors { Reports event session.old.log.errors session.new.log.errors }
     ensures log { session.new.log ≡ record session.old.log { errors = session.new.log.errors } }
 {
     if let Some(event) = event {
@@ -184,10 +173,10 @@ fn report(session: &mut Session, event: Option<LineEvent<'_>>)
 
 impl<S: System, C: Clock + Drop, R: Source, W: Sink> Devices for Live<'_, S, C, R, W> {
     ghost use Rattle.std.specs.Prelude.{IfOk, OnErr, None, Some, is_some};
-    ghost use Rattle.ddcmp_link.specs.Events.{Reports};
-    ghost use Rattle.ddcmp_device.specs.LineNames.{line_kind, open_fault_of};
+    ghost use Rattle.ddcmp_link.specs.Events.{HasReported, Reports};
+    ghost use Rattle.ddcmp_ports.specs.Events.{retry_text};
+    ghost use Rattle.ddcmp_ports.specs.LineNames.{line_kind, open_fault_of};
     ghost use Rattle.ddcmp_device.specs.Opening.{SameIfNotYet, Opens, event_of, line_of};
-    ghost use Rattle.ddcmp_device.specs.declared.event.LineEvent.TheVariants as event;
     ghost use Rattle.ddcmp_device.specs.declared.opener.Opened.{Opened};
 
     ghost traffic = { λ _. None };
@@ -206,7 +195,10 @@ impl<S: System, C: Clock + Drop, R: Source, W: Sink> Devices for Live<'_, S, C, 
             × Reports (event_of opened) session.old.log.errors session.new.log.errors) }
         ensures refused { OnErr result (session.new ≡ session.old) }
     {
-        let opened = self.opener.open(self.system, &mut self.poller)?;
+        let opened = {
+            let Poller { poll, line, .. } = &mut self.poller;
+            self.opener.open(self.system, poll, line)?
+        };
         report(session, opened.event());
         self.line = opened.into_line();
         Ok(self.line.is_some())
@@ -216,19 +208,19 @@ impl<S: System, C: Clock + Drop, R: Source, W: Sink> Devices for Live<'_, S, C, 
         ensures session { session.new.state ≡ session.old.state }
         ensures log { session.new.log
             ≡ record session.old.log { errors = session.new.log.errors } }
-        ensures reports { Reports
-            (Some (event.Retry (open_fault_of self.old.name refusal) seconds))
+        ensures reports { HasReported
+            (retry_text (record { fault = open_fault_of self.old.name refusal; seconds = seconds }))
             session.old.log.errors session.new.log.errors }
     {
         let fault = self.name.open_fault(refusal);
-        report(session, Some(LineEvent::Retry(fault, seconds)));
+        session.report(&InlineText::of(Retry { fault, seconds }));
     }
 
     fn close_line(&mut self) {
         if let Some(line) = self.line.take() {
             line.close(&mut self.clock);
         }
-        self.poller.forget_line();
+        self.poller.line.forget();
     }
 
     fn read_input(&mut self, space: &mut [u8]) -> Got {
@@ -236,7 +228,7 @@ impl<S: System, C: Clock + Drop, R: Source, W: Sink> Devices for Live<'_, S, C, 
     }
 
     fn may_read_line(&self) -> bool {
-        self.poller.may_read_line()
+        self.poller.line.may_read()
     }
 
     fn read_line(&mut self, space: &mut [u8]) -> Transfer {
@@ -244,7 +236,7 @@ impl<S: System, C: Clock + Drop, R: Source, W: Sink> Devices for Live<'_, S, C, 
             return Transfer::Ended(Down::Closed);
         };
         let got = line.read(space);
-        self.poller.line_was_read(got == Transfer::Nothing);
+        self.poller.line.was_read(got == Transfer::Nothing);
         match (got, &mut self.framing) {
             // No frame continues in the next datagram, so an incomplete one is dropped.
             (Transfer::Bytes(n), Some(framing)) => {
@@ -261,12 +253,12 @@ impl<S: System, C: Clock + Drop, R: Source, W: Sink> Devices for Live<'_, S, C, 
         let Some(line) = &mut self.line else {
             return Transfer::Ended(Down::Closed);
         };
-        if !self.poller.may_write_line() {
+        if !self.poller.line.may_write() {
             return Transfer::Nothing;
         }
         if !self.pace.is_on() {
             let took = line.write(bytes);
-            self.poller.line_was_written(took == Transfer::Nothing);
+            self.poller.line.was_written(took == Transfer::Nothing);
             return took;
         }
         let now = self.clock.now();
@@ -276,7 +268,7 @@ impl<S: System, C: Clock + Drop, R: Source, W: Sink> Devices for Live<'_, S, C, 
         }
         let took = line.write(&bytes[..most]);
         self.pace.given(now, took.count());
-        self.poller.line_was_written(took == Transfer::Nothing);
+        self.poller.line.was_written(took == Transfer::Nothing);
         took
     }
 
@@ -291,13 +283,12 @@ impl<S: System, C: Clock + Drop, R: Source, W: Sink> Devices for Live<'_, S, C, 
     }
 
     fn write_errors(&mut self, bytes: &[u8]) -> Transfer {
-        if !self.poller.errors.ready.to_write {
-            return Transfer::Nothing;
-        }
-        match written(&mut self.errors, &mut self.poller.errors, bytes) {
-            Some(moved) => moved,
-            None => self.print_some(bytes),
-        }
+        write_errors(
+            self.system,
+            &mut self.errors,
+            &mut self.poller.errors,
+            bytes,
+        )
     }
 
     fn rest(&mut self, session: &Session, buffers: &Buffers, most_ms: u64) -> bool {

@@ -13,6 +13,7 @@ pub mod LinesGo
 pub mod InputLaws
 pub mod LogLaws
 pub mod LoggedLaws
+pub mod NakPauseLaws
 pub mod NewRunLaws
 pub mod NoticeLaws
 pub mod OrderLaws

@@ -174,13 +174,15 @@ line-told {held} {k} {k'} old new n becomes does = λ h t is was a.
     )
 
 pub line-took : {held : BuffersView} {k k' : Option Traffic} (old new : SessionView) (n : ℕ)
-    (bytes : List ℕ) → bytes ≡ old.link.outbox.waiting → Becomes k k' (after_line_written (Bytes n) bytes)
+    (bytes : List ℕ) → bytes ≡ old.link.outbox.waiting
+    → Becomes k k' (after_line_written (Bytes n) bytes)
     → new ≡ record old {
       link = after_sent (min n (length old.link.outbox.waiting)) old.link;
     }
     → GoesOn held old k held new k'
 line-took {held} {k} {k'} old new n bytes same becomes does =
-    line-told old new n (subst (λ xs. Becomes k k' (after_line_written (Bytes n) xs)) same becomes) does
+    line-told old new n (subst (λ xs. Becomes k k' (after_line_written (Bytes n) xs)) same becomes)
+    does
 
 -- the output took bytes, and the session was told so
 output-told : {held : BuffersView} {k k' : Option Traffic} (old new : SessionView) (n : ℕ)

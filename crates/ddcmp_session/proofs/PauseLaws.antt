@@ -28,7 +28,7 @@ use Rattle.ddcmp_session.specs.Course.{goes_on, is_at, lost_more, next_pause, pa
 use Rattle.ddcmp_session.specs.Course.{after_naks, after_writing, naks_of, progress_of}
 use Rattle.ddcmp_session.specs.Course.{refusal_between}
 use Rattle.ddcmp_session.specs.Course.{try_counted}
-use Rattle.ddcmp_session.specs.Session.{SessionView, after_connected, after_connecting_in}
+use Rattle.ddcmp_session.specs.Session.{SessionView, after_connecting_in}
 use Rattle.ddcmp_session.specs.Session.{after_entries, after_entry, after_input_end}
 use Rattle.ddcmp_session.specs.Session.{after_last_line, after_telling, after_time, after_timeout}
 use Rattle.ddcmp_session.specs.Session.{after_unfinished, awaits_peer, expires, is_sending}
@@ -39,49 +39,71 @@ use Rattle.ddcmp_session.specs.Calls.{SessionCall, SessionDoes, InputRead, Input
 use Rattle.ddcmp_session.specs.Calls.{LineEnded, Received, Filled, LineTook, TimedOut, TimePassed}
 use Rattle.ddcmp_session.specs.Calls.{Delivered, OutputTook, Closed}
 
--- A pause begins and ends within this time.
-record Begins (timer_ms : ℕ) (old new : Course) : Type 0 where
-  pub before : old.pause ≡ None
+-- A pause begins at this moment and ends within this time.
+pub record Begins (timer_ms moment : ℕ) (old new : Option ℕ) : Type 0 where
+  pub before : old ≡ None
   pub until : ℕ
-  pub pause : new.pause ≡ Some until
-  pub short : until ≤ new.moment + timer_ms
+  pub pause : new ≡ Some until
+  pub short : until ≤ moment + timer_ms
 
 -- It stays as it is, is over, or begins.
-abbrev PauseGoes : ℕ → Course → Course → Type 0
-PauseGoes timer_ms old new =
-    (new.pause ≡ old.pause) ⊎ ((new.pause ≡ None) ⊎ Begins timer_ms old new)
+abbrev pub Goes : ℕ → ℕ → Option ℕ → Option ℕ → Type 0
+Goes timer_ms moment old new =
+    (new ≡ old) ⊎ ((new ≡ None) ⊎ Begins timer_ms moment old new)
 
-record Keeps (old new : Course) : Type 0 where
+abbrev PauseGoes : ℕ → Course → Course → Type 0
+PauseGoes timer_ms old new = Goes timer_ms new.moment old.pause new.pause
+
+-- Neither pause nor the moment changes.
+pub record Keeps (old new : Course) : Type 0 where
   pub pause : new.pause ≡ old.pause
+  pub nak_pause : new.nak_pause ≡ old.nak_pause
   pub moment : new.moment ≡ old.moment
 
-keeps : (old new : Course) → new ≡ old → Keeps old new
+pub keeps : (old new : Course) → new ≡ old → Keeps old new
 keeps old new e =
-    record { pause = ap (λ (c : Course). c.pause) e; moment = ap (λ (c : Course). c.moment) e }
+    record {
+      pause = ap (λ (c : Course). c.pause) e;
+      nak_pause = ap (λ (c : Course). c.nak_pause) e;
+      moment = ap (λ (c : Course). c.moment) e;
+    }
 
-then-keeps : (a b c : Course) → Keeps a b → Keeps b c → Keeps a c
+kept : (c : Course) → Keeps c c
+kept c = keeps c c refl
+
+pub then-keeps : (a b c : Course) → Keeps a b → Keeps b c → Keeps a c
 then-keeps a b c k l =
-    record { pause = l.pause ∙ k.pause; moment = l.moment ∙ k.moment }
+    record {
+      pause = l.pause ∙ k.pause;
+      nak_pause = l.nak_pause ∙ k.nak_pause;
+      moment = l.moment ∙ k.moment;
+    }
 
-goes-on : (ms : ℕ) (a b c : Course) → PauseGoes ms a b → Keeps b c → PauseGoes ms a c
-goes-on ms a b c (inl e) k = inl (k.pause ∙ e)
-goes-on ms a b c (inr (inl e)) k = inr (inl (k.pause ∙ e))
-goes-on ms a b c (inr (inr g)) k =
+pub goes-on : (ms m m' : ℕ) (p q q' : Option ℕ) → Goes ms m p q → q' ≡ q → m' ≡ m
+    → Goes ms m' p q'
+goes-on ms m m' p q q' (inl e) same at = inl (same ∙ e)
+goes-on ms m m' p q q' (inr (inl e)) same at = inr (inl (same ∙ e))
+goes-on ms m m' p q q' (inr (inr g)) same at =
     inr
     (inr
     (record {
       before = g.before;
       until = g.until;
-      pause = k.pause ∙ g.pause;
-      short = (let e = k.moment in omega (arith, g.short, e));
+      pause = same ∙ g.pause;
+      short = omega (arith, g.short, at);
     }))
 
-either-pause : (b : Bool) (x y : Course) (p : Option ℕ) → x.pause ≡ p → y.pause ≡ p
+pub either-pause : (b : Bool) (x y : Course) (p : Option ℕ) → x.pause ≡ p → y.pause ≡ p
     → (cond b x y).pause ≡ p
 either-pause true x y p e f = e
 either-pause false x y p e f = f
 
-either-moment : (b : Bool) (x y : Course) (n : ℕ) → x.moment ≡ n → y.moment ≡ n
+pub either-nak : (b : Bool) (x y : Course) (p : Option ℕ) → x.nak_pause ≡ p → y.nak_pause ≡ p
+    → (cond b x y).nak_pause ≡ p
+either-nak true x y p e f = e
+either-nak false x y p e f = f
+
+pub either-moment : (b : Bool) (x y : Course) (n : ℕ) → x.moment ≡ n → y.moment ≡ n
     → (cond b x y).moment ≡ n
 either-moment true x y n e f = e
 either-moment false x y n e f = f
@@ -90,12 +112,14 @@ either : (b : Bool) (x y c : Course) → Keeps c x → Keeps c y → Keeps c (co
 either b x y c k l =
     record {
       pause = either-pause b x y c.pause k.pause l.pause;
+      nak_pause = either-nak b x y c.nak_pause k.nak_pause l.nak_pause;
       moment = either-moment b x y c.moment k.moment l.moment;
     }
 
 -- ---- bytes of the line
 
-begun : (ms : ℕ) (why : Option Nak) (c : Course) → c.pause ≡ None → Begins ms c (pause_begun ms why c)
+begun : (ms : ℕ) (why : Option Nak) (c : Course) → c.pause ≡ None
+    → Begins ms (pause_begun ms why c).moment c.pause (pause_begun ms why c).pause
 begun ms why c e =
     let length = next_pause ms c.pause_ms in
     let at =
@@ -133,56 +157,65 @@ refused ms why n c = by (n == c.acknowledged) why
     by false None = inr (inl refl)
     by false (Some reason) = inr (inl refl)
 
-heard : (ms : ℕ) (c new : Course) → PauseGoes ms (after_heard c) new → PauseGoes ms c new
-heard ms c new (inl e) = inl e
-heard ms c new (inr (inl e)) = inr (inl e)
-heard ms c new (inr (inr b)) =
-    inr
-    (inr (record { before = b.before; until = b.until; pause = b.pause; short = b.short }))
-
-in-state : (s : State) (c : Course) → Keeps c (after_state s c)
+pub in-state : (s : State) (c : Course) → Keeps c (after_state s c)
 in-state state.Halted c = keeps c c refl
 in-state state.IStart c = keeps c c refl
-in-state state.AStart c = record { pause = refl; moment = refl }
-in-state state.Running c = record { pause = refl; moment = refl }
-in-state state.Maintenance c = record { pause = refl; moment = refl }
+in-state state.AStart c = record { pause = refl; nak_pause = refl; moment = refl }
+in-state state.Running c = record { pause = refl; nak_pause = refl; moment = refl }
+in-state state.Maintenance c = record { pause = refl; nak_pause = refl; moment = refl }
 
-noise : (d : LinkView) (p : Progress) (c : Course) → Keeps c (after_noise d p c)
+pub noise : (d : LinkView) (p : Progress) (c : Course) → Keeps c (after_noise d p c)
 noise d p c =
-    either (goes_on p c.progress) _ _ c (record { pause = refl; moment = refl })
-    (either (not (is_needed d)) c _ c (keeps c c refl)
-    (either (nat_lt 0 (length d.station.core.station.out)) _ _ c
-    (record { pause = refl; moment = refl })
-    (either (delivered d) _ _ c (record { pause = refl; moment = refl })
-    (either (nat_lt c.replies 7) _ c c (record { pause = refl; moment = refl })
-    (keeps c c refl)))))
+    either (goes_on p c.progress) _ _ c quiet
+    (either (not (is_needed d)) c _ c (kept c)
+    (either (nat_lt 0 (length d.station.core.station.out)) _ _ c quiet
+    (either (delivered d) _ _ c quiet
+    (either (nat_lt c.replies 7) _ c c quiet (kept c)))))
+  where
+    quiet : {replies : ℕ} → Keeps c (record c { quiet_since = c.moment; replies = replies })
+    quiet = record { pause = refl; nak_pause = refl; moment = refl }
 
-naks : (ms n : ℕ) (p : Progress) (c : Course) → Keeps c (after_naks ms n p c)
-naks ms n p c =
-    either (goes_on p c.progress) _ _ c (record { pause = refl; moment = refl })
-    (either (n == c.naks || is_some c.nak_pause) c _ c (keeps c c refl)
-    (record { pause = refl; moment = refl }))
+-- what follows the pauses, once bytes were fed
+pub after-naks : (d : LinkView) (c : Course)
+    → Keeps c
+    (after_state (state_of d).state
+    (after_progress (progress_of d) (after_noise d (progress_of d) c)))
+after-naks d c =
+    then-keeps c three (after_state (state_of d).state three)
+    (then-keeps c two three (noise d p c) progress) (in-state (state_of d).state three)
+  where
+    p : Progress
+    p = progress_of d
+
+    two : Course
+    two = after_noise d p c
+
+    three : Course
+    three = after_progress p two
+
+    progress : Keeps two three
+    progress =
+        either (is_at p two.progress) two _ two (kept two)
+        (record { pause = refl; nak_pause = refl; moment = refl })
 
 looked : (ms : ℕ) (before : NakCounts) (d : LinkView) (c : Course)
     → PauseGoes ms c (after_looked ms before d c)
 unfolding after_looked
 looked ms before d c =
     let p = progress_of d in
+    let n = naks_of d.station.core.counters.nak_sent in
     let why = refusal_between before d.station.core.counters.nak_received in
     let one = after_refusal ms why (after_acknowledged d.totals.acknowledged (after_heard c)) in
-    let held = after_naks ms (naks_of d.station.core.counters.nak_sent) p one in
-    let two = after_noise d p held in
-    let three = after_progress p two in
-    let four = after_state (state_of d).state three in
-    let progress =
-    either (is_at p two.progress) two (record two { progress = Some p; tries = 0; refusal = None })
-    two (keeps two two refl) (record { pause = refl; moment = refl }) in
-    goes-on ms c one four (heard ms c one (refused ms why d.totals.acknowledged (after_heard c)))
-    (then-keeps one three four
-    (then-keeps one two three
-    (then-keeps one held two (naks ms (naks_of d.station.core.counters.nak_sent) p one)
-    (noise d p held)) progress)
-    (in-state (state_of d).state three))
+    let held = after_naks ms n p one in
+    let four = after-naks d held in
+    goes-on ms one.moment _ c.pause one.pause _
+    (refused ms why d.totals.acknowledged (after_heard c))
+    (four.pause
+    ∙ either-pause (goes_on p one.progress) _ _ one.pause refl
+    (either-pause (n == one.naks || is_some one.nak_pause) one _ one.pause refl refl))
+    (four.moment
+    ∙ either-moment (goes_on p one.progress) _ _ one.moment refl
+    (either-moment (n == one.naks || is_some one.nak_pause) one _ one.moment refl refl))
 
 noticed : (n : Notice) (c : Course) → Keeps c (after_notice n c)
 noticed notice.Running c = keeps c c refl
@@ -191,13 +224,13 @@ noticed (notice.Acknowledged m) c = keeps c c refl
 noticed notice.HandedUp c = keeps c c refl
 noticed (notice.HandedUpAndAcknowledged m) c = keeps c c refl
 noticed notice.PeerStarts c = keeps c c refl
-noticed notice.PeerRestarted c = record { pause = refl; moment = refl }
-noticed (notice.Restarted count) c = record { pause = refl; moment = refl }
+noticed notice.PeerRestarted c = record { pause = refl; nak_pause = refl; moment = refl }
+noticed (notice.Restarted count) c = record { pause = refl; nak_pause = refl; moment = refl }
 noticed notice.MaintenanceSeen c = keeps c c refl
 noticed notice.MaintenanceHandedUp c = keeps c c refl
 noticed notice.MaintenanceDropped c = keeps c c refl
 
-all-noticed : (ns : List Notice) (c : Course) → Keeps c (after_notices ns c)
+pub all-noticed : (ns : List Notice) (c : Course) → Keeps c (after_notices ns c)
 unfolding after_notices
 all-noticed [] c = keeps c c refl
 all-noticed (n ∷ rest) c =
@@ -219,9 +252,10 @@ received s d ns new e =
     by : (b : Bool)
         → PauseGoes s.options.timer_ms s.course (cond b (after_notices ns after) s.course)
     by true =
-        goes-on s.options.timer_ms s.course after (after_notices ns after)
-        (looked s.options.timer_ms s.link.station.core.counters.nak_received d s.course)
-        (all-noticed ns after)
+        let told = all-noticed ns after in
+        goes-on s.options.timer_ms after.moment _ s.course.pause after.pause _
+        (looked s.options.timer_ms s.link.station.core.counters.nak_received d s.course) told.pause
+        told.moment
     by false = inl refl
 
 -- ---- moments
@@ -241,11 +275,12 @@ timed-pause now s =
     let at = either-pause (expires now s && not (awaits_peer t)) _ c p counted refl in
     either-pause (wants_line u) _ (after_unheard (after_telling u).course) p at at
 
-ended-pause : (now until : ℕ) (p : Option ℕ) → p ≡ Some until → until ≤ now → pause_at now p ≡ None
+pub ended-pause : (now until : ℕ) (p : Option ℕ) → p ≡ Some until → until ≤ now
+    → pause_at now p ≡ None
 ended-pause now until p e at =
     ap (pause_at now) e ∙ ap (λ b. cond b None (Some until)) (le-leb until now at)
 
-passed-pause : (now : ℕ) (p : Option ℕ) → (pause_at now p ≡ p) ⊎ (pause_at now p ≡ None)
+pub passed-pause : (now : ℕ) (p : Option ℕ) → (pause_at now p ≡ p) ⊎ (pause_at now p ≡ None)
 passed-pause now p = by (is_due now p)
   where
     by : (b : Bool) → (cond b None p ≡ p) ⊎ (cond b None p ≡ None)
@@ -260,11 +295,11 @@ entry-keeps entry.NotHexadecimal s = refl
 entry-keeps entry.TooLong s = refl
 entry-keeps entry.Empty s = refl
 
-entries-keep : (es : List Entry) (s : SessionView) → (after_entries es s).course ≡ s.course
+pub entries-keep : (es : List Entry) (s : SessionView) → (after_entries es s).course ≡ s.course
 entries-keep [] s = refl
 entries-keep (e ∷ rest) s = entry-keeps e s
 
-input-end-keeps : (s : SessionView) → (after_input_end s).course ≡ s.course
+pub input-end-keeps : (s : SessionView) → (after_input_end s).course ≡ s.course
 input-end-keeps s = by (takes_end s)
   where
     last : SessionView
@@ -355,28 +390,32 @@ some-none e = cc
 same-some : {m n : ℕ} → Some m ≡ Some n → m ≡ n
 same-some e = cc
 
+pub not-prolonged : (ms m until : ℕ) (p q : Option ℕ) → Goes ms m p q → p ≡ Some until
+    → (q ≡ Some until) ⊎ (q ≡ None)
+not-prolonged ms m until p q (inl same) e = inl (same ∙ e)
+not-prolonged ms m until p q (inr (inl over)) e = inr over
+not-prolonged ms m until p q (inr (inr b)) e = some-none (sym b.before ∙ e)
+
+pub in-time : (ms m until : ℕ) (p q : Option ℕ) → Goes ms m p q → p ≡ None → q ≡ Some until
+    → until ≤ m + ms
+in-time ms m until p q (inl same) e f = some-none (sym e ∙ sym same ∙ f)
+in-time ms m until p q (inr (inl over)) e f = some-none (sym over ∙ f)
+in-time ms m until p q (inr (inr b)) e f =
+    let is = same-some (sym b.pause ∙ f) in omega (arith, b.short, is)
+
 pub never-prolonged : (call : SessionCall) (text : List ℕ) (old new : SessionView) (until : ℕ)
     → SessionDoes call text old new → old.course.pause ≡ Some until
     → (new.course.pause ≡ Some until) ⊎ (new.course.pause ≡ None)
-never-prolonged call text old new until d e = by (pause-goes call text old new d)
-  where
-    by : PauseGoes old.options.timer_ms old.course new.course
-        → (new.course.pause ≡ Some until) ⊎ (new.course.pause ≡ None)
-    by (inl same) = inl (same ∙ e)
-    by (inr (inl over)) = inr over
-    by (inr (inr b)) = some-none (sym b.before ∙ e)
+never-prolonged call text old new until d e =
+    not-prolonged old.options.timer_ms new.course.moment until old.course.pause new.course.pause
+    (pause-goes call text old new d) e
 
 pub ends-in-time : (call : SessionCall) (text : List ℕ) (old new : SessionView) (until : ℕ)
     → SessionDoes call text old new → old.course.pause ≡ None → new.course.pause ≡ Some until
     → until ≤ new.course.moment + old.options.timer_ms
-ends-in-time call text old new until d e f = by (pause-goes call text old new d)
-  where
-    by : PauseGoes old.options.timer_ms old.course new.course
-        → until ≤ new.course.moment + old.options.timer_ms
-    by (inl same) = some-none (sym e ∙ sym same ∙ f)
-    by (inr (inl over)) = some-none (sym over ∙ f)
-    by (inr (inr b)) =
-        let is = same-some (sym b.pause ∙ f) in omega (arith, b.short, is)
+ends-in-time call text old new until d =
+    in-time old.options.timer_ms new.course.moment until old.course.pause new.course.pause
+    (pause-goes call text old new d)
 
 pub is-over : (text : List ℕ) (old new : SessionView) (now until : ℕ)
     → SessionDoes (TimedOut now) text old new → old.course.pause ≡ Some until → until ≤ now

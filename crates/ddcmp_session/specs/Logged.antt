@@ -1,6 +1,6 @@
 -- A session with its standard error, and what each call writes there.
 use Rattle.std.specs.Prelude.{◌≡◌, ℕ, ◌+◌, ◌*◌, ◌==◌, ◌&&◌, not, Bool, true, false, MatchBool}
-use Rattle.std.specs.Prelude.{◌⊎◌, MatchOption}
+use Rattle.std.specs.Prelude.{◌⊎◌, ◌≢◌, MatchOption}
 use Rattle.std.specs.Prelude.{if◌then◌else◌, Option, None, Some, List, [], ◌∷◌, option_to_list}
 use Rattle.ddcmp_core.specs.declared.notice.Notice.{Notice}
 use Rattle.ddcmp_input.specs.declared.entry.Entry.{Entry}
@@ -158,10 +158,22 @@ echo_came bytes l = record l {
   echo = record l.echo { came = after_more bytes l.echo.came };
 }
 
--- If all that came is what was sent, that is told.
-abbrev pub ReportsEcho : EchoView → ErrorsView → ErrorsView → Type 0
-ReportsEcho e old new =
-    (IsEcho e × HasLine SHORT_LINE echo_text old new) ⊎ ((IsEcho e → ⊥) × (new ≡ old))
+-- how many messages of this end the peer confirmed; in maintenance mode, in which nothing is
+-- acknowledged, how many were sent
+abbrev pub confirmed : SessionView → ℕ
+confirmed s =
+    if s.options.maintenance then s.link.totals.sent else s.link.totals.acknowledged
+
+-- All that came is what was sent, messages among it: two ends that exchange none send the same
+-- bytes, too.
+abbrev pub SeemsToEcho : SessionView → EchoView → Type 0
+SeemsToEcho s e = (confirmed s ≢ 0) × IsEcho e
+
+-- If so, that is told.
+abbrev pub ReportsEcho : SessionView → EchoView → ErrorsView → ErrorsView → Type 0
+ReportsEcho s e old new =
+    (SeemsToEcho s e × HasLine SHORT_LINE echo_text old new)
+    ⊎ ((SeemsToEcho s e → ⊥) × (new ≡ old))
 
 -- All timers were handled at this moment.
 pub record HandlesTimeout (now : ℕ) (s : SessionView) (old new : LogView) : Type 0 where

@@ -18,3 +18,18 @@ pub fn pauses_end()
         → SessionDoes (TimedOut now) text old new → old.course.pause ≡ Some until → until ≤ now
         → new.course.pause ≡ None }
 {}
+
+/// NAKs of what the peer sends wrong are held back for a while, too, and such a pause ends in the
+/// same way: no call prolongs it, it lasts no longer than the reply timer, and `handle_timeout`
+/// ends it at its moment.
+pub fn nak_pauses_end()
+    ensures kept { (call : SessionCall) (text : List ℕ) (old new : SessionView) (until : ℕ)
+        → SessionDoes call text old new → old.course.nak_pause ≡ Some until
+        → (new.course.nak_pause ≡ Some until) ⊎ (new.course.nak_pause ≡ None) }
+    ensures short { (call : SessionCall) (text : List ℕ) (old new : SessionView) (until : ℕ)
+        → SessionDoes call text old new → old.course.nak_pause ≡ None
+        → new.course.nak_pause ≡ Some until → until ≤ new.course.moment + old.options.timer_ms }
+    ensures over { (text : List ℕ) (old new : SessionView) (now until : ℕ)
+        → SessionDoes (TimedOut now) text old new → old.course.nak_pause ≡ Some until → until ≤ now
+        → new.course.nak_pause ≡ None }
+{}

@@ -68,7 +68,7 @@ pub struct Session {
 }
 
 impl Model for Session {
-    ghost use Rattle.std.specs.Prelude.{◌≡◌, ◌≤◌, ◌<◌, vec_len};
+    ghost use Rattle.std.specs.Prelude.{◌≡◌, ◌<◌, vec_len};
     ghost use Rattle.ddcmp_session.specs.Logged.{LoggedSession};
     ghost use Rattle.ddcmp_session.specs.Session.{form_of};
 

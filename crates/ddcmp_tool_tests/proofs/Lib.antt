@@ -1,1 +1,2 @@
 pub mod FreshLaws
+mod JoinedLaws

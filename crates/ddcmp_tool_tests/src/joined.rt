@@ -1,84 +1,123 @@
-//! Lines in memory whose traffic contracts know, for the loop of a bridge.
-ghost use Rattle.std.specs.Prelude.{◌≡◌, ◌≤◌, length, take};
-ghost use Rattle.ddcmp_io.specs.Queue.{after_pushed};
+//! Lines in memory of which contracts know all that passed, for a bridge.
+ghost use Rattle.std.specs.Prelude.{◌≡◌, ◌≤◌, ◌++◌, length, take};
+ghost use Rattle.ddcmp_ports.specs.Moving.{count_moved};
+ghost use Rattle.ddcmp_ports.specs.Running.{after_opening, after_read, after_written, is_later};
+ghost use Rattle.ddcmp_ports.specs.Running.{no_passage};
+ghost use Rattle.ddcmp_tool_tests.specs.Joined.{passage_of};
 
 use crate::sessions::append;
-use ddcmp_bridge::{Bridge, BridgeStop, Counts, Fate, Faults, LinePair, Needs};
-use ddcmp_io::{ByteQueue, End};
+use ddcmp_bridge::{Bridge, BridgeOptions, BridgeStop, Counts, Faults, run_bridge};
+use ddcmp_ports::{Buffers, LineName, Machine, Opening, Port, System, Transfer};
 use std::process::Abort;
 
-/// The bytes that each line returns, and all that was moved so far. No line is ever down.
+/// A line that returns some bytes, with all that passed since it was opened. It never ends.
+#[derive(Drop)]
+struct Line {
+    text: Vec<u8>,
+    came: Vec<u8>,
+    gone: Vec<u8>,
+    is_open: bool,
+    opens_later: bool,
+}
+
+impl Line {
+    /// Returns some of the bytes that follow those that were returned.
+    fn read(&mut self, space: &mut [u8]) -> usize
+        ensures fits { result ≤ length space.new }
+        ensures passage { passage_of self.new.came.items self.new.gone.items self.new.is_open
+            ≡ after_read (Transfer.Bytes result) space.new (passage_of self.old.came.items self.old.gone.items self.old.is_open) }
+        ensures later { self.new.opens_later ≡ self.old.opens_later }
+    {
+        let rest = self.text.as_slice().get(self.came.len()..).unwrap_or(&[]);
+        let n = rest.len().min(space.len()).min(9);
+        space[..n].copy_from_slice(&rest[..n]);
+        match self.came.extend_from_slice(&space[..n]) {
+            Ok(()) => n,
+            Err(_refused) => 0,
+        }
+    }
+
+    /// Takes some of the bytes.
+    fn write(&mut self, bytes: &[u8]) -> usize
+        ensures fits { result ≤ length bytes.now }
+        ensures passage { passage_of self.new.came.items self.new.gone.items self.new.is_open
+            ≡ after_written (Transfer.Bytes result) bytes.now (passage_of self.old.came.items self.old.gone.items self.old.is_open) }
+        ensures later { self.new.opens_later ≡ self.old.opens_later }
+    {
+        let n = bytes.len().min(5);
+        match self.gone.extend_from_slice(&bytes[..n]) {
+            Ok(()) => n,
+            Err(_refused) => 0,
+        }
+    }
+
+    /// Opens it, once.
+    fn open(&mut self) -> Opening
+        ensures passage { passage_of self.new.came.items self.new.gone.items self.new.is_open
+            ≡ after_opening result (passage_of self.old.came.items self.old.gone.items self.old.is_open) }
+        ensures later { self.new.opens_later ≡ is_later result }
+    {
+        self.opens_later = self.is_open;
+        if self.is_open {
+            return Opening::Later;
+        }
+        self.came.clear();
+        self.gone.clear();
+        self.is_open = true;
+        Opening::Done(None)
+    }
+}
+
+/// Two lines, and a clock.
 #[derive(Drop)]
 struct Joined {
-    first: Vec<u8>,
-    second: Vec<u8>,
-    there_came: ByteQueue,
-    there_gone: ByteQueue,
-    back_came: ByteQueue,
-    back_gone: ByteQueue,
+    first: Line,
+    second: Line,
     moment: u64,
 }
 
-/// Returns some of the bytes that follow those that were returned.
-fn give(from: &[u8], given: &mut ByteQueue, space: &mut [u8]) -> usize
-    ensures fits { result ≤ length space.new }
-    ensures given { given.new ≡ after_pushed (take result space.new) given.old }
-{
-    let rest = from.get(given.waiting().len()..).unwrap_or(&[]);
-    let n = rest.len().min(space.len()).min(given.room()).min(9);
-    space[..n].copy_from_slice(&rest[..n]);
-    given.push(&space[..n]);
-    n
-}
+impl System for Joined {
+    ghost use Rattle.ddcmp_tool_tests.specs.Joined.{passage_of, stuck_of, trace_of};
 
-/// Takes some of the bytes, as far as there is room.
-fn take_some(bytes: &[u8], taken: &mut ByteQueue) -> usize
-    ensures fits { result ≤ length bytes.now }
-    ensures taken { taken.new ≡ after_pushed (take result bytes.now) taken.old }
-{
-    let n = bytes.len().min(taken.room()).min(5);
-    taken.push(&bytes[..n]);
-    n
-}
+    ghost trace = { λ j. trace_of
+        (passage_of j.first.came.items j.first.gone.items j.first.is_open)
+        (passage_of j.second.came.items j.second.gone.items j.second.is_open) };
 
-impl LinePair for Joined {
-    ghost use Rattle.std.specs.Prelude.{Some, false};
-    ghost use Rattle.ddcmp_bridge.specs.Joining.{Passage, Traffic};
-
-    ghost traffic = { λ l. Some (record {
-      there = record { came = l.there_came.waiting; gone = l.there_gone.waiting };
-      back = record { came = l.back_came.waiting; gone = l.back_gone.waiting };
-    }) };
-
-    ghost down = { λ l from. false };
+    ghost stuck = { λ j. stuck_of j.first.opens_later j.second.opens_later };
 
     ghost moment = { λ l. l.moment };
 
-    fn read(&mut self, from: End, space: &mut [u8]) -> Option<usize> {
-        match from {
-            End::A => Some(give(self.first.as_slice(), &mut self.there_came, space)),
-            End::B => Some(give(self.second.as_slice(), &mut self.back_came, space)),
+    fn read(&mut self, port: Port, space: &mut [u8]) -> Transfer {
+        match port {
+            Port::First => Transfer::Bytes(self.first.read(space)),
+            Port::Second => Transfer::Bytes(self.second.read(space)),
+            Port::Input | Port::Output | Port::Errors => Transfer::Bytes(0),
         }
     }
 
-    fn write(&mut self, from: End, bytes: &[u8]) -> Option<usize> {
-        match from {
-            End::A => Some(take_some(bytes, &mut self.there_gone)),
-            End::B => Some(take_some(bytes, &mut self.back_gone)),
+    fn write(&mut self, port: Port, bytes: &[u8]) -> Transfer {
+        match port {
+            Port::First => Transfer::Bytes(self.first.write(bytes)),
+            Port::Second => Transfer::Bytes(self.second.write(bytes)),
+            Port::Input | Port::Output | Port::Errors => Transfer::Bytes(bytes.len()),
         }
     }
 
-    fn is_down(&self, _from: End) -> bool {
-        false
+    fn open(&mut self, port: Port) -> Opening {
+        match port {
+            Port::First => self.first.open(),
+            Port::Second => self.second.open(),
+            Port::Input | Port::Output | Port::Errors => Opening::Done(None),
+        }
     }
 
-    fn is_stopped(&self) -> bool {
-        false
-    }
+    fn shut(&mut self, _port: Port) {}
 
-    fn log(&mut self, _from: End, _now: u64, _bytes: &[u8], _fate: Option<Fate>) {}
+    fn close(&mut self, _port: Port) {}
 
-    fn wait(&mut self, _there: Needs, _back: Needs, _most_ms: u64) -> bool {
+    fn poll(&mut self) {}
+
+    fn wait<M: Machine>(&mut self, _machine: &M, _held: &Buffers, _most_ms: u64) -> bool {
         true
     }
 
@@ -106,10 +145,15 @@ fn bytes(rt: &(impl Abort + AllocGlobal), from: &[u8]) -> Vec<u8> {
     made
 }
 
-fn log(rt: &(impl Abort + AllocGlobal)) -> ByteQueue {
-    match ByteQueue::new(rt.alloc(), 100) {
-        Ok(log) => log,
-        Err(_refused) => panic!(rt; "no memory"),
+fn line_of(rt: &(impl Abort + AllocGlobal), text: &[u8]) -> Line
+    ensures { passage_of result.came.items result.gone.items result.is_open ≡ no_passage }
+{
+    Line {
+        text: bytes(rt, text),
+        came: Vec::new(rt.alloc()),
+        gone: Vec::new(rt.alloc()),
+        is_open: false,
+        opens_later: false,
     }
 }
 
@@ -123,31 +167,44 @@ fn counts(frames: u64, skipped: u64, damaged: u64) -> Counts {
     }
 }
 
+const OPTIONS: BridgeOptions<'static> = BridgeOptions {
+    seconds: 1,
+    again: false,
+    faults: Faults {
+        lose: 0,
+        damage: 0,
+        seed: 1,
+    },
+    delay_ms: 3,
+    baud: 0,
+    trace: None,
+    save_first: None,
+    save_second: None,
+};
+
 /// All good frames of each line arrive at the other, in chunks, before the time is over.
 #[test]
 fn good_frames_come_to_the_other_line(rt: HostRuntime) {
     let mut lines = Joined {
-        first: bytes(&rt, CAME),
-        second: bytes(&rt, BACK),
-        there_came: log(&rt),
-        there_gone: log(&rt),
-        back_came: log(&rt),
-        back_gone: log(&rt),
+        first: line_of(&rt, CAME),
+        second: line_of(&rt, BACK),
         moment: 0,
     };
-    let faults = Faults {
-        lose: 0,
-        damage: 0,
-        seed: 1,
-    };
-    let Some(mut bridge) = Bridge::new(rt.alloc(), faults, 3) else {
+    let (first, second) = (LineName::Device("a"), LineName::Device("b"));
+    let Some(mut bridge) = Bridge::new(rt.alloc(), first, second, &OPTIONS) else {
         panic!(rt; "no memory")
     };
-    assert!(rt; bridge.run(&mut lines, 100) == BridgeStop::Time);
-    assert!(rt; lines.there_came.waiting() == CAME);
-    assert!(rt; lines.there_gone.waiting() == GOOD);
-    assert!(rt; lines.back_came.waiting() == BACK);
-    assert!(rt; lines.back_gone.waiting() == BACK.get(..8).unwrap_or(&[]));
-    assert!(rt; bridge.counts(End::A) == counts(2, 14, 1));
-    assert!(rt; bridge.counts(End::B) == counts(1, 3, 0));
+    let Ok(mut buffers) = Buffers::new(rt.alloc(), 0, 100) else {
+        panic!(rt; "no memory")
+    };
+    let Ok(end) = run_bridge(&mut buffers, &mut bridge, &mut lines) else {
+        panic!(rt; "no line")
+    };
+    assert!(rt; end.stop == BridgeStop::Time && !end.has_failed);
+    assert!(rt; lines.first.came.as_slice() == CAME);
+    assert!(rt; lines.second.gone.as_slice() == GOOD);
+    assert!(rt; lines.second.came.as_slice() == BACK);
+    assert!(rt; lines.first.gone.as_slice() == BACK.get(..8).unwrap_or(&[]));
+    assert!(rt; end.there == counts(2, 14, 1));
+    assert!(rt; end.back == counts(1, 3, 0));
 }

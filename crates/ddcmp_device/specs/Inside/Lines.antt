@@ -6,6 +6,8 @@ use Rattle.ddcmp_device.specs.declared.line.Heard.{Heard}
 use Rattle.ddcmp_device.specs.declared.line.Heard.TheVariants as heard
 use Rattle.ddcmp_device.specs.declared.line.Line.{Line}
 use Rattle.ddcmp_device.specs.declared.line.Line.TheVariants.{Stream, Datagrams, Device}
+use Rattle.ddcmp_io.specs.declared.line_kind.LineKind.{LineKind}
+use Rattle.ddcmp_io.specs.declared.line_kind.LineKind.TheVariants as kinds
 use Rattle.ddcmp_io.specs.declared.transfer.Down.TheVariants.{Failed}
 use Rattle.ddcmp_io.specs.declared.transfer.Transfer.{Transfer}
 use Rattle.ddcmp_io.specs.declared.transfer.Transfer.TheVariants.{Bytes, Nothing, Interrupted}
@@ -41,3 +43,8 @@ abbrev pub heard_by_error : ErrorKind → Heard
 heard_by_error kind.WouldBlock = heard.Nothing
 heard_by_error kind.Interrupted = heard.Nothing
 heard_by_error _ = heard.Gone
+
+-- whether a line is one of datagrams
+abbrev pub is_datagrams : LineKind → Bool
+is_datagrams kinds.Datagrams = true
+is_datagrams _ = false

@@ -35,7 +35,7 @@ impl Buffers {
     ghost use Rattle.ddcmp_session.specs.Traffic.{Becomes, after_wait};
     ghost use Rattle.ddcmp_session.specs.Session.{SessionView, takes_end};
     ghost use Rattle.ddcmp_session.specs.Lines.{Closes, Ends, GoesOver, IsReady, MayEndWell};
-    ghost use Rattle.ddcmp_session.specs.Lines.{IsReadToEnd, ReportsOver, StaysOver};
+    ghost use Rattle.ddcmp_session.specs.Lines.{IsReadToEnd, ReportsOver};
     ghost use Rattle.ddcmp_session.specs.Stopping.{HasNotStarted, IfNotOpened, IsLeft};
     ghost use Rattle.ddcmp_session.specs.Stopping.{IsTimeOver, Judges, LeavesLine, Stops};
     ghost use Rattle.ddcmp_session.specs.Timing.{end};

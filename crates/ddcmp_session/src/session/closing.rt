@@ -16,7 +16,7 @@ impl Session {
     ghost use Rattle.ddcmp_session.specs.EndText.{end_line, end_text};
     ghost use Rattle.ddcmp_streams.specs.Queued.{queued};
     ghost use Rattle.ddcmp_streams.specs.Errors.{ErrorsView, HasLine};
-    ghost use Rattle.ddcmp_session.specs.Logged.{HasEnd, ReportsEcho, Traces};
+    ghost use Rattle.ddcmp_session.specs.Logged.{HasEnd, ReportsEcho, Traces, confirmed};
     ghost use Rattle.ddcmp_session.specs.Reported.{ClosesLog};
     ghost use Rattle.ddcmp_streams.specs.Trace.{LogsEnd};
     ghost use Rattle.ddcmp_session.specs.Text.{Wrote, reported_lost};
@@ -55,7 +55,7 @@ impl Session {
     pub fn finish(&mut self)
         ensures state { self.new.state ≡ self.old.state }
         ensures traced { (mid : ErrorsView)
-            × ReportsEcho self.old.log.echo self.old.log.errors mid
+            × ReportsEcho self.old.state self.old.log.echo self.old.log.errors mid
             × Traces LogsEnd self.old.log.trace (record self.old.log { errors = mid })
             self.new.log }
         ensures log { self.new.log
@@ -67,13 +67,26 @@ impl Session {
         }
     }
 
-    /// Reports it if all that came over the line is what was sent.
+    /// Returns how many messages of this end the peer confirmed; in maintenance mode, in which
+    /// nothing is acknowledged, how many were sent.
+    fn confirmed(&self) -> u64
+        ensures { result ≡ confirmed self.now.state }
+    {
+        let totals = self.link.totals();
+        if self.options.maintenance {
+            return totals.sent;
+        }
+        totals.acknowledged
+    }
+
+    /// Reports it if all that came over the line is what was sent, messages among it.
     fn report_echo(&mut self)
         ensures state { self.new.state ≡ self.old.state }
-        ensures errors { ReportsEcho self.old.log.echo self.old.log.errors self.new.log.errors }
+        ensures errors { ReportsEcho self.old.state self.old.log.echo self.old.log.errors
+            self.new.log.errors }
         ensures log { self.new.log ≡ record self.old.log { errors = self.new.log.errors } }
     {
-        if self.echo.is_echo() {
+        if self.confirmed() != 0 && self.echo.is_echo() {
             let text = b"all that came is what was sent: does the line echo?";
             self.errors.write_line(b"ddcmp: ", text, b"\n");
         }

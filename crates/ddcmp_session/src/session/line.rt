@@ -20,7 +20,7 @@ fn put_notice(errors: &mut Errors, notice: Notice)
 
 impl Session {
     ghost use Rattle.std.specs.Prelude.{◌≡◌, ◌+◌, ◌<◌, ◌≤◌, ℕ, List, [], ◌++◌, true, false, min};
-    ghost use Rattle.std.specs.Prelude.{◌⊎◌, length, take, is_ok, option_to_list, None};
+    ghost use Rattle.std.specs.Prelude.{◌⊎◌, length, take, is_ok};
     ghost use Rattle.ddcmp_frame.specs.Reader.{StandsFor};
     ghost use Rattle.ddcmp_core.specs.Table.{after_halt, answer_to_start};
     ghost use Rattle.ddcmp_proto.specs.Bytes.{after_piece, notices_of_piece};

@@ -4,7 +4,7 @@ use crate::session::{EndReason, Session};
 use ddcmp_io::LineKind;
 
 impl Session {
-    ghost use Rattle.std.specs.Prelude.{◌≡◌, ◌&&◌, not, Some, if◌then◌else◌};
+    ghost use Rattle.std.specs.Prelude.{◌≡◌, Some, if◌then◌else◌};
     ghost use Rattle.ddcmp_session.specs.Course.{after_opening_failed};
     ghost use Rattle.ddcmp_session.specs.Logged.{HandlesTimeout, PassesMoment};
     ghost use Rattle.ddcmp_session.specs.Session.{after_time, after_timeout, after_tried};

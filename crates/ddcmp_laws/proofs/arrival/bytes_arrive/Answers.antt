@@ -4,7 +4,8 @@ use Rattle.ddcmp_laws.proofs.BytesArrive.{none-refused, not-refused}
 use Rattle.ddcmp_laws.proofs.arrival.bytes_arrive.Goals as goal
 
 pub returns-clause-whole : goal.returns-clause-whole
-returns-clause-whole g c = λ outcome other t u ok other_ok began other_began ended other_ended binary
+returns-clause-whole g c = λ outcome other t u ok other_ok began other_began ended other_ended
+    binary
     other_binary line.
     let one = c.run_link-first.ensures.served outcome ok in
     let two = c.run_link-second.ensures.served other other_ok in

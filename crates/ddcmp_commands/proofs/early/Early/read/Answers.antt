@@ -1,5 +1,6 @@
 use Rattle.std.proofs.Common.{arith, ◌≡◌, ◌≤◌, ◌+◌, ◌++◌, ◌∙◌, ℕ, List, Some, None, ap, length}
-use Rattle.std.proofs.Common.{append_assoc, drop, drop-drop, length-drop, length-take-le, subst, sym}
+use Rattle.std.proofs.Common.{append_assoc, drop, drop-drop, length-drop, length-take-le, subst}
+use Rattle.std.proofs.Common.{sym}
 use Rattle.std.proofs.Common.{take, take_at}
 use Rattle.std.proofs.lemmas.List.{take-append-drop, take_rest}
 use Rattle.ddcmp_io.specs.Written.{Known}

@@ -1,0 +1,23 @@
+//! The options of a bridge.
+use crate::faults::Faults;
+use ddcmp_log::LogNotation;
+
+/// The options of a bridge.
+#[derive(Clone, Copy)]
+pub struct BridgeOptions<'a> {
+    /// After how many seconds it ends, if no line has ended before.
+    pub seconds: u32,
+    /// Whether both lines are opened again if one has ended, or can't be opened.
+    pub again: bool,
+    pub faults: Faults,
+    /// By how many milliseconds each frame is delayed.
+    pub delay_ms: u32,
+    /// The speed at which each line is written to, in bits a second; 0 for as fast as it takes
+    /// bytes.
+    pub baud: u32,
+    /// The notation in which received frames are printed on standard error, if they are.
+    pub trace: Option<LogNotation>,
+    /// The files to save the bytes received over each line in, if any. They must not exist.
+    pub save_first: Option<&'a str>,
+    pub save_second: Option<&'a str>,
+}

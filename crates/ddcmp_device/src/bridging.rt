@@ -1,0 +1,118 @@
+//! A bridge over two lines, from their opening to its end.
+use crate::live::Live;
+use crate::live_line::LiveLine;
+use crate::save::{Save, remove};
+use crate::system::System;
+use ddcmp_bridge::{Bridge, BridgeEnd, BridgeOptions, run_bridge};
+use ddcmp_ports::{Attempt, Buffers, Cause, LineName, OpenFault};
+use mio::Token;
+use std::alloc::Global;
+use std::fs::{File, Files};
+use std::io::ErrorKind;
+
+/// The maximum number of bytes that are read at once: no datagram has more.
+const MOST: usize = 65536;
+
+/// Why there was no bridge.
+#[derive(Clone, Copy)]
+pub enum BridgeFault<'a> {
+    /// A line couldn't be opened, or a file created.
+    Open(OpenFault<'a>),
+    /// An allocation failed, before anything was done.
+    Memory,
+}
+
+/// Passes the good frames received over each line on to the other, with the faults that are set,
+/// until a line ends, and isn't opened again, or the time is over.
+pub fn bridge_lines<'a, S: System>(
+    system: &S,
+    alloc: Global,
+    first: LineName<'a>,
+    second: LineName<'a>,
+    options: BridgeOptions<'a>,
+) -> Result<BridgeEnd, BridgeFault<'a>> {
+    let save_first = save_in(system, options.save_first)?;
+    let save_second = match save_in(system, options.save_second) {
+        Ok(save) => save,
+        Err(fault) => {
+            remove(system, options.save_first);
+            return Err(fault);
+        }
+    };
+    let ended = bridge(
+        system,
+        alloc,
+        first,
+        second,
+        &options,
+        save_first,
+        save_second,
+    );
+    if ended.is_err() {
+        remove(system, options.save_first);
+        remove(system, options.save_second);
+    }
+    ended
+}
+
+/// Creates the file of this name, if one is requested.
+fn save_in<'a, S: Files<File = File>>(
+    files: &S,
+    name: Option<&'a str>,
+) -> Result<Option<Save>, BridgeFault<'a>> {
+    let Some(name) = name else {
+        return Ok(None);
+    };
+    match Save::new(files, name) {
+        Ok(save) => Ok(Some(save)),
+        Err(cause) => Err(BridgeFault::Open(OpenFault {
+            attempt: Attempt::Create,
+            name,
+            cause,
+        })),
+    }
+}
+
+/// Allocates all memory that is needed, and runs the bridge.
+fn bridge<'a, S: System>(
+    system: &S,
+    alloc: Global,
+    first: LineName<'a>,
+    second: LineName<'a>,
+    options: &BridgeOptions<'a>,
+    save_first: Option<Save>,
+    save_second: Option<Save>,
+) -> Result<BridgeEnd, BridgeFault<'a>> {
+    let Some(mut bridge) = Bridge::new(alloc, first, second, options) else {
+        return Err(BridgeFault::Memory);
+    };
+    let Ok(mut buffers) = Buffers::new(alloc, 0, MOST) else {
+        return Err(BridgeFault::Memory);
+    };
+    let baud = options.baud;
+    let first = LiveLine::new(alloc, first, baud, save_first, (Token(1), Token(2)));
+    let second = LiveLine::new(alloc, second, baud, save_second, (Token(3), Token(4)));
+    let (Some(first), Some(second)) = (first, second) else {
+        return Err(BridgeFault::Memory);
+    };
+    let mut live = match Live::new(system, alloc, first, second) {
+        Ok(live) => live,
+        Err(error) => return Err(no_waiting(error.kind())),
+    };
+    match run_bridge(&mut buffers, &mut bridge, &mut live) {
+        Ok(end) => Ok(live.counted(end)),
+        Err(fault) => Err(BridgeFault::Open(fault)),
+    }
+}
+
+/// Returns the fault of a bridge that can't wait for several lines.
+fn no_waiting<'a>(kind: ErrorKind) -> BridgeFault<'a> {
+    match kind {
+        ErrorKind::OutOfMemory => BridgeFault::Memory,
+        kind => BridgeFault::Open(OpenFault {
+            attempt: Attempt::Open,
+            name: "epoll",
+            cause: Cause::System(kind),
+        }),
+    }
+}

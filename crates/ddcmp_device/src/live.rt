@@ -1,0 +1,254 @@
+//! The system of a bridge: two lines, standard error and a clock.
+ghost use Rattle.std.specs.Prelude.{◌≡◌, ◌≤◌, length};
+ghost use Rattle.ddcmp_ports.specs.Moving.{count_moved};
+ghost use Rattle.ddcmp_ports.specs.Running.{is_later, moves_nothing};
+
+use crate::live_line::{LiveLine, moved_by, wanted_of};
+use crate::poller::{Descriptor, reported_by};
+use crate::standard_stream::{StandardStream, write_errors};
+use crate::system::System;
+use ddcmp_bridge::BridgeEnd;
+use ddcmp_ports::{self as ports, Buffers, Machine, Opening, Port, Transfer};
+use ddcmp_station::{Clock, Elapsed};
+use mio::{Events, Interest, Poll, Token};
+use std::alloc::Global;
+use std::io;
+use std::time::Duration;
+
+const ERRORS: Token = Token(0);
+
+/// The longest single wait, in milliseconds.
+const HOUR_MS: u64 = 3_600_000;
+
+/// Whether the last call of each kind at a port could do nothing.
+#[derive(Clone, Copy)]
+struct LastCalls {
+    read: bool,
+    write: bool,
+    opening: bool,
+}
+
+impl LastCalls {
+    /// There was no call that could do nothing.
+    const NONE: LastCalls = LastCalls {
+        read: false,
+        write: false,
+        opening: false,
+    };
+
+    /// Notes a read.
+    fn read(&mut self, got: Transfer) -> Transfer
+        ensures last { self.new ≡ record self.old { read = moves_nothing got } }
+        ensures got { result ≡ got }
+    {
+        self.read = matches!(got, Transfer::Nothing);
+        got
+    }
+
+    /// Notes a write.
+    fn write(&mut self, took: Transfer) -> Transfer
+        ensures last { self.new ≡ record self.old { write = moves_nothing took } }
+        ensures took { result ≡ took }
+    {
+        self.write = matches!(took, Transfer::Nothing);
+        took
+    }
+
+    /// Notes an opening.
+    fn opening(&mut self, opening: Opening) -> Opening
+        ensures last { self.new ≡ record self.old { opening = is_later opening } }
+        ensures opening { result ≡ opening }
+    {
+        self.opening = matches!(opening, Opening::Later);
+        opening
+    }
+}
+
+/// Two lines, standard error and a clock, on the system's devices.
+pub(crate) struct Live<'a, S> {
+    system: &'a S,
+    clock: Elapsed<'a, S>,
+    /// The moment that it returned last.
+    moment: u64,
+    poll: Poll,
+    events: Events,
+    first: LiveLine<'a>,
+    second: LiveLine<'a>,
+    errors: StandardStream,
+    errors_there: Descriptor,
+    first_last: LastCalls,
+    second_last: LastCalls,
+    errors_last: LastCalls,
+}
+
+// Manual, since a derived `Drop` would be expanded wherever a value is dropped.
+impl<S> Drop for Live<'_, S> {
+    fn drop(self) {
+        let Live {
+            system: _,
+            clock: _clock,
+            moment: _,
+            poll: _poll,
+            events: _events,
+            first: _first,
+            second: _second,
+            errors: _errors,
+            errors_there: _,
+            first_last: _,
+            second_last: _,
+            errors_last: _,
+        } = self;
+    }
+}
+
+impl<'a, S: System> Live<'a, S> {
+    /// Makes a system with two lines, which aren't open yet.
+    pub(crate) fn new(
+        system: &'a S,
+        alloc: Global,
+        first: LiveLine<'a>,
+        second: LiveLine<'a>,
+    ) -> io::Result<Live<'a, S>> {
+        let poll = Poll::new(system)?;
+        let events = Events::with_capacity(alloc, 8)?;
+        let errors_there = Descriptor::new(&poll, 2, ERRORS, Interest::WRITABLE);
+        Ok(Live {
+            system,
+            clock: Elapsed::new(system),
+            moment: 0,
+            poll,
+            events,
+            first,
+            second,
+            errors: StandardStream::new(system, "/dev/stderr"),
+            errors_there,
+            first_last: LastCalls::NONE,
+            second_last: LastCalls::NONE,
+            errors_last: LastCalls::NONE,
+        })
+    }
+
+    /// Returns the counters, with the bytes that were dropped here counted as skipped.
+    pub(crate) fn counted(&self, end: BridgeEnd) -> BridgeEnd {
+        BridgeEnd {
+            there: self.first.counted(end.there),
+            back: self.second.counted(end.back),
+            ..end
+        }
+    }
+
+    /// Writes bytes to standard error.
+    fn print(&mut self, bytes: &[u8]) -> Transfer
+        ensures fits { count_moved result ≤ length bytes.now }
+        ensures moment { self.new.moment ≡ self.old.moment }
+        ensures first { self.new.first_last ≡ self.old.first_last }
+        ensures second { self.new.second_last ≡ self.old.second_last }
+        ensures errors { self.new.errors_last ≡ self.old.errors_last }
+    {
+        let there = &mut self.errors_there;
+        moved_by(write_errors(self.system, &mut self.errors, there, bytes))
+    }
+
+    /// Waits until something is ready, at most this many milliseconds; returns whether it could.
+    fn wait_for(&mut self, most_ms: u64) -> bool {
+        let most = Some(Duration::from_millis(most_ms.min(HOUR_MS)));
+        if self.poll.poll(&mut self.events, most).is_err() {
+            return false;
+        }
+        for event in self.events.iter() {
+            let reported = reported_by(event);
+            if event.token() == ERRORS {
+                self.errors_there.ready.add(reported);
+            }
+            self.first.place.note(event.token(), reported);
+            self.second.place.note(event.token(), reported);
+        }
+        true
+    }
+}
+
+impl<S: System> ports::System for Live<'_, S> {
+    ghost use Rattle.std.specs.Prelude.{None};
+    ghost use Rattle.ddcmp_device.specs.Inside.Lives.{stuck_of};
+
+    ghost trace = { λ _ _. None };
+
+    ghost stuck = { stuck_of };
+
+    ghost moment = { λ l. l.moment };
+
+    fn read(&mut self, port: Port, space: &mut [u8]) -> Transfer {
+        match port {
+            Port::First => self.first_last.read(self.first.read(space)),
+            Port::Second => self.second_last.read(self.second.read(space)),
+            Port::Input | Port::Output | Port::Errors => Transfer::Nothing,
+        }
+    }
+
+    fn write(&mut self, port: Port, bytes: &[u8]) -> Transfer {
+        match port {
+            Port::First => self.first_last.write(self.first.write(self.moment, bytes)),
+            Port::Second => self
+                .second_last
+                .write(self.second.write(self.moment, bytes)),
+            Port::Errors => {
+                let took = self.print(bytes);
+                self.errors_last.write(took)
+            }
+            Port::Input | Port::Output => Transfer::Nothing,
+        }
+    }
+
+    fn open(&mut self, port: Port) -> Opening {
+        match port {
+            Port::First => self
+                .first_last
+                .opening(self.first.open(self.system, &self.poll)),
+            Port::Second => self
+                .second_last
+                .opening(self.second.open(self.system, &self.poll)),
+            Port::Input | Port::Output | Port::Errors => Opening::Later,
+        }
+    }
+
+    fn shut(&mut self, port: Port) {
+        match port {
+            Port::First => self.first.shut(),
+            Port::Second => self.second.shut(),
+            Port::Input | Port::Output | Port::Errors => {}
+        }
+    }
+
+    fn close(&mut self, port: Port) {
+        match port {
+            Port::First => self.first.close(&mut self.clock),
+            Port::Second => self.second.close(&mut self.clock),
+            Port::Input | Port::Output | Port::Errors => {}
+        }
+    }
+
+    fn poll(&mut self) {
+        self.first.place.ask(&self.poll, true, true);
+        self.second.place.ask(&self.poll, true, true);
+        self.errors_there.ask(&self.poll, false, true);
+        let _could_wait = self.wait_for(0);
+    }
+
+    fn wait<M: Machine>(&mut self, machine: &M, _held: &Buffers, most_ms: u64) -> bool {
+        let first = wanted_of(machine, Port::First);
+        let second = wanted_of(machine, Port::Second);
+        let errors = !machine.pending(Port::Errors).is_empty();
+        let most_ms = self.first.wait_ms(&self.poll, first, self.moment, most_ms);
+        let most_ms = self
+            .second
+            .wait_ms(&self.poll, second, self.moment, most_ms);
+        self.errors_there.ask(&self.poll, false, errors);
+        let is_ready = errors && self.errors_there.ready.to_write;
+        self.wait_for(if is_ready { 0 } else { most_ms })
+    }
+
+    fn now(&mut self) -> u64 {
+        self.moment = self.clock.now();
+        self.moment
+    }
+}

@@ -1,0 +1,2 @@
+pub mod LineNameLaws
+pub mod RunLaws

@@ -1,0 +1,5 @@
+pub mod Events
+pub mod LineNames
+pub mod Moving
+pub mod Running
+pub mod Holding

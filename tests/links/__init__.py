@@ -1,1 +1,0 @@
-"""The trials of `ddcmp link`, by topic, with what they share."""

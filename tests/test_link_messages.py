@@ -1,0 +1,208 @@
+"""Messages of every length both ways, over each kind of line, and what the last line counts."""
+import contextlib
+import socket
+import subprocess
+import tempfile
+import threading
+import time
+
+import pytest
+
+from .bad_lines import Bad
+from .peers import Peer, called, good
+from .process import (
+    Link, exchange, listening, must_end, port_of, server, tcp_pair, terminals, unacknowledged)
+from .wire import ack, binary, data, digits, drawn, messages_of, unpacked
+
+
+@pytest.mark.parametrize("window", [1, 7, 127, 255])
+def test_tcp_both_ways(window):
+    options = ("--binary", "--window", str(window), "--inbox", str(window))
+    one, two = tcp_pair(options, options)
+    exchange(f"window {window}", one, two, messages_of(300), messages_of(300))
+
+
+def test_long_messages():
+    """Messages of up to 16383 bytes."""
+    sizes = (5000, 16383, 4095, 4096, 8192, 1)
+    for form, options in ((binary, ("--binary", "--max", "16383")), (digits, ("--max", "16383"))):
+        one, two = tcp_pair(options, options)
+        exchange(str(options), one, two, [drawn.randbytes(it) for it in sizes],
+                 [drawn.randbytes(it) for it in sizes[::-1]], form)
+
+
+def test_digits():
+    one, two = tcp_pair((), ("--counters", "--stay"))
+    messages = messages_of(40)
+    two.give(b"")
+    one.give(b"\n" + digits(messages)[:-1])
+    must_end("the sender", one, 0)
+    must_end("the receiver", two, 0)
+    assert two.mails() == messages
+    assert (one.lines()[-1].split()[3:] == ["sent=40", "acknowledged=40", "handed=0"]
+            and one.last()["state"] == "Halted")
+    assert two.lines()[-2].startswith("counters ")
+
+
+@pytest.mark.parametrize("close, status, last", [
+    (True, 0, None), (False, 3, "ddcmp: ended"),
+])
+@pytest.mark.parametrize("options", [(), ("--binary",)])
+def test_receiver_ends(options, close, status, last):
+    """A receiver that has nothing to deliver ends well when its peer's line ends, but not if its
+    input is open."""
+    one, two = tcp_pair((*options, "--stay"), options)
+    one.give(b"", close)
+    two.give((binary if options else digits)([b"abc"]))
+    must_end(f"sender {options}", two, 0)
+    must_end(f"receiver {options} closed {close}", one, status, last)
+
+
+def test_last_acknowledged():
+    """A peer that sends its last message, and says that it sends no more, gets the acknowledgement
+    of that."""
+    for turn in range(10):
+        link, peer = called("--binary", "--stay", stdin=subprocess.DEVNULL)
+        peer.waits(lambda it: it.named("ACK"), 10)
+        peer.send(data(b"last", 1, 0))
+        peer.sock.shutdown(socket.SHUT_WR)
+        must_end(f"receiver {turn}", link, 0)
+        peer.waits(lambda it: it.has_ended, 5)
+        acknowledged = [it.resp for it in peer.named("ACK")]
+        assert link.out == b"\0\4last" and acknowledged[-1:] == [1]
+
+
+def counted(link, peer, lines):
+    """The last line has what the peer counted: three of four acknowledged, and two handed out."""
+    last = dict(it.split("=") for it in ([""] + lines)[-1].split() if "=" in it)
+    wanted = {"state": "Halted", "read": str(peer.sent), "written": str(len(peer.bytes)),
+              "sent": "4", "acknowledged": "3", "handed": "2"}
+    assert last == wanted and peer.sent != len(peer.bytes), "last line"
+
+
+def three_of_four(peer, frame):
+    """Acknowledges three messages, and no more."""
+    if frame.name == "DATA":
+        peer.taken = min(max(peer.taken, frame.num), 3)
+        return ack(peer.taken)
+    return good(peer, frame) if frame.name in ("STRT", "STACK") else b""
+
+
+@pytest.mark.parametrize("options", [("--counters",), ("--counters", "--binary")])
+def test_last_line(options):
+    """Each field of the last line, all of them different, in digits and in binary, with
+    counters."""
+    link, peer = called(*options, answer=three_of_four)
+    form = binary if "--binary" in options else digits
+    link.give(form([b"a", b"bc", b"def", b"ghij"]), close=False)
+    peer.waits(lambda it: len(it.named("DATA")) >= 4, 10)
+    peer.send(data(b"xyz", 1, 3) + data(b"uv", 2, 3))
+    link.waits(lambda it: it.out.count(b"mail") == 2 or it.out.endswith(b"\0\2uv"), 10)
+    time.sleep(0.3)
+    peer.sock.shutdown(socket.SHUT_WR)
+    must_end(str(options), link, 3, unacknowledged(1))
+    peer.waits(lambda it: it.has_ended, 5)
+    lines = [it for it in (link.errors() if "--binary" in options else link.lines())
+             if not it.startswith("ddcmp")]
+    counted(link, peer, lines)
+    assert "lost 1" in lines and any(it.startswith("counters ") for it in lines[-2:-1])
+
+
+def test_refused_input():
+    one, two = tcp_pair(("--max", "3"), ())
+    one.give(b"61\r\n6\nxy\n61626364\n6162\n\r\n61\r62\n616263")
+    status = one.ended()
+    wanted = ["ddcmp: line 2: not hexadecimal", "ddcmp: line 3: not hexadecimal",
+              "ddcmp: line 4: too long", "ddcmp: line 7: not hexadecimal"]
+    told = [it for it in one.errors() if it.startswith("ddcmp: line ")]
+    assert status == 1 and told == wanted
+    two.kill()
+    assert two.mails() == [b"a", b"ab", b"abc"]
+    one, two = tcp_pair(("--max", "3", "--binary"), ("--binary",))
+    one.give(b"\0\1a" + b"\0\0" + b"\1\0" + bytes(256) + b"\0\3abc" + b"\0\2a")
+    status = one.ended()
+    wanted = ["ddcmp: message 2: empty", "ddcmp: message 3: too long",
+              "ddcmp: message 5: unfinished"]
+    told = [it for it in one.errors() if it.startswith("ddcmp: message ")]
+    assert status == 1 and told == wanted
+    two.kill()
+    assert unpacked(two.out) == [b"a", b"abc"]
+
+
+def test_cut_message():
+    """A message that is too long and cut off by the end of the input is refused once."""
+    with server() as it:
+        link = Link(f"connect:127.0.0.1:{port_of(it)}", "--max", "3", "--binary")
+        Peer(it.accept()[0])
+    link.give(b"\0\x09ab")
+    must_end("cut", link, 1, "ddcmp: message 1: too long")
+    assert sum("message" in it for it in link.errors()) == 1
+
+
+def test_pseudo_terminals():
+    with terminals() as ends:
+        options = ("--binary", "--stay")
+        one, two = (Link(f"device:{it}", *options) for it in ends)
+        to_two, to_one = messages_of(100), messages_of(100)
+        one.give(binary(to_two), close=False)
+        two.give(binary(to_one), close=False)
+        one.waits(lambda it: len(it.out) >= len(binary(to_one)))
+        two.waits(lambda it: len(it.out) >= len(binary(to_two)))
+        assert (one.out, two.out) == (binary(to_one), binary(to_two))
+        one.kill()
+        two.kill()
+
+
+@pytest.mark.parametrize("window", [1, 7, 127])
+def test_bad_line(window):
+    bad = Bad(0.02)
+    options = ("--binary", "--timer-ms", "150", "--window", str(window), "--inbox", str(window))
+    one = Link(f"listen:127.0.0.1:{bad.target}", *options)
+    listening(one)
+    two = Link(f"connect:127.0.0.1:{bad.port}", *options)
+    to_two, to_one = messages_of(150), messages_of(150)
+    one.give(binary(to_two), close=False)
+    two.give(binary(to_one), close=False)
+    two.waits(lambda it, size=len(binary(to_two)): len(it.out) >= size)
+    one.waits(lambda it, size=len(binary(to_one)): len(it.out) >= size)
+    assert (two.out, one.out) == (binary(to_two), binary(to_one))
+    one.run.stdin.close()
+    assert one.ended() == 0
+
+
+def test_inputs():
+    """Standard input as a file, and as nothing."""
+    with tempfile.TemporaryFile() as file:
+        file.write(b"6162\n63\n")
+        file.seek(0)
+        one = Link("listen:127.0.0.1:0")
+        two = Link(f"connect:127.0.0.1:{listening(one)}", stdin=file)
+        assert two.ended() == 0 and one.waits(lambda it: it.mails() == [b"ab", b"c"], 10)
+        one.kill()
+    one = Link("listen:127.0.0.1:0")
+    two = Link(f"connect:127.0.0.1:{listening(one)}", stdin=subprocess.DEVNULL)
+    must_end("nothing", two, 0)
+
+
+@pytest.mark.long
+def test_large():
+    """Fifty megabytes both ways at once."""
+    options = ("--binary", "--window", "127", "--inbox", "127")
+    one, two = tcp_pair(options, options)
+    sent = [drawn.randbytes(1500) for _ in range(33334)]
+    exchange("50 MB", one, two, sent, sent[::-1])
+
+
+def test_flooded():
+    """Junk comes without a pause: the input is sent nevertheless."""
+    link, peer = called("--timer-ms", "500")
+    assert peer.runs(), "it doesn't run"
+
+    def flood():
+        with contextlib.suppress(OSError):
+            while True:
+                peer.sock.sendall(bytes(1 << 20))
+    threading.Thread(target=flood, daemon=True).start()
+    time.sleep(0.5)
+    link.give(b"61\n", close=False)
+    assert peer.waits(lambda it: it.mail == [b"a"], 5)
