@@ -1,7 +1,7 @@
 -- A bridge agrees with its history, whatever is added to it.
 use Rattle.std.proofs.Common.{◌≡◌, ◌∙◌, ℕ, zero, suc, ◌≤◌, List, [], ◌∷◌, ◌++◌, length, refl, Bool}
 use Rattle.std.proofs.Common.{ap, sym, subst, take, arith, true, false, Option, None, Some, Result, Ok}
-use Rattle.std.specs.Prelude.{if◌then◌else◌, nat_le, is_none, is_some, nat_lt, ◌&&◌, ◌*◌}
+use Rattle.std.specs.Prelude.{if◌then◌else◌, nat_le, is_none, is_some, ◌&&◌, ◌*◌}
 use Rattle.std.proofs.lemmas.List.{take-append-le}
 use Rattle.rand_pcg.specs.Lcg.{Lcg}
 use Rattle.ddcmp_ports.specs.declared.port.Down.{Down}
@@ -118,13 +118,16 @@ pub crosses-nothing : (c : CrossView) (h : List Event) (there back : Lcg) → c.
     → Directs there c.there [] [] → Directs back c.back [] []
     → (c.has_reopened ≡ false → there ≡ start_of c.options.faults.seed 0)
     → (c.has_reopened ≡ false → back ≡ start_of c.options.faults.seed 1)
+    → (c.has_reopened ≡ true → c.options.again ≡ true)
     → c.there.relay.faults ≡ c.options.faults → c.back.relay.faults ≡ c.options.faults
     → c.there.delay ≡ c.options.delay_ms → c.back.delay ≡ c.options.delay_ms
     → Uses c.was_joined c.first First h → Uses c.was_joined c.second Second h → CrossesAs c h
-crosses-nothing c h there back off passes here ends goes one two begins again faults others delay late first second =
+crosses-nothing c h there back off passes here ends goes one two begins starts again faults others
+    delay late first second =
     record {
       there = carries-nothing c 0 c.there _ _ there off one begins faults delay;
-      back = carries-nothing c 1 c.back _ _ back off two again others late;
+      back = carries-nothing c 1 c.back _ _ back off two starts others late;
+      again = again;
       first = first;
       second = second;
       fits = record {
@@ -195,6 +198,7 @@ crosses-ended c ended h prints there back k = record {
   };
   first = k.first;
   second = k.second;
+  again = k.again;
   fits = k.fits;
   left = k.left;
   limit = k.limit;
@@ -227,6 +231,7 @@ closed-first c h k = record {
     whole = k.first.whole;
   };
   second = record { came = k.second.came; gone = k.second.gone; whole = k.second.whole };
+  again = k.again;
   fits = k.fits;
   left = k.left;
   limit = k.limit;
@@ -259,6 +264,7 @@ closed-second c h k = record {
     whole = k.second.whole;
   };
   first = record { came = k.first.came; gone = k.first.gone; whole = k.first.whole };
+  again = k.again;
   fits = k.fits;
   left = k.left;
   limit = k.limit;
@@ -298,6 +304,7 @@ gave-first c d bytes h passes up goes faults delay k =
         gone = k.second.gone;
         whole = k.second.whole;
       };
+      again = k.again;
       fits = k.fits;
       left = λ is. absurd (joined-left c.phase passes is);
       limit = k.limit;
@@ -334,6 +341,7 @@ gave-second c d bytes h passes up goes faults delay k =
         gone = k.second.gone;
         whole = λ over fine. absurd (none-some c.second.over up over);
       };
+      again = k.again;
       fits = k.fits;
       left = λ is. absurd (joined-left c.phase passes is);
       limit = k.limit;
@@ -370,6 +378,7 @@ took-first c d bytes h passes goes faults delay k =
         gone = k.second.gone;
         whole = k.second.whole;
       };
+      again = k.again;
       fits = k.fits;
       left = λ is. absurd (joined-left c.phase passes is);
       limit = k.limit;
@@ -406,6 +415,7 @@ took-second c d bytes h passes goes faults delay k =
         gone = λ off stays. absurd (true-false on off);
         whole = k.second.whole;
       };
+      again = k.again;
       fits = k.fits;
       left = λ is. absurd (joined-left c.phase passes is);
       limit = k.limit;

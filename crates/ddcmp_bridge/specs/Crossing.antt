@@ -1,12 +1,12 @@
 -- A bridge as a machine: what it needs and has pending, and what it has passed on.
-use Rattle.std.specs.Prelude.{◌≡◌, ◌<◌, ℕ, ◌+◌, ◌-◌, ◌^◌, Bool, true, false, List, [], ◌++◌, length, min}
-use Rattle.std.specs.Prelude.{Option, Some, None, Result, Ok, Err, ⊤, if◌then◌else◌, ◌&&◌, nat_lt}
+use Rattle.std.specs.Prelude.{◌≡◌, ℕ, ◌+◌, ◌-◌, ◌^◌, Bool, true, false, List, [], ◌++◌, length, min}
+use Rattle.std.specs.Prelude.{Option, Some, None, Result, Ok, if◌then◌else◌, ◌&&◌, nat_lt}
 use Rattle.std.specs.Prelude.{is_none, is_some, ◌||◌, ◌*◌, ◌≤◌}
 use Rattle.rand_pcg.specs.Lcg.{Lcg}
 use Rattle.ddcmp_ports.specs.declared.port.Down.{Down}
 use Rattle.ddcmp_ports.specs.declared.port.Need.{Need}
 use Rattle.ddcmp_ports.specs.declared.port.Need.TheVariants as need
-use Rattle.ddcmp_ports.specs.declared.port.News.TheVariants as news
+use Rattle.ddcmp_ports.specs.declared.line_name.LineName.{LineName}
 use Rattle.ddcmp_ports.specs.declared.port.Port.{Port}
 use Rattle.ddcmp_ports.specs.declared.port.Port.TheVariants.{Input, Output, Errors, First, Second}
 use Rattle.ddcmp_ports.specs.Running.{Event, Passage, taken, used, used_whole}
@@ -19,7 +19,6 @@ use Rattle.ddcmp_bridge.specs.declared.bridge.BridgeStop.TheVariants as stop
 use Rattle.ddcmp_bridge.specs.declared.bridge.Phase.{Phase}
 use Rattle.ddcmp_bridge.specs.declared.bridge.Phase.TheVariants as phase
 use Rattle.ddcmp_bridge.specs.declared.errors.BridgeErrors.{BridgeErrors}
-use Rattle.ddcmp_bridge.specs.declared.faults.Faults.{Faults}
 use Rattle.ddcmp_bridge.specs.declared.line.BridgeLine.{BridgeLine}
 use Rattle.ddcmp_bridge.specs.declared.line.Stage.{Stage}
 use Rattle.ddcmp_bridge.specs.declared.line.Stage.TheVariants as stage
@@ -117,6 +116,7 @@ wakes_of b = min b.ends_at (wakes_in b.phase b)
 
 -- ---- what it has passed on
 
+-- how far a line is open, and why nothing more is read from it and written to it, if so
 pub record LineState : Type 0 where
   pub stage : Stage
   pub over : Option Down
@@ -243,10 +243,11 @@ pub record EndsAs (ended : Option (Result BridgeEnd OpenFault)) (now : Phase)
   pub other : (end : BridgeEnd) → ended ≡ Some (Ok end) → Counted earlier_back back end.back
 
 -- A bridge with this history: it has passed on the good frames of each line, after their faults,
--- or holds them.
+-- or holds them. It had other lines before only if it was asked to open them again.
 pub record CrossesAs (c : CrossView) (h : List Event) : Type 0 where
   pub there : Carries c 0 c.there (used First h) (taken Second h)
   pub back : Carries c 1 c.back (used Second h) (taken First h)
+  pub again : c.has_reopened ≡ true → c.options.again ≡ true
   pub first : Uses c.was_joined c.first First h
   pub second : Uses c.was_joined c.second Second h
   pub fits : FitsPhase c.phase c.was_joined
@@ -258,10 +259,27 @@ pub record CrossesAs (c : CrossView) (h : List Event) : Type 0 where
 abbrev pub Crosses : Bridge → List Event → Type 0
 Crosses b h = CrossesAs (view_of b) h
 
+-- what it was asked for: the names of its lines, and its options
+abbrev pub asked_of : Bridge → LineName × LineName × BridgeOptions
+asked_of b = (b.first.name, b.second.name, b.options)
+
 -- What it has passed on still agrees with its history, and what was asked for is the same.
 pub record Keeps (old new : Bridge) : Type 0 where
   pub crosses : (h : List Event) → Crosses old h → Crosses new h
-  pub options : new.options ≡ old.options
+  pub asked : asked_of new ≡ asked_of old
+
+-- a line to be opened: its name, and its speed in bits a second, or 0 for as fast as it takes bytes
+pub record LinePlan : Type 0 where
+  pub name : LineName
+  pub baud : ℕ
+
+abbrev pub plan_of : LineName → ℕ → LinePlan
+plan_of name baud = record { name = name; baud = baud }
+
+-- A system opens the lines that a bridge was asked for.
+pub record OpensLines (b : Bridge) (one two : LinePlan) : Type 0 where
+  pub first : one ≡ plan_of b.first.name b.options.baud
+  pub second : two ≡ plan_of b.second.name b.options.baud
 
 -- ---- over lines of which all that passed is known
 

@@ -8,7 +8,8 @@ ghost use Rattle.ddcmp_ports.specs.Running.{Event, IsAwaited, Told};
 ghost use Rattle.ddcmp_ports.specs.declared.port.Down.{Down};
 ghost use Rattle.ddcmp_ports.specs.declared.port.News.TheVariants as news;
 ghost use Rattle.ddcmp_ports.specs.declared.port.Port.TheVariants.{First, Second};
-ghost use Rattle.ddcmp_bridge.specs.Crossing.{Crosses, Keeps, can_take, is_joined, is_opening};
+ghost use Rattle.ddcmp_bridge.specs.Crossing.{Crosses, Keeps, asked_of, can_take, is_joined};
+ghost use Rattle.ddcmp_bridge.specs.Crossing.{is_opening};
 ghost use Rattle.ddcmp_bridge.specs.Crossing.{later_than, need_to_leave, need_to_open};
 ghost use Rattle.ddcmp_bridge.specs.Crossing.{need_to_read, needs_of_first, needs_of_second};
 ghost use Rattle.ddcmp_bridge.specs.declared.bridge.BridgeEnd.{BridgeEnd as EndValue};
@@ -156,7 +157,8 @@ impl<'a> Bridge<'a> {
         options: &BridgeOptions<'a>,
     ) -> Option<Bridge<'a>>
         ensures crosses { IfSome result (λ made. Crosses made []) }
-        ensures options { IfSome result (λ made. made.options ≡ options.now) }
+        ensures asked { IfSome result (λ made. asked_of made
+            ≡ (first.entry, second.entry, options.now)) }
     {
         let there = Direction::new(alloc, options.faults, options.delay_ms, 0)?;
         let back = Direction::new(alloc, options.faults, options.delay_ms, 1)?;
@@ -228,7 +230,7 @@ impl<'a> Bridge<'a> {
         ensures second { (peer : Option AddrValue) (h : List Event) → port ≡ Port.Second
             → is_opening self.old.phase ≡ true → Crosses self.old h
             → Crosses self.new (Told Second (news.Opened peer) ∷ h) }
-        ensures options { self.new.options ≡ self.old.options }
+        ensures asked { asked_of self.new ≡ asked_of self.old }
     {
         match port {
             Port::First => self.first.opened(),
@@ -287,7 +289,7 @@ impl<'a> Bridge<'a> {
         requires awaited { IsAwaited (needs_of_first self.old.phase self.old) what }
         ensures has { (h : List Event) → Crosses self.old h
             → Crosses self.new (Told First what ∷ h) }
-        ensures options { self.new.options ≡ self.old.options }
+        ensures asked { asked_of self.new ≡ asked_of self.old }
         ensures broken { (why : Down) → what ≡ News.Broken why
             → passes_to self.new.phase self.new.first ≡ false }
     {
@@ -305,7 +307,7 @@ impl<'a> Bridge<'a> {
         requires awaited { IsAwaited (needs_of_second self.old.phase self.old) what }
         ensures has { (h : List Event) → Crosses self.old h
             → Crosses self.new (Told Second what ∷ h) }
-        ensures options { self.new.options ≡ self.old.options }
+        ensures asked { asked_of self.new ≡ asked_of self.old }
         ensures broken { (why : Down) → what ≡ News.Broken why
             → passes_to self.new.phase self.new.second ≡ false }
     {
@@ -384,7 +386,7 @@ impl<'a> Bridge<'a> {
             self.old.there.held self.old.back.held)
             → (stop ≡ BridgeStop.Time → 1000 * self.old.options.seconds ≤ self.old.moment)
             → is_printing self.old.phase ≡ false → Crosses self.new h }
-        ensures options { self.new.options ≡ self.old.options }
+        ensures asked { asked_of self.new ≡ asked_of self.old }
         ensures moment { self.new.moment ≡ self.old.moment }
     {
         self.stop = stop;
@@ -432,7 +434,9 @@ impl<'a> Bridge<'a> {
     }
 
     /// Returns whether both lines are opened again.
-    fn reopens(&self) -> bool {
+    fn reopens(&self) -> bool
+        ensures { IsTrue result → self.now.options.again ≡ true }
+    {
         self.options.again && self.stop == BridgeStop::Line
     }
 
@@ -449,6 +453,7 @@ impl<'a> Bridge<'a> {
         ensures lines { (self.new.first.stage ≡ self.old.first.stage) × (self.new.first.over ≡ None)
             × (self.new.second.stage ≡ self.old.second.stage) × (self.new.second.over ≡ None) }
         ensures flags { (self.new.was_joined ≡ false) × (self.new.has_reopened ≡ true) }
+        ensures asked { asked_of self.new ≡ asked_of self.old }
         ensures stays { (self.new.options ≡ self.old.options)
             × (self.new.moment ≡ self.old.moment) × (self.new.ends_at ≡ self.old.ends_at)
             × (self.new.ended ≡ self.old.ended) }
@@ -630,9 +635,9 @@ impl<'a> Machine for Bridge<'a> {
     ghost use Rattle.std.specs.Prelude.{⊤};
     ghost use Rattle.ddcmp_bridge.specs.Crossing.{Crosses, needs_of, pending_of, wakes_of};
 
-    type Asked = BridgeOptions<'a>;
+    type Asked = (LineName<'a>, LineName<'a>, BridgeOptions<'a>);
 
-    ghost asked = { λ b. b.options };
+    ghost asked = { asked_of };
 
     ghost has = { Crosses };
 

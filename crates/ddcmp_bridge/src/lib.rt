@@ -26,4 +26,4 @@ pub use faults::{Fate, Faults};
 pub use options::BridgeOptions;
 pub use relay::{Relay, RelayStep};
 pub use report::write_report;
-pub use running::run_bridge;
+pub use running::{TwoLines, run_bridge};

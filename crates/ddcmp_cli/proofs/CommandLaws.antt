@@ -1,10 +1,13 @@
 -- What the words ask for, once the command that they name was run.
-use Rattle.ddcmp_cli.specs.Endings.{Performs, ExplainsOrNoMemory, file_named, LinksOrNoMemory}
+use Rattle.ddcmp_cli.specs.Endings.{BridgesOrNoMemory, Performs, ExplainsOrNoMemory, file_named}
+use Rattle.ddcmp_cli.specs.Endings.{LinksOrNoMemory}
 use Rattle.ddcmp_cli.specs.Endings.{ReadsFiles, StationsOrNoMemory, TapsOrNoMemory}
 use Rattle.ddcmp_commands.specs.Endings.{Streams}
 use Rattle.ddcmp_commands.specs.Stations.{Stations}
 use Rattle.ddcmp_commands.specs.TapEndings.{TapsAsked}
-use Rattle.ddcmp_cli.specs.LinkEndings.{LinesKnown, Links}
+use Rattle.ddcmp_cli.specs.BridgeEndings.{Bridges}
+use Rattle.ddcmp_cli.specs.Lines.{LinesKnown}
+use Rattle.ddcmp_cli.specs.LinkEndings.{Links}
 use Rattle.ddcmp_commands.specs.declared.ending.Ending.{Ending}
 use Rattle.ddcmp_commands.specs.declared.ending.Ending.TheVariants.{Done, Fault as Faulted}
 use Rattle.ddcmp_commands.specs.declared.fault.Fault.TheVariants.{Write}
@@ -102,16 +105,22 @@ linked lines words (Link l) ending a n h p = inr (l, h, p l refl)
 linked _ _ (Bridge x) _ a n _ _ = no (codes "link") (Bridge x) a n refl
 
 -- words that ask for a bridge are answered by it
-pub bridged : (Answered : Type 0) (words : List Text) (command : Command)
+pub bridged : {R : Type 0} (lines : LinesKnown) (words : List Text) (command : Command)
+    (reader reader_after : R) (old new : Option (List ℕ)) (ending : Ending)
     → IsAsked words (codes "bridge") → named_by words ≡ Some (name_of command)
-    → ((bridged : BridgeArgs) → command ≡ Bridge bridged → Answered) → Answered
-bridged _ _ (Explain x) a n _ = no (codes "bridge") (Explain x) a n refl
-bridged _ _ (Simulate x) a n _ = no (codes "bridge") (Simulate x) a n refl
-bridged _ _ (Pair x) a n _ = no (codes "bridge") (Pair x) a n refl
-bridged _ _ (Station x) a n _ = no (codes "bridge") (Station x) a n refl
-bridged _ _ (Tap x) a n _ = no (codes "bridge") (Tap x) a n refl
-bridged _ _ (Link x) a n _ = no (codes "bridge") (Link x) a n refl
-bridged A words (Bridge b) a n p = p b refl
+    → HasOptions (option_in words) (text_in words) command
+    → ((bridged : BridgeArgs) → command ≡ Bridge bridged
+    → (reader_after ≡ reader) × Bridges lines bridged old new ending)
+    → (reader_after ≡ reader) × BridgesOrNoMemory lines words old new ending
+bridged _ _ (Explain x) _ _ _ _ _ a n _ _ = no (codes "bridge") (Explain x) a n refl
+bridged _ _ (Simulate x) _ _ _ _ _ a n _ _ = no (codes "bridge") (Simulate x) a n refl
+bridged _ _ (Pair x) _ _ _ _ _ a n _ _ = no (codes "bridge") (Pair x) a n refl
+bridged _ _ (Station x) _ _ _ _ _ a n _ _ = no (codes "bridge") (Station x) a n refl
+bridged _ _ (Tap x) _ _ _ _ _ a n _ _ = no (codes "bridge") (Tap x) a n refl
+bridged _ _ (Link x) _ _ _ _ _ a n _ _ = no (codes "bridge") (Link x) a n refl
+bridged lines words (Bridge b) reader after old new ending a n h p =
+    let s = p b refl in
+    (s.0, inr (b, h, s.1))
 
 -- where the words name no file, the command reads none
 pub reads_no_file : (words : List Text) (command : Command)
@@ -178,6 +187,11 @@ is_tap command = bytes_eq (codes "tap") (name_of command)
 abbrev pub linked_or : LinkArgs → Command → LinkArgs
 linked_or other (Link linked) = linked
 linked_or other _ = other
+
+-- the same of a bridge
+abbrev pub bridged_or : BridgeArgs → Command → BridgeArgs
+bridged_or other (Bridge bridged) = bridged
+bridged_or other _ = other
 
 abbrev pub is_link : Command → Bool
 is_link command = bytes_eq (codes "link") (name_of command)

@@ -1,13 +1,16 @@
 -- How `ddcmp bridge` ends.
-use Rattle.std.specs.Prelude.{◌≡◌, ◌⊎◌, Bool, true, if◌then◌else◌, Result, Ok, Err, Option, Some}
-use Rattle.std.specs.Prelude.{None}
+use Rattle.std.specs.Prelude.{◌≡◌, ◌≢◌, ◌⊎◌, ◌&&◌, Bool, true, false, if◌then◌else◌, Result, Ok, Err}
+use Rattle.std.specs.Prelude.{Option, Some, None}
 use Rattle.std.specs.Io.KnownBytes.{Appends, Keeps}
 use Rattle.ddcmp_bridge.specs.Report.{bridge_report}
 use Rattle.ddcmp_io.specs.Written.{AppendsPart, Known}
 use Rattle.ddcmp_bridge.specs.declared.bridge.BridgeEnd.{BridgeEnd}
+use Rattle.ddcmp_bridge.specs.declared.options.BridgeOptions.{BridgeOptions}
 use Rattle.ddcmp_device.specs.declared.bridging.BridgeFault.{BridgeFault}
 use Rattle.ddcmp_device.specs.declared.bridging.BridgeFault.TheVariants as bridging
 use Rattle.ddcmp_ports.specs.Events.{open_fault_text}
+use Rattle.ddcmp_ports.specs.LineNames.{word_of}
+use Rattle.ddcmp_ports.specs.declared.line_name.LineName.{LineName}
 use Rattle.ddcmp_explain.specs.declared.notation.Notation.{Notation}
 use Rattle.ddcmp_explain.specs.declared.notation.Notation.TheVariants as words
 use Rattle.ddcmp_log.specs.declared.notation.LogNotation.{LogNotation}
@@ -16,7 +19,8 @@ use Rattle.ddcmp_args.specs.declared.bridge_args.BridgeArgs.{BridgeArgs}
 use Rattle.ddcmp_commands.specs.declared.fault.Fault.TheVariants.{Write, Memory, Ended}
 use Rattle.ddcmp_commands.specs.declared.ending.Ending.{Ending}
 use Rattle.ddcmp_commands.specs.declared.ending.Ending.TheVariants.{Done, Fault as Faulted}
-use Rattle.ddcmp_commands.specs.Endings.{IsLineUnopened, is_refusal}
+use Rattle.ddcmp_commands.specs.Endings.{IsLineUnopened, is_json, is_refusal}
+use Rattle.ddcmp_cli.specs.Lines.{LinesKnown}
 
 -- the notation in which received frames are printed: JSON, plain text if `--trace` is given, or
 -- none
@@ -44,9 +48,38 @@ BridgeEnds old new (Err (bridging.Open why)) ending =
     IsLineUnopened (open_fault_text why) ending × Keeps old new
 BridgeEnds old new (Err bridging.Memory) ending = (ending ≡ Faulted Memory) × Keeps old new
 
--- There is a usage error, or an allocation failed, and nothing is written; or the program ends as a
--- bridge did.
-abbrev pub Bridges : Known → Known → Ending → Type 0
-Bridges old new ending =
-    ((is_refusal ending ≡ true) × Keeps old new)
-    ⊎ ((ended : Result BridgeEnd BridgeFault) × BridgeEnds old new ended ending)
+-- the options of a bridge with these arguments
+abbrev pub options_of : BridgeArgs → BridgeOptions
+options_of bridged = record {
+  seconds = bridged.seconds;
+  again = bridged.again;
+  faults = bridged.faults;
+  delay_ms = bridged.delay;
+  baud = bridged.baud;
+  trace = trace_of bridged;
+  save_first = bridged.save_first;
+  save_second = bridged.save_second;
+}
+
+-- Frames can't be printed in two notations.
+abbrev pub has_two_notations : BridgeArgs → Bool
+has_two_notations bridged = bridged.ladder && is_json bridged.notation
+
+-- The result of `bridge`. A LINE that isn't one and two notations are usage errors; else a bridge
+-- was run from the line of the first name to that of the second with these options, and the
+-- program ends as the bridge did.
+abbrev pub Bridges : LinesKnown → BridgeArgs → Known → Known → Ending → Type 0
+Bridges lines bridged old new ending =
+    ((has_two_notations bridged ≡ true) × (is_refusal ending ≡ true) × Keeps old new)
+    ⊎ (((line : LineName) → word_of line ≢ bridged.first.now)
+    × (is_refusal ending ≡ true) × Keeps old new)
+    ⊎ (((line : LineName) → word_of line ≢ bridged.second.now)
+    × (is_refusal ending ≡ true) × Keeps old new)
+    ⊎ ((has_two_notations bridged ≡ false)
+    × (first : LineName) × (word_of first ≡ bridged.first.now)
+    × (second : LineName) × (word_of second ≡ bridged.second.now)
+    × (ended : Result BridgeEnd BridgeFault)
+    × ((known : Result BridgeEnd BridgeFault)
+    → lines.bridges (word_of first) (word_of second) (options_of bridged) ≡ Some known
+    → ended ≡ known)
+    × BridgeEnds old new ended ending)

@@ -16,6 +16,7 @@ use Rattle.ddcmp_args.specs.declared.explain_args.ExplainArgs.{ExplainArgs}
 use Rattle.ddcmp_args.specs.declared.station_args.StationArgs.{StationArgs}
 use Rattle.ddcmp_commands.specs.Connections.{Peers}
 use Rattle.ddcmp_args.specs.declared.link_args.LinkArgs.{LinkArgs}
+use Rattle.ddcmp_args.specs.declared.bridge_args.BridgeArgs.{BridgeArgs}
 use Rattle.ddcmp_args.specs.declared.tap_args.TapArgs.{TapArgs}
 use Rattle.ddcmp_args.specs.declared.no_command.NoCommand.{NoCommand}
 use Rattle.ddcmp_args.specs.declared.no_command.NoCommand.TheVariants.{Help, Version, Usage}
@@ -24,10 +25,11 @@ use Rattle.ddcmp_io.specs.declared.device.Worst.TheVariants.{Fine}
 use Rattle.ddcmp_io.specs.Change.{SourceChange, SinkChange}
 use Rattle.ddcmp_io.specs.Input.{GaveMost}
 use Rattle.ddcmp_io.specs.Written.{AppendsPart, Known}
-use Rattle.ddcmp_args.specs.Args.{HasExplain, HasLink, HasStation, HasTap, Reads, option_in}
+use Rattle.ddcmp_args.specs.Args.{HasBridge, HasExplain, HasLink, HasStation, HasTap, Reads, option_in}
 use Rattle.ddcmp_args.specs.Args.{text_in, Asks, IsAsked, IsOutOfOrder, file_of}
 use Rattle.ddcmp_core.specs.Limits.{MAX_COUNT}
-use Rattle.ddcmp_cli.specs.LinkEndings.{LinesKnown, Links}
+use Rattle.ddcmp_cli.specs.Lines.{LinesKnown}
+use Rattle.ddcmp_cli.specs.LinkEndings.{Links}
 use Rattle.ddcmp_cli.specs.BridgeEndings.{Bridges}
 use Rattle.ddcmp_cli.specs.Scripts.{ScriptAsked}
 use Rattle.ddcmp_cli.specs.declared.script_command.Way.TheVariants.{Simulated, Paired}
@@ -88,6 +90,13 @@ LinksOrNoMemory lines words ending =
     ⊎ ((linked : LinkArgs) × HasLink (option_in words) (text_in words) linked
     × Links lines linked ending)
 
+-- `bridge` ran with the options that the arguments have, or an allocation failed
+abbrev pub BridgesOrNoMemory : LinesKnown → List Text → Known → Known → Ending → Type 0
+BridgesOrNoMemory lines words old new ending =
+    ((ending ≡ Faulted NoMemory) × Keeps old new)
+    ⊎ ((bridged : BridgeArgs) × HasBridge (option_in words) (text_in words) bridged
+    × Bridges lines bridged old new ending)
+
 -- A command was run, and the ending reports its result. `held` has the contents of files by their
 -- names, `peers` what is known of connections, and `lines` of lines.
 abbrev pub Performs : (List ℕ → Known) → Peers → LinesKnown → Command → Streams → Ending → Type 0
@@ -101,7 +110,7 @@ Performs held peers lines (Tap tapped) s ending =
     (s.left ≡ Some s.input) × TapsAsked tapped s.before s.after ending
 Performs held peers lines (Link linked) s ending = Links lines linked ending
 Performs held peers lines (Bridge bridged) s ending =
-    (s.left ≡ Some s.input) × Bridges s.before s.after ending
+    (s.left ≡ Some s.input) × Bridges lines bridged s.before s.after ending
 
 -- the whole text was written, or a write failed
 abbrev pub Shows : List ℕ → Known → Known → Ending → Type 0
@@ -157,4 +166,5 @@ pub record RunsAs (held : List ℕ → Known) (peers : Peers) (lines : LinesKnow
       → Unread × TapsOrNoMemory words sink.before sink.after ending
       × (IsTrue sink.broken → ending ≡ Faulted Write)
   pub links : IsAsked words (codes "link") → LinksOrNoMemory lines words ending
-  pub bridges : IsAsked words (codes "bridge") → Unread × Bridges sink.before sink.after ending
+  pub bridges : IsAsked words (codes "bridge")
+      → Unread × BridgesOrNoMemory lines words sink.before sink.after ending

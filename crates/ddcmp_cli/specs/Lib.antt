@@ -1,5 +1,6 @@
 pub mod BridgeEndings
 pub mod Endings
+pub mod Lines
 pub mod LinkEndings
 pub mod Scripts
 pub use Rattle.ddcmp_commands.specs.Connections

@@ -1,6 +1,6 @@
 -- How `ddcmp link` ends.
 use Rattle.std.specs.Prelude.{◌≡◌, ◌≢◌, ◌⊎◌, ◌==◌, ◌&&◌, ◌||◌, not, ℕ, Bool, true, false, List}
-use Rattle.std.specs.Prelude.{Option, Some, None, Result, Ok, Err, is_some, option_map}
+use Rattle.std.specs.Prelude.{Option, Some, Result, Ok, Err, is_some}
 use Rattle.std.specs.Borrow.{Bor}
 use Rattle.ddcmp_streams.specs.declared.options.Options.{Options}
 use Rattle.ddcmp_ports.specs.LineNames.{word_of}
@@ -18,19 +18,7 @@ use Rattle.ddcmp_commands.specs.declared.ending.Ending.{Ending}
 use Rattle.ddcmp_commands.specs.declared.ending.Ending.TheVariants.{Done, SomeRefused}
 use Rattle.ddcmp_commands.specs.declared.ending.Ending.TheVariants.{Fault as Faulted}
 use Rattle.ddcmp_commands.specs.Endings.{IsLineUnopened, is_refusal}
-
--- the text of a host, if there is one
-abbrev pub text_of : Option (Bor (List ℕ)) → Option (List ℕ)
-text_of host = option_map (λ it. it.now) host
-
--- What is known of the lines of a system: the result of a link over the line of this name, with
--- the callers of this host alone if there is one, and with these options.
-pub record LinesKnown : Type 0 where
-  pub links : List ℕ → Option (List ℕ) → Options → Option (Result LinkOutcome LinkFailure)
-
--- nothing is known of any line
-abbrev pub no_lines_known : LinesKnown
-no_lines_known = record { links = λ word only options. None }
+use Rattle.ddcmp_cli.specs.Lines.{LinesKnown, text_of}
 
 -- how the program ends after a link with this result
 abbrev pub LinkEnds : Result LinkOutcome LinkFailure → Ending → Type 0

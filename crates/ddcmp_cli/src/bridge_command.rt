@@ -70,7 +70,8 @@ pub(crate) fn bridge<S: LineSystem, W: Sink>(
     writer: &mut W,
 ) -> Ending
     requires whole { W.broken writer.old ≡ false }
-    ensures bridges { Bridges (W.contents writer.old) (W.contents writer.new) result }
+    ensures bridges { Bridges (S.lines system.now) args.now (W.contents writer.old)
+        (W.contents writer.new) result }
     ensures write { (result ≡ Ending.Fault Fault.Write) ↔ IsTrue (W.broken writer.new) }
 {
     if args.ladder && is_json(args.notation) {

@@ -71,7 +71,9 @@ pub trait LineSystem {
     ghost use Rattle.ddcmp_link.specs.declared.fault.LinkFailure.{LinkFailure as FaultValue};
     ghost use Rattle.ddcmp_link.specs.declared.fault.LinkFailure.TheVariants.{Write};
     ghost use Rattle.ddcmp_session.specs.declared.link.LinkOutcome.{LinkOutcome as OutcomeValue};
-    ghost use Rattle.ddcmp_cli.specs.LinkEndings.{LinesKnown, text_of};
+    ghost use Rattle.ddcmp_bridge.specs.declared.bridge.BridgeEnd.{BridgeEnd as EndValue};
+    ghost use Rattle.ddcmp_device.specs.declared.bridging.BridgeFault.{BridgeFault as BridgeFaultValue};
+    ghost use Rattle.ddcmp_cli.specs.Lines.{LinesKnown, text_of};
 
     // What is known of its lines.
     ghost lines: { Self → LinesKnown };
@@ -99,11 +101,14 @@ pub trait LineSystem {
         first: LineName<'a>,
         second: LineName<'a>,
         options: BridgeOptions<'a>,
-    ) -> Result<BridgeEnd, BridgeFault<'a>>;
+    ) -> Result<BridgeEnd, BridgeFault<'a>>
+        ensures { (ended : Result EndValue BridgeFaultValue)
+            → (lines self.now).bridges (word_of first.entry) (word_of second.entry) options.entry
+            ≡ Some ended → result ≡ ended };
 }
 
 impl LineSystem for HostRuntime {
-    ghost use Rattle.ddcmp_cli.specs.LinkEndings.{no_lines_known};
+    ghost use Rattle.ddcmp_cli.specs.Lines.{no_lines_known};
 
     ghost lines = { λ _. no_lines_known };
 

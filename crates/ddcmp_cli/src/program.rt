@@ -68,7 +68,8 @@ fn perform<
         → Links (S.lines system.now) args result }
     ensures bridges { (args : BridgeArgsValue) → command.entry ≡ Command.Bridge args
         → (reader.new ≡ reader.old)
-        × Bridges (W.contents writer.old) (W.contents writer.new) result }
+        × Bridges (S.lines system.now) args (W.contents writer.old) (W.contents writer.new)
+        result }
 {
     match command {
         Command::Explain(args) => { explain_asked(system, alloc, &args, reader, writer) }

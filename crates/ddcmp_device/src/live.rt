@@ -1,5 +1,6 @@
 //! The system of a bridge: two lines, standard error and a clock.
-ghost use Rattle.std.specs.Prelude.{◌≡◌, ◌≤◌, length};
+ghost use Rattle.std.specs.Prelude.{◌≡◌, ◌≤◌, IfOk, length};
+ghost use Rattle.ddcmp_device.specs.Inside.Lives.{plan};
 ghost use Rattle.ddcmp_ports.specs.Moving.{count_moved};
 ghost use Rattle.ddcmp_ports.specs.Running.{is_later, moves_nothing};
 
@@ -7,7 +8,7 @@ use crate::live_line::{LiveLine, moved_by, wanted_of};
 use crate::poller::{Descriptor, reported_by};
 use crate::standard_stream::{StandardStream, write_errors};
 use crate::system::System;
-use ddcmp_bridge::BridgeEnd;
+use ddcmp_bridge::{BridgeEnd, TwoLines};
 use ddcmp_ports::{self as ports, Buffers, Machine, Opening, Port, Transfer};
 use ddcmp_station::{Clock, Elapsed};
 use mio::{Events, Interest, Poll, Token};
@@ -108,7 +109,10 @@ impl<'a, S: System> Live<'a, S> {
         alloc: Global,
         first: LiveLine<'a>,
         second: LiveLine<'a>,
-    ) -> io::Result<Live<'a, S>> {
+    ) -> io::Result<Live<'a, S>>
+        ensures { IfOk result (λ made. (plan made.first ≡ plan first.entry)
+            × (plan made.second ≡ plan second.entry)) }
+    {
         let poll = Poll::new(system)?;
         let events = Events::with_capacity(alloc, 8)?;
         let errors_there = Descriptor::new(&poll, 2, ERRORS, Interest::WRITABLE);
@@ -165,6 +169,12 @@ impl<'a, S: System> Live<'a, S> {
         }
         true
     }
+}
+
+impl<S: System> TwoLines for Live<'_, S> {
+    ghost first = { λ l. plan l.first };
+
+    ghost second = { λ l. plan l.second };
 }
 
 impl<S: System> ports::System for Live<'_, S> {

@@ -1,6 +1,8 @@
 //! A line of a bridge, on the system's devices.
-ghost use Rattle.std.specs.Prelude.{◌≡◌, ◌≢◌, ◌≤◌, ◌⊎◌, ◌+◌, ◌^◌, ◌-◌, IsTrue, false, length, min};
+ghost use Rattle.std.specs.Prelude.{◌≡◌, ◌≢◌, ◌≤◌, ◌⊎◌, ◌+◌, ◌^◌, ◌-◌, IfSome, IsTrue, false, length, min};
+ghost use Rattle.ddcmp_bridge.specs.Crossing.{plan_of};
 ghost use Rattle.ddcmp_device.specs.Inside.Lines.{is_datagrams};
+ghost use Rattle.ddcmp_device.specs.Inside.Lives.{plan};
 ghost use Rattle.ddcmp_device.specs.Pace.{IsPaced, after_given, room_at, wait_at};
 ghost use Rattle.ddcmp_ports.specs.LineNames.{line_kind};
 ghost use Rattle.ddcmp_io.specs.Transfers.{count_moved as count_of};
@@ -92,7 +94,9 @@ impl<'a> LiveLine<'a> {
         baud: u32,
         save: Option<Save>,
         tokens: (Token, Token),
-    ) -> Option<LiveLine<'a>> {
+    ) -> Option<LiveLine<'a>>
+        ensures { IfSome result (λ made. plan made ≡ plan_of name.entry baud) }
+    {
         let (line, callers) = tokens;
         Some(LiveLine {
             opener: Opener::new(name, None),

@@ -1,3 +1,4 @@
+pub mod StateTableLaws
 pub mod StationLaws
 pub mod StartingLaws
 pub mod BytesArrive

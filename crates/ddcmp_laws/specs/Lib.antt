@@ -1,3 +1,4 @@
+pub mod StateTable
 pub mod Arrival
 pub mod Traces
 pub mod Vectors

@@ -33,6 +33,7 @@ pub mod settles;
 pub mod sizes;
 pub mod sleep;
 pub mod starts;
+pub mod state_table;
 pub mod station;
 pub mod station_runs;
 pub mod station_steps;

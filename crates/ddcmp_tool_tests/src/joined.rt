@@ -6,7 +6,7 @@ ghost use Rattle.ddcmp_ports.specs.Running.{no_passage};
 ghost use Rattle.ddcmp_tool_tests.specs.Joined.{passage_of};
 
 use crate::sessions::append;
-use ddcmp_bridge::{Bridge, BridgeOptions, BridgeStop, Counts, Faults, run_bridge};
+use ddcmp_bridge::{Bridge, BridgeOptions, BridgeStop, Counts, Faults, TwoLines, run_bridge};
 use ddcmp_ports::{Buffers, LineName, Machine, Opening, Port, System, Transfer};
 use std::process::Abort;
 
@@ -74,6 +74,14 @@ struct Joined {
     first: Line,
     second: Line,
     moment: u64,
+}
+
+impl TwoLines for Joined {
+    ghost use Rattle.ddcmp_tool_tests.specs.Joined.{first_plan, second_plan};
+
+    ghost first = { λ _. first_plan };
+
+    ghost second = { λ _. second_plan };
 }
 
 impl System for Joined {

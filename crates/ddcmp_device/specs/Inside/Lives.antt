@@ -1,7 +1,9 @@
--- Whether the last call at each port of a bridge could do nothing.
+-- The lines of a bridge, and whether the last call at each of its ports could do nothing.
 use Rattle.std.specs.Prelude.{true}
 use Rattle.ddcmp_device.specs.declared.live.LastCalls.{LastCalls}
 use Rattle.ddcmp_device.specs.declared.live.Live.{Live}
+use Rattle.ddcmp_device.specs.declared.live_line.LiveLine.{LiveLine}
+use Rattle.ddcmp_bridge.specs.Crossing.{LinePlan, plan_of}
 use Rattle.ddcmp_ports.specs.declared.port.Port.{Port}
 use Rattle.ddcmp_ports.specs.declared.port.Port.TheVariants.{Input, Output, Errors, First, Second}
 use Rattle.ddcmp_ports.specs.Running.{Stuck}
@@ -16,3 +18,7 @@ stuck_of l Second = stuck_at l.second_last
 stuck_of l Errors = record { read = true; write = l.errors_last.write; opening = true }
 stuck_of l Input = record { read = true; write = true; opening = true }
 stuck_of l Output = record { read = true; write = true; opening = true }
+
+-- the line that is opened
+abbrev pub plan : LiveLine → LinePlan
+plan l = plan_of l.opener.name l.baud

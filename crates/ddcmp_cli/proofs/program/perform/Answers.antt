@@ -1,9 +1,10 @@
 use Rattle.std.proofs.Common.{◌∙◌, ap, refl, rules, subst, sym}
 use Rattle.ddcmp_args.specs.Args.{name_of}
 use Rattle.ddcmp_cli.specs.Endings.{file_named}
+use Rattle.ddcmp_cli.specs.BridgeEndings.{Bridges}
 use Rattle.ddcmp_cli.specs.LinkEndings.{Links}
 use Rattle.ddcmp_cli.proofs.CommandLaws.{differ, is_bridge, is_link, is_station, is_tap}
-use Rattle.ddcmp_cli.proofs.CommandLaws.{linked_or, unbroken}
+use Rattle.ddcmp_cli.proofs.CommandLaws.{bridged_or, linked_or, unbroken}
 use Rattle.ddcmp_cli.proofs.BridgeLaws.{not-read}
 use Rattle.ddcmp_cli.proofs.program.perform.Goals as goal
 
@@ -103,12 +104,17 @@ pub returns-in-Bridge : goal.returns-in-Bridge
 returns-in-Bridge g c = record {
   performs = λ input left. rw (c.in-Bridge.is) (left, c.bridge.ensures.bridges);
   read = λ _ e. absurd (e c.requires.fine);
-  read_only = λ _ _ _ _ e. absurd (not-read _ _ _ c.bridge.ensures.bridges e);
+  read_only = λ _ _ _ _ e. absurd (not-read _ _ _ _ _ c.bridge.ensures.bridges e);
   write = λ _ _. c.bridge.ensures.write;
   whole = unbroken _ _ c.bridge.ensures.write.1;
   untouched = λ _. refl;
   stations = λ _ are. differ is_station c.in-Bridge.is refl are refl;
   taps = λ _ are. differ is_tap c.in-Bridge.is refl are refl;
   links = λ _ are. differ is_link c.in-Bridge.is refl are refl;
-  bridges = λ _ _. (refl, c.bridge.ensures.bridges);
+  bridges = λ args are. (
+    refl,
+    subst (λ a. Bridges (g.S.LineSystem.lines c.args.system.now) a
+        (g.W.Sink.contents c.args.writer.now) (g.W.Sink.contents c.bridge.new.writer) c.bridge.result)
+        (ap (bridged_or args) (sym c.in-Bridge.is ∙ are)) c.bridge.ensures.bridges,
+  );
 }

@@ -36,8 +36,9 @@ returns-in-Ok g c = record {
   links = λ asked.
       linked (g.S.LineSystem.lines c.args.system.now) _ c.in-Ok.command _ asked
       c.in-Ok.ensures.reads.1 c.in-Ok.ensures.reads.2 c.perform.ensures.links;
-  bridges = λ asked. bridged _ _ c.in-Ok.command asked c.in-Ok.ensures.reads.1
-      c.perform.ensures.bridges;
+  bridges = λ asked.
+      bridged (g.S.LineSystem.lines c.args.system.now) _ c.in-Ok.command _ _ _ _ _ asked
+      c.in-Ok.ensures.reads.1 c.in-Ok.ensures.reads.2 c.perform.ensures.bridges;
 }
 
 pub returns-in-Err-Help : goal.returns-in-Err-Help

@@ -10,7 +10,7 @@ returns-in-First c = record {
   history = λ h k.
       subst (λ p. CrossesAs (view_of c.leave_if_closed.new.self) (Left p ∷ h)) (sym c.in-First.is)
       (c.leave_if_closed.ensures.keeps.crosses (Left First ∷ h) (closed-first (view_of c.args.self.now) h k));
-  same = c.leave_if_closed.ensures.keeps.options;
+  same = c.leave_if_closed.ensures.keeps.asked;
 }
 
 pub returns-in-Second : goal.returns-in-Second
@@ -18,5 +18,5 @@ returns-in-Second c = record {
   history = λ h k.
       subst (λ p. CrossesAs (view_of c.leave_if_closed-in-Second.new.self) (Left p ∷ h)) (sym c.in-Second.is)
       (c.leave_if_closed-in-Second.ensures.keeps.crosses (Left Second ∷ h) (closed-second (view_of c.args.self.now) h k));
-  same = c.leave_if_closed-in-Second.ensures.keeps.options;
+  same = c.leave_if_closed-in-Second.ensures.keeps.asked;
 }
