@@ -1,3 +1,4 @@
+pub mod SessionTimingLaws
 pub mod StateTableLaws
 pub mod StationLaws
 pub mod StartingLaws

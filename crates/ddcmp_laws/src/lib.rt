@@ -28,6 +28,7 @@ pub mod server;
 pub mod session_runs;
 pub mod session_sleep;
 pub mod session_steps;
+pub mod session_timing;
 pub mod sessions;
 pub mod settles;
 pub mod sizes;
