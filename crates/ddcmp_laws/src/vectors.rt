@@ -1,11 +1,12 @@
 //! Published CRCs, and each kind of frame as bytes, computed from the definitions.
-ghost use Rattle.std.specs.Prelude.{◌≡◌, true, false, [], ◌∷◌};
+ghost use Rattle.std.specs.Prelude.{◌≡◌, ◌++◌, ℕ, true, false, [], ◌∷◌, replicate};
 ghost use Rattle.ddcmp_num.specs.Check.{check_of};
 ghost use Rattle.ddcmp_frame.specs.declared.header.ControlType.TheVariants.{Ack, Nak, Rep};
 ghost use Rattle.ddcmp_frame.specs.declared.header.ControlType.TheVariants.{Strt as StrtType};
 ghost use Rattle.ddcmp_frame.specs.declared.header.ControlType.TheVariants.{Stack as StackType};
 ghost use Rattle.ddcmp_frame.specs.declared.nak.Nak.TheVariants as reason;
-ghost use Rattle.ddcmp_core.specs.Table.{Data, Acked, Naked, Rep as RepFrame, Strt, Stack, Maint};
+ghost use Rattle.ddcmp_core.specs.Table.{Data, Acked, Frame, Naked, Rep as RepFrame, Strt, Stack};
+ghost use Rattle.ddcmp_core.specs.Table.{Maint};
 ghost use Rattle.ddcmp_proto.specs.Bytes.{frame_on_line};
 ghost use Rattle.ddcmp_laws.specs.Vectors.{nine_digits, abc, control, data_of, maintenance_of};
 ghost use Rattle.ddcmp_laws.specs.Vectors.{IsHeader, IsOnLine};
@@ -72,4 +73,6 @@ pub fn frames_in_bytes()
         ∷ 0x61 ∷ 0x62 ∷ 0x63 ∷ 0x38 ∷ 0x97 ∷ []) }
     ensures fill { frame_on_line 2 (Acked 5) ≡ 0x96 ∷ 0x96
         ∷ 0x05 ∷ 0x01 ∷ 0x00 ∷ 0x05 ∷ 0x00 ∷ 0x01 ∷ 0xEC ∷ 0x54 ∷ [] }
+    ensures fill_of_each { (syn : ℕ) (frame : Frame)
+        → frame_on_line syn frame ≡ replicate syn 0x96 ++ frame_on_line 0 frame }
 {}

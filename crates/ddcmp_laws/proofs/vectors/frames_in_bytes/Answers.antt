@@ -75,3 +75,6 @@ returns-clause-maintenance c = record { written = refl; read = refl }
 pub returns-clause-fill : goal.returns-clause-fill
 unfolding low_bits bits add divisor_rest remainder number check_of xor six_bytes wire
 returns-clause-fill c = refl
+
+pub returns-clause-fill_of_each : goal.returns-clause-fill_of_each
+returns-clause-fill_of_each c = λ syn frame. refl
