@@ -6,7 +6,7 @@ import subprocess
 
 import pytest
 
-from .process import PROGRAM, TOP, Process, call, contents, free_port, holds_within, is_listening
+from .process import PROGRAM, TOP, Process, call, free_port, holds_within, is_listening, text_of
 
 pytestmark = pytest.mark.limit(120)
 STRICT = ["-Wall", "-Wextra", "-Wpedantic", "-Werror", f"-I{TOP}/include"]
@@ -23,10 +23,6 @@ RIGHT = bytes.fromhex(
 DAMAGED = bytes.fromhex(
     "81030002060139b161626438970509000000011d94810000000001dfd178780501000200015d009004c00000"
     "0111506465666765658103400205012c")
-
-
-def read(path):
-    return contents(f"{TOP}/{path}").decode()
 
 
 def printed(*words, **how):
@@ -70,7 +66,7 @@ def test_names(library):
     archive = f"{library}/libddcmp.a"
     defined = re.findall(r" [A-Z] (.*)$", printed("nm", "-g", "--defined-only", archive, text=True),
                          re.M)
-    declared = re.findall(r"^DDCMP_CALL .*(ddcmp_[a-z_]*)\(", read("include/ddcmp.h"), re.M)
+    declared = re.findall(r"^DDCMP_CALL .*(ddcmp_[a-z_]*)\(", text_of("include/ddcmp.h"), re.M)
     assert sorted(defined) == sorted(declared) != []
     asked = re.findall(r"^ *U (.*)$", printed("nm", "-u", archive, text=True), re.M)
     assert sorted(asked) == ["free", "malloc", "memcpy", "memmove", "memset", "realloc"]
@@ -80,7 +76,7 @@ def test_header_of_the_crate(library, tmp_path):
     """The numbers of the header are those that the crate exports, all of them."""
     source = printed(f"{TOP}/c/header_test", text=True)
     met = set(re.findall(r"DDCMP_[A-Z_]*(?= ==)", source))
-    numbers = set(re.findall(r"^    (DDCMP_[A-Z_]*) = ", read("include/ddcmp.h"), re.M))
+    numbers = set(re.findall(r"^    (DDCMP_[A-Z_]*) = ", text_of("include/ddcmp.h"), re.M))
     assert met == numbers - {"DDCMP_NULL"} != set()
     words = ["gcc", "-std=c11", "-Wall", "-Wextra", "-Werror", f"-I{TOP}/include", "-x", "c", "-"]
     words += ["-x", "none", f"{library}/libddcmp.a", "-o", f"{tmp_path}/header"]

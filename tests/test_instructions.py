@@ -8,7 +8,7 @@ import sys
 
 import pytest
 
-from .process import PROGRAM, TOP, contents
+from .process import PROGRAM, TOP, text_of
 
 sys.path.insert(0, f"{TOP}/bench")
 import callgrind  # noqa: E402
@@ -16,7 +16,7 @@ import capture  # noqa: E402
 
 # One after the other, since each may write its line of the file.
 pytestmark = [pytest.mark.limit(300), pytest.mark.xdist_group("instructions")]
-STORED = f"{TOP}/bench/instructions.txt"
+STORED = "bench/instructions.txt"
 MOST = 1.05
 FEW, MANY = 1_400, 2_800  # messages each way
 CAPTURES = {"data frames": True, "control frames": False}
@@ -33,14 +33,15 @@ def counter(request):
 
 
 def stored():
-    return {name: float(count) for name, count in ROW.findall(contents(STORED).decode())}
+    return {name: float(count) for name, count in ROW.findall(text_of(STORED))}
 
 
 def compare(request, name, count):
     """A count is at most a little above the stored one; with --store it becomes that."""
     if request.config.getoption("--store"):
-        head, rows = re.findall(r"^#.*\n", contents(STORED).decode(), re.M), {**stored(), name: count}
-        with open(STORED, "w", encoding="utf-8") as it:
+        head = re.findall(r"^#.*\n", text_of(STORED), re.M)
+        rows = {**stored(), name: count}
+        with open(f"{TOP}/{STORED}", "w", encoding="utf-8") as it:
             it.writelines([*head, *(f"{name:<32} {count:8.2f}\n" for name, count in rows.items())])
     wanted = stored()[name]
     assert count <= MOST * wanted, f"{100 * (count / wanted - 1):.1f} % more than {wanted:.2f}"

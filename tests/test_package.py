@@ -11,7 +11,7 @@ import tempfile
 
 import pytest
 
-from .process import PROGRAM, TOP, contents, free_port
+from .process import PROGRAM, TOP, contents, free_port, text_of, version
 
 pytestmark = [pytest.mark.limit(300), pytest.mark.xdist_group("package"),
               pytest.mark.usefixtures("library")]
@@ -59,14 +59,6 @@ def there(folder):
             link = f" {os.readlink(path)}" if os.path.islink(path) else ""
             found[os.path.relpath(path, folder)] = stat.filemode(os.lstat(path).st_mode) + link
     return found
-
-
-def read(path):
-    return contents(f"{TOP}/{path}").decode()
-
-
-def version():
-    return re.search('^#define DDCMP_VERSION "(.*)"$', read("include/ddcmp.h"), re.M)[1]
 
 
 def needs(program, what):
@@ -234,7 +226,7 @@ def test_version():
 
 def test_notices():
     """The licenses of what the program contains of the toolchain's crates."""
-    assert ran("tools/notices") == (0, read("NOTICES").rstrip("\n"))
+    assert ran("tools/notices") == (0, text_of("NOTICES").rstrip("\n"))
 
 
 @pytest.mark.parametrize("words, wanted", [
@@ -258,7 +250,7 @@ def test_completion_is_read(shell, file):
 def test_page_is_made(kept):
     """The man page is what its script makes of the stored texts of help, in the right form."""
     assert ran("man/generate", kept)[0] == 0
-    assert contents(f"{kept}/ddcmp.1").decode() == read("man/ddcmp.1")
+    assert contents(f"{kept}/ddcmp.1").decode() == text_of("man/ddcmp.1")
     needs("mandoc", "the form of ddcmp.1")
     assert ran("mandoc", "-Tlint", "man/ddcmp.1") == (0, "")
 
@@ -267,8 +259,9 @@ def test_page_is_made(kept):
     "items=1 bytes=8 open=0", "recovered .* done", "notice .*Acknowledged 1", "mail 48656c6c6f"]))
 def test_example_of_the_page(kept, number, line):
     os.symlink(PROGRAM[0], f"{kept}/ddcmp")
-    text = re.findall(r"^\.Bd -literal.*\n((?:.*\n)*?)\.Ed", read("man/ddcmp.1"), re.M)[number]
+    text = re.findall(r"^\.Bd -literal.*\n((?:.*\n)*?)\.Ed", text_of("man/ddcmp.1"), re.M)[number]
     text = text.replace("\\e", "\\").replace(":7000", f":{free_port()}")
-    _, said = ran("timeout", "60", "bash", "-c", f"{text}\nwait", PATH=f"{kept}:{os.environ['PATH']}")
+    path = f"{kept}:{os.environ['PATH']}"
+    _, said = ran("timeout", "60", "bash", "-c", f"{text}\nwait", PATH=path)
     lines = said.splitlines()[-1 if number == 0 else 0:]
     assert any(re.fullmatch(line, it) for it in lines), said

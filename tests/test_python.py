@@ -19,7 +19,7 @@ import traceback
 
 import pytest
 
-from .process import TOP, contents
+from .process import TOP, text_of
 from .wire import drawn
 
 pytestmark = pytest.mark.limit(240)
@@ -62,10 +62,6 @@ def raised(call):
 
 
 # ---- the header
-
-def text_of(path):
-    return contents(f"{TOP}/{path}").decode()
-
 
 def found_in_c(header):
     """What a C program prints of the header: each number with its text, the size of each struct,
