@@ -5,8 +5,7 @@ import select
 import socket
 import threading
 
-from .process import (
-    Link, connected, free_port, holds_within, is_bound, port_of, server, udp_socket)
+from .process import Link, connected, free_port, holds_within, is_bound, port_of, server, udp_socket
 
 
 class Bad:

@@ -6,6 +6,7 @@ import contextlib
 import fcntl
 import os
 import signal
+import subprocess
 import tempfile
 
 import pytest
@@ -21,6 +22,7 @@ MOST_UNSTEADY = 3
 
 def pytest_addoption(parser):
     parser.addoption("--program", metavar="FILE", help="the program, in place of the proved one")
+    parser.addoption("--library", metavar="FOLDER", help="a C library, in place of the proved one")
     parser.addoption("--long", action="store_true", help="the long trials too")
     parser.addoption("--store", action="store_true", help="stores what is drawn or counted now")
     parser.addoption("--strict-trials", action="store_true", help="no second try")
@@ -124,6 +126,21 @@ def descendants():
     for it in found:
         found += [pid for pid, parent in parents.items() if parent == it]
     return found[1:]
+
+
+@pytest.fixture(scope="session")
+def library(request, tmp_path_factory):
+    """The folder of the C library. c/build makes it, in one process at a time: it may prove."""
+    given, top = request.config.getoption("--library"), process.TOP
+    if given:
+        return os.path.abspath(given)
+    if request.config.getoption("--program"):
+        pytest.skip("the C library, which is of the proved sources (--library FOLDER)")
+    made = tmp_path_factory.mktemp("library")
+    with open(f"{top}/c/build", "rb") as it:
+        fcntl.flock(it, fcntl.LOCK_EX)
+        subprocess.run([it.name, made], check=True, timeout=LONG_LIMIT)
+    return str(made)
 
 
 @pytest.fixture(autouse=True)

@@ -103,11 +103,30 @@ class Peer:
         self.sock.close()
 
 
+def dials(*options, **streams):
+    """A link that connects to a server, and that server."""
+    it = server()
+    return Link(f"connect:127.0.0.1:{port_of(it)}", *options, **streams), it
+
+
+def linked(*options, **streams):
+    """A link that connects, and the other end of its connection."""
+    link, it = dials(*options, **streams)
+    with it:
+        return link, it.accept()[0]
+
+
 def called(*options, answer=good, **streams):
     """A link that connects to a peer, and that peer."""
-    with server() as it:
-        link = Link(f"connect:127.0.0.1:{port_of(it)}", *options, **streams)
-        return link, Peer(it.accept()[0], answer)
+    link, sock = linked(*options, **streams)
+    return link, Peer(sock, answer)
+
+
+def joined(it, answer=good):
+    """The next peer that a link connects to at a server, after the startup handshake."""
+    peer = Peer(it.accept()[0], answer)
+    peer.runs()
+    return peer
 
 
 def running(*options, answer=good, **streams):

@@ -13,7 +13,7 @@ import time
 
 import pytest
 
-from .wire import binary, mail_in, unpacked
+from .wire import binary, drawn, mail_in, unpacked
 
 TOP = os.path.dirname(os.path.dirname(os.path.realpath(__file__)))
 sys.path.insert(0, f"{TOP}/tools")
@@ -70,6 +70,15 @@ def udp_names():
     return f"udp:127.0.0.1:{a},127.0.0.1:{b}", f"udp:127.0.0.1:{b},127.0.0.1:{a}"
 
 
+def line_names(kind):
+    """The names of the two ends of a line over UDP, or over TCP: that of this kind is the first."""
+    if kind == "udp":
+        return udp_names()
+    port = free_port()
+    ends = f"connect:127.0.0.1:{port}", f"listen:127.0.0.1:{port}"
+    return ends if kind == "connect" else ends[::-1]
+
+
 def connected(port, seconds=20):
     """A connection to a port, once something listens there."""
     holds_within(seconds, lambda: is_listening(port))
@@ -81,6 +90,17 @@ def reset_at_close(sock):
     sock.setsockopt(socket.SOL_SOCKET, socket.SO_LINGER, struct.pack("ii", 1, 0))
 
 
+def sends(peer, text, most=1 << 16, ends=False):
+    """Sends bytes in drawn pieces, and perhaps their end."""
+    at = 0
+    while at < len(text):
+        size = drawn.randrange(1, most)
+        peer.sendall(text[at:at + size])
+        at += size
+    if ends:
+        peer.shutdown(socket.SHUT_WR)
+
+
 def takes(peer):
     """All bytes that a connection receives, to its end."""
     return b"".join(iter(lambda: peer.recv(1 << 16), b""))
@@ -88,7 +108,7 @@ def takes(peer):
 
 def receives(peer, size, seconds=LONG):
     """The bytes that a connection receives: this many, or those up to the time or its end."""
-    found, until = b"", time.monotonic() + seconds
+    found, until = bytearray(), time.monotonic() + seconds
     while len(found) < size and time.monotonic() < until:
         peer.settimeout(max(0.01, until - time.monotonic()))
         with contextlib.suppress(TimeoutError):
@@ -96,7 +116,7 @@ def receives(peer, size, seconds=LONG):
             if not piece:
                 break
             found += piece
-    return found
+    return bytes(found)
 
 
 def holds_within(seconds, holds):
@@ -109,6 +129,15 @@ def holds_within(seconds, holds):
 def contents(path):
     with open(path, "rb") as it:
         return it.read()
+
+
+def text_of(path):
+    """A text of the repository."""
+    return contents(f"{TOP}/{path}").decode()
+
+
+def version():
+    return re.search('^#define DDCMP_VERSION "(.*)"$', text_of("include/ddcmp.h"), re.M)[1]
 
 
 def call(*words, given=b"", seconds=60):
@@ -326,8 +355,7 @@ def terminals():
 
 def commands_in(document, begins, has_blanks=False):
     """The indented lines of a document from the first one that begins so, with our program."""
-    with open(f"{TOP}/docs/{document}", encoding="utf-8") as it:
-        lines = it.read().split("\n")
+    lines = text_of(f"docs/{document}").split("\n")
     first = next(at for at, line in enumerate(lines) if re.match(f"    {begins}", line))
     last = next(at for at in range(first, len(lines)) if lines[at][:4] != "    "
                 and (lines[at] or not has_blanks))

@@ -19,14 +19,12 @@ import pytest
 
 from .bad_lines import Draws
 from .process import (
-    Bridge, LONG, Link, PROGRAM, Process, bridged, commands_in, connected, contents, exchange,
+    LONG, PROGRAM, Bridge, Link, Process, bridged, commands_in, connected, contents, exchange,
     explained, free_port, holds_within, is_bound, must_end, omitted, port_of, receives,
-    reset_at_close, server, takes, terminals, times, udp_socket)
-from .wire import checked, control, data, drawn, mail_in, messages_of
+    reset_at_close, sends, server, takes, terminals, times, udp_socket)
+from .wire import checked, control, data, drawn, drawn_frames, mail_in, messages_of
 
 START = {0x05: 0, 0x81: 1, 0x90: 1}
-
-
 NOTHING = (0, 0, 0, 0, 0)
 
 
@@ -60,37 +58,8 @@ def good_frames(text):
     return found, damaged
 
 
-def frame():
-    """A drawn frame, whole, damaged or cut off, and what follows it."""
-    kind = drawn.randrange(6)
-    if kind < 2:
-        made = control(drawn.choice([1, 2, 3, 6, 7, 7, 9]), drawn.randrange(64),
-                       drawn.randrange(256), drawn.randrange(256))
-    elif kind == 2:
-        message = drawn.randbytes(drawn.randrange(1, 40))
-        made = checked(bytes([0x90, len(message), 0xC0, 0, 0, 1])) + checked(message)
-    else:
-        size = drawn.choice([1, 2, 60, 300, 16383]) if kind == 5 else drawn.randrange(1, 60)
-        made = data(drawn.randbytes(size), drawn.randrange(256), drawn.randrange(256))
-    fate = drawn.randrange(8)
-    if fate == 0:
-        at = drawn.randrange(len(made))
-        made = made[:at] + bytes([made[at] ^ drawn.randrange(1, 256)]) + made[at + 1:]
-    elif fate == 1:
-        made = made[:drawn.randrange(len(made))]
-    return made + drawn.randbytes(drawn.choice([0, 0, 0, 3])) + b"\x96" * drawn.randrange(3)
-
-
 def text_of(count):
-    return b"".join(frame() for _ in range(count))
-
-
-def sends(peer, text, most):
-    at = 0
-    while at < len(text):
-        size = drawn.randrange(1, most)
-        peer.sendall(text[at:at + size])
-        at += size
+    return drawn_frames(count, (1, 2, 60, 300, 16383))
 
 
 def counted(text):
@@ -162,10 +131,7 @@ def test_bridged_slowly():
             break
     assert (bridge.memory() <= before + 512 and bridge.processor_time() - used <= 0.1
             and sending.is_alive())
-    pieces = []
-    while sum(map(len, pieces)) < len(text) and (piece := two.recv(1 << 20)):
-        pieces.append(piece)
-    got = b"".join(pieces)
+    got = receives(two, len(text))
     sending.join(LONG)
     one.close()
     assert got == text and bridge.ended() == 0 and bridge.counts()[0] == (2048, 0, 0, 0, 0)
@@ -185,9 +151,7 @@ def test_bridged_rest():
     frames = [data(drawn.randbytes(990), it % 256) for it in range(4000)]
     sending = threading.Thread(target=sends, args=(one, b"".join(frames), 1 << 16))
     sending.start()  # so that its window grows
-    left = sum(map(len, frames))
-    while left and (piece := two.recv(1 << 20)):
-        left -= len(piece)
+    receives(two, sum(map(len, frames)))
     sending.join(LONG)
     bridge.run.send_signal(signal.SIGSTOP)
     two.sendall(data(b"unwanted", 1))
@@ -198,9 +162,7 @@ def test_bridged_rest():
     reset_at_close(one)
     one.close()
     bridge.run.send_signal(signal.SIGCONT)
-    got = b""
-    while piece := two.recv(1 << 20):
-        got += piece
+    got = takes(two)
     assert bridge.ended() == 3 and had >= 100 and got == b"".join(frames[:had])
 
 
@@ -249,10 +211,8 @@ def faulty(*faults):
     as it counts."""
     words = [word for name, value in zip(("--lose", "--damage", "--seed"), faults)
              for word in (name, str(value))]
-    first, second = server(), server()
-    bridge = Bridge(*(f"connect:127.0.0.1:{port_of(it)}" for it in (first, second)), *words)
-    ends = first.accept()[0], second.accept()[0]
-    wanted, counts, got = [], [], {}
+    bridge, *ends = bridged(*words)
+    wanted, counts = [], []
     for direction, end in enumerate(ends):
         frames = [data(drawn.randbytes(drawn.randrange(1, 60)), it % 256) for it in range(300)]
         draws = Draws(direction, *faults)
@@ -261,18 +221,11 @@ def faulty(*faults):
         altered = sum(it not in (b"", frame) for it, frame in zip(left, frames))
         counts.append((300, 0, 0, left.count(b""), altered))
         end.sendall(b"".join(frames))
-    for end, text in zip(ends, reversed(wanted)):
-        end.settimeout(LONG)
-        got[end] = b""
-        while len(got[end]) < len(text) and (piece := end.recv(1 << 16)):
-            got[end] += piece
+    got = [receives(end, len(text)) for end, text in zip(ends, reversed(wanted))]
     time.sleep(0.2)
     for it in ends:
         it.close()
-    assert (bridge.ended() == 0 and bridge.counts() == tuple(counts)
-            and [got[it] for it in ends] == wanted[::-1])
-    for it in (first, second):
-        it.close()
+    assert bridge.ended() == 0 and bridge.counts() == tuple(counts) and got == wanted[::-1]
     return counts
 
 
@@ -476,8 +429,7 @@ def test_device_without_waiting():
     settings = termios.tcgetattr(theirs)
     settings[6][termios.VMIN] = settings[6][termios.VTIME] = 0
     termios.tcsetattr(theirs, termios.TCSANOW, settings)
-    with socket.socket(socket.AF_INET, socket.SOCK_DGRAM) as peer:
-        peer.bind(("127.0.0.1", 0))
+    with udp_socket() as peer:
         peer.settimeout(5)
         near, far = free_port(socket.SOCK_DGRAM), port_of(peer)
         bridge = Bridge(f"device:{name}", f"udp:127.0.0.1:{near},127.0.0.1:{far}")
@@ -495,20 +447,12 @@ def test_device_without_waiting():
 def test_unread_trace():
     """A trace that isn't read blocks nothing: all frames pass, the time ends the bridge, and lines
     without room are counted."""
-    first, second = server(), server()
     reading, writing = os.pipe()
-    lines = [f"connect:127.0.0.1:{port_of(it)}" for it in (first, second)]
-    bridge = Bridge(*lines, "--trace", "--seconds", "10", stderr=writing)
+    bridge, one, two = bridged("--trace", "--seconds", "10", stderr=writing)
     os.close(writing)
-    one, two = first.accept()[0], second.accept()[0]
     frames = b"".join(data(drawn.randbytes(1000), it % 256) for it in range(300))
     threading.Thread(target=one.sendall, args=(frames,), daemon=True).start()
-    two.settimeout(10)
-    got = b""
-    with contextlib.suppress(TimeoutError):
-        while len(got) < len(frames) and (piece := two.recv(1 << 20)):
-            got += piece
-    assert got == frames
+    assert receives(two, len(frames), 10) == frames
     told = b"".join(iter(lambda: os.read(reading, 1 << 16), b""))
     status = bridge.ended(5)
     assert status == 0 and 9 < bridge.took < 12.5

@@ -9,7 +9,7 @@ import threading
 
 import pytest
 
-from .process import PROGRAM, TOP, call, free_port
+from .process import PROGRAM, call, free_port, version
 from .wire import ack, data
 
 LONG_NAME = "a" * 300
@@ -54,11 +54,6 @@ def ends(status, output, fault, given, words):
     assert (out.decode(), got) == (output, status)
     is_usage = fault.startswith("error: ")
     assert re.fullmatch(fault, err, re.S) if is_usage else err == (fault and fault + "\n")
-
-
-def version():
-    with open(f"{TOP}/include/ddcmp.h", encoding="utf-8") as it:
-        return re.search('^#define DDCMP_VERSION "(.*)"$', it.read(), re.M)[1]
 
 
 @pytest.mark.parametrize("status, output, fault, given, words", [

@@ -7,8 +7,7 @@ import subprocess
 import pytest
 from hypothesis import given
 
-from .captures import (
-    FAULTY, GOOD, MAX, explain, good_control, in_words, jq, randoms, tries)
+from .captures import FAULTY, GOOD, MAX, explain, good_control, in_words, jq, randoms, tries
 from .process import commands_in
 from .wire import CONTROL, KINDS, NAMES, REASONS, STARTS, crc
 

@@ -4,8 +4,8 @@ import time
 
 import pytest
 
-from .peers import good, running
-from .process import Link, must_end, port_of, server, tcp_pair, times
+from .peers import good, linked, running
+from .process import must_end, tcp_pair, times
 from .wire import data
 
 TOO_LONG = "ddcmp: peer's messages are too long: --max is 100"
@@ -92,9 +92,7 @@ def test_damaged_once():
 
 def at_an_echo(*options, given=b""):
     """A link whose line returns what it sends, once that has ended."""
-    with server() as it:
-        link = Link(f"connect:127.0.0.1:{port_of(it)}", *options)
-        echo = it.accept()[0]
+    link, echo = linked(*options)
     link.give(given)
     echo.settimeout(10)
     while piece := echo.recv(4096):

@@ -9,9 +9,9 @@ import time
 
 import pytest
 
-from .peers import Peer, called, good, no_ack, running, silent
+from .peers import Peer, called, dials, good, joined, no_ack, running, silent
 from .process import (
-    Link, PROGRAM, commands_in, connected, free_port, holds_within, is_listening, listening,
+    PROGRAM, Link, commands_in, connected, free_port, holds_within, is_listening, listening,
     must_end, port_of, reset_at_close, server, tcp_pair, terminals, times, unacknowledged)
 from .wire import STACK, STRT, ack, binary, data, digits, header
 
@@ -37,17 +37,14 @@ def test_lost(options, count):
 @pytest.mark.parametrize("options", [(), ("--binary",)])
 def test_lost_on_each_line(options):
     """With --again, two messages lost on each of three lines, and then one that is delivered."""
-    it = server()
-    link = Link(f"connect:127.0.0.1:{port_of(it)}", "--again", "--timer-ms", "200", *options)
+    link, it = dials("--again", "--timer-ms", "200", *options)
     form = binary if options else digits
     for _ in range(3):
-        peer = Peer(it.accept()[0], no_ack)
-        peer.runs()
+        peer = joined(it, no_ack)
         link.give(form([b"a", b"b"]), close=False)
         peer.waits(lambda it: len(it.named("DATA")) >= 2, 10)
         peer.close()
-    peer = Peer(it.accept()[0], good)
-    peer.runs()
+    peer = joined(it, good)
     link.give(form([b"c"]))
     must_end(f"{options}", link, 3, unacknowledged(6))
     assert lines_of(link, options).count("lost 2") == 3 and peer.mail == [b"c"], (
@@ -98,10 +95,8 @@ def test_peer_restarts(messages, close, status, last):
 def test_bytes_of_an_old_line():
     """With --again, a STRT and half a frame after it: the next line starts, and hears nothing of
     these."""
-    it = server()
-    link = Link(f"connect:127.0.0.1:{port_of(it)}", "--again", "--timer-ms", "200")
-    peer = Peer(it.accept()[0], good)
-    peer.runs()
+    link, it = dials("--again", "--timer-ms", "200")
+    peer = joined(it, good)
     link.waits(lambda it: b"Running" in it.out, 10)
     peer.answer = silent
     peer.send(STRT + header(1400, 1))
@@ -120,7 +115,7 @@ def test_failed_input(options):
     folder = os.open("/", os.O_RDONLY)
     with server() as it:
         link = Link(f"connect:127.0.0.1:{port_of(it)}", *options, stdin=folder)
-        Peer(it.accept()[0], good)
+        Peer(it.accept()[0])
         must_end(f"{options}", link, 3, "ddcmp: read", seconds=5)
 
 
@@ -171,11 +166,10 @@ def test_pending_input(first, rest):
 def test_unread_input(lines, lasts):
     """The line ends, and standard input has more than is read at once: that isn't well, though no
     message that was read is lost."""
-    with server() as it, tempfile.TemporaryFile() as file:
+    with tempfile.TemporaryFile() as file:
         file.write(b"61\n" + lines + b"62\n")
         file.seek(0)
-        link = Link(f"connect:127.0.0.1:{port_of(it)}", "--window", "1", stdin=file)
-        peer = Peer(it.accept()[0], no_ack)
+        link, peer = called("--window", "1", answer=no_ack, stdin=file)
     peer.waits(lambda it: it.named("DATA"), 10)
     time.sleep(0.2)
     peer.send(ack(1))
@@ -231,21 +225,15 @@ def test_many_examples():
     both_delivered(100)
 
 
-def test_one_example():
-    """The program in Python of docs/USING.md, with a peer that gives each message back."""
-    peer = Link("listen:127.0.0.1:0", "--binary", "--stay")
-    code = example().replace(":7000", f":{listening(peer)}")
-    run = subprocess.Popen([sys.executable, "-c", code], stdout=subprocess.PIPE, text=True)
-    peer.waits(lambda it: len(it.out) == 7, 20)
-    peer.give(peer.out, close=False)
-    assert run.communicate(timeout=20)[0] == "b'hello'\ndelivered\n"
-
-
-def test_serial_example():
-    """The same program at a serial device."""
+@pytest.mark.parametrize("kind", ["tcp", "device"])
+def test_one_example(kind):
+    """The program in Python of docs/USING.md, over TCP and at a serial device, with a peer that
+    gives each message back."""
     with terminals() as ends:
-        peer = Link(f"device:{ends[1]}", "--binary", "--stay")
-        code = example().replace("connect:127.0.0.1:7000", f"device:{ends[0]}")
+        peer = Link("listen:127.0.0.1:0" if kind == "tcp" else f"device:{ends[1]}", "--binary",
+                    "--stay")
+        line = f"connect:127.0.0.1:{listening(peer)}" if kind == "tcp" else f"device:{ends[0]}"
+        code = example().replace("connect:127.0.0.1:7000", line)
         run = subprocess.Popen([sys.executable, "-c", code], stdout=subprocess.PIPE, text=True)
         peer.waits(lambda it: len(it.out) == 7, 20)
         peer.give(peer.out, close=False)
@@ -280,10 +268,8 @@ def test_seconds_unfinished():
               (("--binary",), b"\0\1a\0", "ddcmp: message 2: unfinished")]
     links = []
     for options, given, last in trials:
-        with server() as it:
-            link = Link(f"connect:127.0.0.1:{port_of(it)}", "--seconds", "1", *options)
-            links.append((link, Peer(it.accept()[0], good), last))
-        link.give(given, close=False)
+        links.append((*called("--seconds", "1", *options), last))
+        links[-1][0].give(given, close=False)
     for link, peer, last in links:
         must_end(last, link, 3, "ddcmp: ended", seconds=10)
         assert last in link.errors()

@@ -8,7 +8,7 @@ import time
 import pytest
 
 from .bad_lines import Bad
-from .peers import Peer, Refusing, datagram_peer, good, no_ack, running, silent
+from .peers import Peer, Refusing, called, datagram_peer, good, joined, no_ack, running, silent
 from .process import (
     Link, connected, listening, must_end, port_of, server, tcp_pair, times, udp_names,
     unacknowledged)
@@ -17,24 +17,17 @@ from .wire import STACK, STRT, ack, binary, data, drawn, header, messages_of, re
 QUICK = ("--timer-ms", "50")
 
 
-def silent_server(*options):
-    """A link whose server says nothing, and the server's peer."""
-    with server() as it:
-        link = Link(f"connect:127.0.0.1:{port_of(it)}", *QUICK, *options)
-        return link, Peer(it.accept()[0], silent)
-
-
 @times
 def test_no_handshake():
     """A peer that says nothing is given up after seven tries, or as many as are asked for."""
     for options, count in (((), 7), (("--attempts", "2"), 2)):
-        link, peer = silent_server(*options)
+        link, peer = called(*QUICK, *options, answer=silent)
         link.give(b"61\n")
         must_end(f"{options}", link, 3, "ddcmp: ended", seconds=5)
         assert "ddcmp: peer doesn't answer" in link.errors() and len(peer.named("STRT")) == count, (
             f"{options}: {link.errors()}, {len(peer.named('STRT'))} STRT")
         assert 0.05 * count <= link.took <= 0.05 * count + 2
-    link, peer = silent_server("--attempts", "0", "--seconds", "1")
+    link, peer = called(*QUICK, "--attempts", "0", "--seconds", "1", answer=silent)
     must_end("never", link, 3, "ddcmp: ended", seconds=5)
     assert "ddcmp: peer doesn't answer" not in link.errors() and len(peer.named("STRT")) >= 10, (
         f"never: {link.errors()}, {len(peer.named('STRT'))} STRT")
@@ -62,8 +55,7 @@ def test_gone(options, status, last):
     isn't."""
     with server() as it:
         link = Link(f"connect:127.0.0.1:{port_of(it)}", *QUICK, *options)
-        peer = Peer(it.accept()[0], no_ack)
-        peer.runs()
+        peer = joined(it, no_ack)
         link.give(b"61\n")
         if status is not None:
             must_end(f"{options}", link, status, last, seconds=5)
@@ -108,17 +100,15 @@ def test_absent_again():
 def test_late_start():
     """A peer that starts late is heard out for as long as any other: the time counts from the
     handshake."""
-    with server() as it:
-        link = Link(f"connect:127.0.0.1:{port_of(it)}", "--timer-ms", "250")
-        peer = Peer(it.accept()[0], silent)
-        link.give(b"61\n")
-        time.sleep(1)
-        peer.answer = good
-        peer.waits(lambda it: it.mail, 5)
-        time.sleep(0.2)
-        peer.send(data(b"hi", 1, 1))
-        must_end("late", link, 0, seconds=5)
-        assert link.mails() == [b"hi"]
+    link, peer = called("--timer-ms", "250", answer=silent)
+    link.give(b"61\n")
+    time.sleep(1)
+    peer.answer = good
+    peer.waits(lambda it: it.mail, 5)
+    time.sleep(0.2)
+    peer.send(data(b"hi", 1, 1))
+    must_end("late", link, 0, seconds=5)
+    assert link.mails() == [b"hi"]
 
 
 def test_refused_then_silent():
@@ -278,11 +268,11 @@ def test_silent_at_the_end():
     """Over UDP a peer that is silent once the input has ended is reported after seven tries, and
     given up as --attempts has it; one that sends anything isn't silent, and over TCP its end would
     be reported."""
-    for options, is_heard, said, status in (((), False, [
-            STILL
-    ], None), (("--attempts", "0"), False, [STILL], None), (("--attempts", "9"), False, [
-            STILL, LEFT
-    ], 3), (("--attempts", "7"), False, [LEFT], 3), ((), True, [], None)):
+    for options, is_heard, said, status in (
+        ((), False, [STILL], None), (("--attempts", "0"), False, [STILL], None),
+        (("--attempts", "9"), False, [STILL, LEFT], 3), (("--attempts", "7"), False, [LEFT], 3),
+        ((), True, [], None),
+    ):
         link, peer, _local = datagram_peer(*options, answer=no_ack, timer=("--timer-ms", "100"))
         peer.runs()
         link.give(b"61\n")
@@ -294,14 +284,10 @@ def test_silent_at_the_end():
         assert (link.run.returncode == status
                 and [it for it in link.errors() if it in (STILL, LEFT)] == said)
         link.kill()
-    with server() as it:
-        link = Link(f"connect:127.0.0.1:{port_of(it)}", *QUICK)
-        peer = Peer(it.accept()[0], no_ack)
-        peer.runs()
-        link.give(b"61\n")
-        time.sleep(1)
-        assert link.is_running() and STILL not in link.errors()
-        link.kill()
+    link, _ = running(*QUICK, answer=no_ack)
+    link.give(b"61\n")
+    time.sleep(1)
+    assert link.is_running() and STILL not in link.errors()
 
 
 @times

@@ -9,15 +9,8 @@ import subprocess
 import tempfile
 import time
 
-from .peers import Peer, good
-from .process import Link, must_end, port_of, server, times
-
-
-def started(*options, stdin=subprocess.PIPE):
-    """A link and its peer."""
-    with server() as it:
-        link = Link(f"connect:127.0.0.1:{port_of(it)}", *options, stdin=stdin)
-        return link, Peer(it.accept()[0], good)
+from .peers import called
+from .process import must_end, times
 
 
 @contextlib.contextmanager
@@ -40,7 +33,7 @@ def write(name, data):
 
 def ends_before(name, stdin, writes, status, *options):
     """The line ends after a message was acknowledged, and the input is still open."""
-    link, peer = started(*options, stdin=stdin)
+    link, peer = called(*options, stdin=stdin)
     if writes is not None:
         os.write(writes, b"61\n")
     assert (link.waits(
@@ -75,8 +68,8 @@ def test_input_still_open_in_time():
     """The time is over while the input is open: no message was lost, but more might have come."""
     reads, writes = os.pipe()
     ours, theirs = pty.openpty()
-    links = [("a pipe", started("--seconds", "1", stdin=reads), writes, 3),
-             ("a terminal", started("--seconds", "1", stdin=theirs), ours, 0)]
+    links = [("a pipe", called("--seconds", "1", stdin=reads), writes, 3),
+             ("a terminal", called("--seconds", "1", stdin=theirs), ours, 0)]
     for _, _, writes, _ in links:
         os.write(writes, b"61\n")
     for name, (link, peer), _, status in links:
@@ -89,7 +82,7 @@ def test_fifo_with_stay():
     """With --stay each writer of a FIFO is read, also those who come after the others have gone,
     and a last line without LF goes on with the next one. It waits meanwhile."""
     with fifo() as (name, reads):
-        link, peer = started("--stay", stdin=reads)
+        link, peer = called("--stay", stdin=reads)
         for data, mail in ((b"61\n", [b"a"]), (b"62\n63", [b"a", b"b"]), (b"64\n65\n", [
                 b"a", b"b", b"cd", b"e"
         ])):
@@ -102,7 +95,7 @@ def test_fifo_with_stay():
         assert link.ended(5) == -signal.SIGTERM
     with fifo() as (name, reads):
         writes = os.open(name, os.O_WRONLY)
-        link, peer = started(stdin=reads)
+        link, peer = called(stdin=reads)
         os.write(writes, b"61\n62")
         os.close(writes)
         must_end("without --stay", link, 0, seconds=10)
@@ -113,12 +106,12 @@ def test_fifo_with_stay():
 def test_pipe_with_stay():
     """With --stay the end of a pipe is an end, as is that of a FIFO without a name: a last line
     without LF is sent."""
-    link, peer = started("--stay")
+    link, peer = called("--stay")
     link.give(b"61\n62")
     with fifo() as (name, reads):
         writes = os.open(name, os.O_WRONLY)
         os.unlink(name)
-        unnamed, its_peer = started("--stay", stdin=reads)
+        unnamed, its_peer = called("--stay", stdin=reads)
     os.write(writes, b"61\n62")
     os.close(writes)
     for what, run, other in (("a pipe", link, peer), ("a FIFO without a name", unnamed, its_peer)):

@@ -8,10 +8,11 @@ import time
 
 import pytest
 
-from .peers import Peer, Refusing, called, datagram_peer, good, no_ack, running, silent
+from .peers import (
+    Peer, Refusing, called, datagram_peer, dials, good, joined, no_ack, running, silent)
 from .process import (
     Link, exchange, free_port, listening, must_end, port_of, server, terminals, times, udp_names,
-    unacknowledged)
+    udp_socket, unacknowledged)
 from .wire import STACK, STRT, data, header, messages_of, nak
 
 
@@ -42,8 +43,7 @@ def test_restarts():
 def test_closed_at_once():
     """A server that closes each connection at once isn't flooded."""
     for piece in (b"", STACK[:5]):
-        it = server()
-        link = Link(f"connect:127.0.0.1:{port_of(it)}", "--again")
+        link, it = dials("--again")
         it.settimeout(0.1)
         until, count = time.monotonic() + 2.5, 0
         while time.monotonic() < until:
@@ -109,8 +109,7 @@ def test_server_away():
     it = server()
     name = it.getsockname()
     link = Link(f"connect:127.0.0.1:{name[1]}", "--again")
-    peer = Peer(it.accept()[0], good)
-    peer.runs()
+    peer = joined(it, good)
     link.waits(lambda it: b"Running" in it.out, 5)
     peer.close()
     begun = time.monotonic()
@@ -133,28 +132,39 @@ def test_server_away():
             and [it.rsplit("retry", 1)[-1] for it in link.faults()] == [" in 1 s", " in 2 s"])
 
 
-@times
 def again_link(text):
     """A link with --again and this input, and its server."""
-    it = server()
-    link = Link(f"connect:127.0.0.1:{port_of(it)}", "--again", "--linger-ms", "1500")
+    link, it = dials("--again", "--linger-ms", "1500")
     link.give(text)
     return link, it
 
 
-def test_gone_for_good():
-    """With --again a link ends once all is acknowledged, or lost with its line, if its peer went
-    and doesn't come back while it would be heard out."""
+def left_with_none():
+    """Such a link, its server, and a peer that has acknowledged its message."""
     link, it = again_link(b"61\n")
     peer = Peer(it.accept()[0], good)
     peer.waits(lambda it: it.mail, 5)
     time.sleep(0.2)
-    it.close()
-    peer.close()
-    assert link.ended(10) == 0 and link.took <= 6
+    return link, it, peer
+
+
+def left_with_two():
+    """Such a link, its server, and a peer that acknowledges none of its two messages."""
     link, it = again_link(b"61\n62\n")
     peer = Peer(it.accept()[0], no_ack)
     assert peer.waits(lambda it: len(it.named("DATA")) >= 2, 5)
+    return link, it, peer
+
+
+@times
+def test_gone_for_good():
+    """With --again a link ends once all is acknowledged, or lost with its line, if its peer went
+    and doesn't come back while it would be heard out."""
+    link, it, peer = left_with_none()
+    it.close()
+    peer.close()
+    assert link.ended(10) == 0 and link.took <= 6
+    link, it, peer = left_with_two()
     it.close()
     peer.close()
     must_end("lost", link, 3, unacknowledged(2), 10)
@@ -162,9 +172,7 @@ def test_gone_for_good():
 
 def test_back_after_a_loss():
     """It is heard out from the end of its line on."""
-    link, it = again_link(b"61\n62\n")
-    peer = Peer(it.accept()[0], no_ack)
-    assert peer.waits(lambda it: len(it.named("DATA")) >= 2, 5)
+    link, it, peer = left_with_two()
     time.sleep(2)
     peer.close()
     peer = Peer(it.accept()[0], good)
@@ -175,13 +183,9 @@ def test_back_after_a_loss():
 
 def test_back():
     """If a peer comes back, what it sends is taken."""
-    link, it = again_link(b"61\n")
-    peer = Peer(it.accept()[0], good)
-    peer.waits(lambda it: it.mail, 5)
-    time.sleep(0.2)
+    link, it, peer = left_with_none()
     peer.close()
-    peer = Peer(it.accept()[0], good)
-    peer.runs()
+    peer = joined(it, good)
     peer.send(data(b"b", 1))
     must_end("back", link, 0, None, 10)
     assert b"mail 62\n" in link.out
@@ -207,8 +211,7 @@ def test_full_window():
     def lost_with(text, count, *options, later=False):
         """Such a link, after its line ended with this many messages unacknowledged; its listener is
         gone, or returned."""
-        it = server()
-        link = Link(f"connect:127.0.0.1:{port_of(it)}", "--again", "--linger-ms", "800", *options)
+        link, it = dials("--again", "--linger-ms", "800", *options)
         link.give(text, close=not later)
         peer = Peer(it.accept()[0], no_ack)
         assert peer.waits(lambda it: len(it.named("DATA")) >= count, 5)
@@ -241,11 +244,10 @@ def test_more_between_lines():
     """What an input has between lines, in pieces, is looked at once more as the time of the run
     ends: its messages are lost, and counted. The end of an input behind a full window is seen
     before the next line, which here opens at once."""
-    cases = ((b"\n", b"62\n"), 1), ((b"62\n", b"63\n64\n"), 3), ((b"62", b"\n63\n"),
-                                                                 2), ((b"zz\n", b"62\n"), 1)
+    cases = (((b"\n", b"62\n"), 1), ((b"62\n", b"63\n64\n"), 3), ((b"62", b"\n63\n"), 2),
+             ((b"zz\n", b"62\n"), 1))
     for pieces, lost in cases:
-        it = server()
-        link = Link(f"connect:127.0.0.1:{port_of(it)}", "--again", "--seconds", "5")
+        link, it = dials("--again", "--seconds", "5")
         link.give(b"61\n", close=False)
         peer = Peer(it.accept()[0], good)
         assert link.waits(lambda it: b"notice Acknowledged 1\n" in it.out, 5)
@@ -255,8 +257,7 @@ def test_more_between_lines():
             time.sleep(0.5)
             link.give(piece, close=False)
         must_end(pieces, link, 3, unacknowledged(lost), 10)
-    own, there = free_port(socket.SOCK_DGRAM), socket.socket(socket.AF_INET, socket.SOCK_DGRAM)
-    there.bind(("127.0.0.1", 0))
+    own, there = free_port(socket.SOCK_DGRAM), udp_socket()
     link = Link(f"udp:127.0.0.1:{own},127.0.0.1:{port_of(there)}", "--again", "--window", "1",
                 "--linger-ms", "500")
     link.give(b"61\n")
@@ -387,11 +388,8 @@ def test_pace():
     the first second."""
     links = []
     for reason, timer, least in ((16, 0.2, 12), (8, 0.2, 12), (3, 0.2, 2), (16, 3, 8), (8, 3, 8)):
-        with server() as it:
-            options = ("--timer-ms", "200") if timer < 3 else ()
-            link = Link(f"connect:127.0.0.1:{port_of(it)}", "--window", "7", *options)
-            peer = Peer(it.accept()[0], Refusing(reason))
-        peer.runs()
+        options = ("--timer-ms", "200") if timer < 3 else ()
+        link, peer = running("--window", "7", *options, answer=Refusing(reason))
         link.give(b"61\n" * 7)
         links.append((reason, timer, least, link, peer, time.monotonic()))
     time.sleep(1)
@@ -475,17 +473,14 @@ def test_first_nak(reason):
 
 def test_pace_of_lines():
     """With --again, what a peer refused over one line doesn't keep a message from the next."""
-    it = server()
-    link = Link(f"connect:127.0.0.1:{port_of(it)}", "--again", "--timer-ms", "5000")
-    peer = Peer(it.accept()[0], no_ack)
-    peer.runs()
+    link, it = dials("--again", "--timer-ms", "5000")
+    peer = joined(it, no_ack)
     link.give(b"61\n", close=False)
     for count in (1, 2):
         peer.waits(lambda it: len(it.named("DATA")) >= count, 5)
         peer.send(nak(16, 0))
     time.sleep(0.3)
     peer.close()
-    peer = Peer(it.accept()[0], good)
-    peer.runs()
+    peer = joined(it, good)
     link.give(b"62\n", close=False)
     assert peer.waits(lambda it: it.mail == [b"b"], 2)

@@ -8,9 +8,10 @@ import time
 import pytest
 
 from .bad_lines import lossy_datagrams
+from .peers import dials, linked
 from .process import (
-    LONG, Link, commands_in, contents, exchange, free_port, must_end, port_of, receives, server,
-    tcp_pair, terminals, times)
+    LONG, Link, commands_in, contents, exchange, free_port, must_end, receives, tcp_pair, terminals,
+    times)
 from .wire import STRT, binary, digits, drawn, maintenance, messages_of, unpacked
 
 MODE = "--maintenance"
@@ -70,9 +71,7 @@ def test_asks_for_a_program():
     """A peer in Python that asks as MOP does: its frames arrive amid junk, and what the link sends
     is these bytes alone."""
     request, load = bytes([8, 10, 1, 1, 0, 0]), bytes([2, 0]) + drawn.randbytes(600)
-    with server() as it:
-        link = Link(f"connect:127.0.0.1:{port_of(it)}", MODE, "--stay")
-        sock = it.accept()[0]
+    link, sock = linked(MODE, "--stay")
     damaged = bytearray(maintenance(request))
     damaged[9] ^= 1
     sock.sendall(b"\x96\x96\xff" + bytes(damaged) + b"\x00\x90junk" + bytes(300) +
@@ -105,9 +104,7 @@ def test_meets_a_peer_of_data():
 
 def test_lost_in_maintenance():
     """What the line hasn't taken when it ends is lost, and so is all that was read after it."""
-    with server() as it:
-        link = Link(f"connect:127.0.0.1:{port_of(it)}", MODE, "--binary", *LARGEST)
-        sock = it.accept()[0]
+    link, sock = linked(MODE, "--binary", *LARGEST)
     link.give(binary([bytes(16383)] * 2000), close=False)
     time.sleep(1)
     sock.close()
@@ -121,8 +118,7 @@ def test_lost_in_maintenance():
 def test_one_line_after_another():
     """With --again a peer that closes at once isn't called without a pause, and one that was heard
     is called at once."""
-    it = server()
-    link = Link(f"connect:127.0.0.1:{port_of(it)}", MODE, "--again")
+    link, it = dials(MODE, "--again")
     begun = time.monotonic()
     for _ in range(3):
         it.accept()[0].close()
@@ -145,16 +141,13 @@ def test_one_line_after_another():
 def test_lingers_in_maintenance():
     """Once its input is over it stays for replies: since the line began, and since the last one
     came."""
-    with server() as it:
-        link = Link(f"connect:127.0.0.1:{port_of(it)}", MODE, "--linger-ms", "1500")
-        sock = it.accept()[0]
-        link.give(b"61\n")
-        for _ in range(3):
-            time.sleep(0.8)
-            sock.sendall(maintenance(b"r"))
-        must_end("a peer that replies", link, 0)
-        assert link.mails() == [b"r"] * 3 and 3.5 < link.took < 8
-        sock.close()
+    link, sock = linked(MODE, "--linger-ms", "1500")
+    link.give(b"61\n")
+    for _ in range(3):
+        time.sleep(0.8)
+        sock.sendall(maintenance(b"r"))
+    must_end("a peer that replies", link, 0)
+    assert link.mails() == [b"r"] * 3 and 3.5 < link.took < 8
 
 
 @pytest.mark.parametrize("words", [

@@ -9,9 +9,8 @@ import time
 import pytest
 
 from .bad_lines import Bad
-from .peers import Peer, called, good
-from .process import (
-    Link, exchange, listening, must_end, port_of, server, tcp_pair, terminals, unacknowledged)
+from .peers import called, good
+from .process import Link, exchange, listening, must_end, tcp_pair, terminals, unacknowledged
 from .wire import ack, binary, data, digits, drawn, messages_of, unpacked
 
 
@@ -131,26 +130,26 @@ def test_refused_input():
 
 def test_cut_message():
     """A message that is too long and cut off by the end of the input is refused once."""
-    with server() as it:
-        link = Link(f"connect:127.0.0.1:{port_of(it)}", "--max", "3", "--binary")
-        Peer(it.accept()[0])
+    link, _ = called("--max", "3", "--binary")
     link.give(b"\0\x09ab")
     must_end("cut", link, 1, "ddcmp: message 1: too long")
     assert sum("message" in it for it in link.errors()) == 1
 
 
+def both_arrive(one, two, count):
+    """Messages each way, in binary, while both inputs stay open."""
+    to_two, to_one = binary(messages_of(count)), binary(messages_of(count))
+    one.give(to_two, close=False)
+    two.give(to_one, close=False)
+    one.waits(lambda it: len(it.out) >= len(to_one))
+    two.waits(lambda it: len(it.out) >= len(to_two))
+    assert (one.out, two.out) == (to_one, to_two)
+
+
 def test_pseudo_terminals():
     with terminals() as ends:
-        options = ("--binary", "--stay")
-        one, two = (Link(f"device:{it}", *options) for it in ends)
-        to_two, to_one = messages_of(100), messages_of(100)
-        one.give(binary(to_two), close=False)
-        two.give(binary(to_one), close=False)
-        one.waits(lambda it: len(it.out) >= len(binary(to_one)))
-        two.waits(lambda it: len(it.out) >= len(binary(to_two)))
-        assert (one.out, two.out) == (binary(to_one), binary(to_two))
-        one.kill()
-        two.kill()
+        one, two = (Link(f"device:{it}", "--binary", "--stay") for it in ends)
+        both_arrive(one, two, 100)
 
 
 @pytest.mark.parametrize("window", [1, 7, 127])
@@ -160,12 +159,7 @@ def test_bad_line(window):
     one = Link(f"listen:127.0.0.1:{bad.target}", *options)
     listening(one)
     two = Link(f"connect:127.0.0.1:{bad.port}", *options)
-    to_two, to_one = messages_of(150), messages_of(150)
-    one.give(binary(to_two), close=False)
-    two.give(binary(to_one), close=False)
-    two.waits(lambda it, size=len(binary(to_two)): len(it.out) >= size)
-    one.waits(lambda it, size=len(binary(to_one)): len(it.out) >= size)
-    assert (two.out, one.out) == (binary(to_two), binary(to_one))
+    both_arrive(one, two, 150)
     one.run.stdin.close()
     assert one.ended() == 0
 

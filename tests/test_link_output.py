@@ -13,11 +13,12 @@ import tty
 
 import pytest
 
-from .peers import Peer, good, no_ack, running
+from .peers import Peer, good, joined, linked, no_ack, running
 from .process import (
-    Link, PROGRAM, connected, free_port, holds_within, is_listening, listening, omitted, port_of,
+    PROGRAM, Link, connected, free_port, holds_within, is_listening, listening, omitted, port_of,
     server, tcp_pair, times)
-from .wire import Reader, STACK, STRT, binary, data, digits, drawn, messages_of, rep, unpacked
+from .wire import (
+    STACK, STRT, Reader, binary, data, digits, drawn, mail_in, messages_of, rep, unpacked)
 
 
 @times
@@ -77,9 +78,7 @@ def test_idle(options):
 @times
 def test_junk(request):
     """A peer that sends junk at full speed: memory stays flat, and a signal ends it at once."""
-    with server() as it:
-        one = Link(f"connect:127.0.0.1:{port_of(it)}")
-        peer = it.accept()[0]
+    one, peer = linked()
     piece, before, moved = drawn.randbytes(1 << 16), None, 0
     begun, span = time.monotonic(), 10 if request.config.getoption("--long") else 1.5
     with contextlib.suppress(OSError):
@@ -170,11 +169,10 @@ def test_errors_unread_and_timer():
     with server() as it:
         one = Unread(f"connect:127.0.0.1:{port_of(it)}", "--trace", "--timer-ms", "5", "--window",
                      "1")
-        peer = Peer(it.accept()[0], no_ack)
-    peer.runs()
+        peer = joined(it, no_ack)
     one.link.give(b"61\n", close=False)
-    for number in range(
-            1, 4001):  # fills the room of a trace by frames, and then its last bytes by expiries
+    # This fills the room of a trace by frames, and then its last bytes by expiries.
+    for number in range(1, 4001):
         # Without an acknowledgement of its own message the link refuses what finds no room.
         if number % 8 == 0:
             one.link.waits(lambda it: it.out.count(b"mail ") >= number - 1, 5)
@@ -192,8 +190,7 @@ def test_errors_unread_again():
     """A full standard error doesn't keep --again from the next line."""
     it = server()
     one = Unread(f"connect:127.0.0.1:{port_of(it)}", "--trace", "--again", "--timer-ms", "5")
-    peer = Peer(it.accept()[0], no_ack)
-    peer.runs()
+    peer = joined(it, no_ack)
     one.link.give(b"61" * 1000 + b"\n", close=False)
     peer.waits(lambda it: len(it.named("REP")) > 1500, 20)
     for number in range(1, 6001):
@@ -209,8 +206,7 @@ def test_errors_unread_at_a_fault():
     """A link that ends with a fault ends although nobody reads its standard error."""
     with server() as it:
         one = Unread(f"connect:127.0.0.1:{port_of(it)}", "--trace")
-        peer = Peer(it.accept()[0], no_ack)
-    peer.runs()
+        peer = joined(it, no_ack)
     one.link.give(b"61\n", close=False)
     for number in range(1, 1501):
         peer.send(data(b"x" * 100, number & 255))
@@ -272,8 +268,7 @@ def test_full_output(options):
     name = it.getsockname()
     link = Link(f"connect:127.0.0.1:{name[1]}", "--max", "16383", *options, stdout=writing)
     os.close(writing)
-    peer = Peer(it.accept()[0], good)
-    peer.runs()
+    peer = joined(it, good)
     sent = [b"x"] + [drawn.randbytes(16383) for _ in range(4)]  # the last has no room in the queue
     for number, message in enumerate(sent, 1):
         peer.send(data(message, number))
@@ -282,14 +277,11 @@ def test_full_output(options):
     peer.close()
     time.sleep(0.3)
     out = b""
-    while (out.count(b"mail ") < 5 or not out.endswith(b"\n")) and select.select([reading], [], [],
-                                                                                 5)[0]:
-        if not (piece := os.read(reading, 1 << 16)):
+    while out.count(b"mail ") < 5 or not out.endswith(b"\n"):
+        if not select.select([reading], [], [], 5)[0] or not (piece := os.read(reading, 1 << 16)):
             break
         out += piece
-    mails = [bytes.fromhex(it[5:].decode()) for it in out.split(b"\n")[:-1]
-             if it.startswith(b"mail ")]
-    assert mails == sent
+    assert mail_in(out) == sent
     if options:
         it = socket.create_server(name)
         it.settimeout(8)
@@ -297,17 +289,19 @@ def test_full_output(options):
     link.kill()
 
 
+def into_a_pipe(*options, **streams):
+    """A link and its peer that run, and the reading end of the link's output."""
+    reading, writing = os.pipe()
+    link, peer = running(*options, stdout=writing, **streams)
+    os.close(writing)
+    return link, peer, reading
+
+
 @times
 @pytest.mark.parametrize("options", [(), ("--again",)])
 def test_seconds_unread(options):
     """--seconds ends a link whose output nobody reads, says so, and isn't a success."""
-    reading, writing = os.pipe()
-    with server() as it:
-        link = Link(f"connect:127.0.0.1:{port_of(it)}", "--stay", "--seconds", "2", *options,
-                    stdout=writing)
-        os.close(writing)
-        peer = Peer(it.accept()[0], good)
-    peer.runs()
+    link, peer, _ = into_a_pipe("--stay", "--seconds", "2", *options)
     with contextlib.suppress(OSError):  # a link that has ended
         for number in range(1, 60):
             peer.send(data(b"x" * 1500, number))
@@ -319,42 +313,37 @@ def test_seconds_unread(options):
     assert ("ddcmp: standard output isn't read: received messages weren't written" in link.errors())
 
 
-def test_seconds_slow():
-    """--seconds drops nothing of an output that is read slowly."""
-    reading, writing = os.pipe()
-    with server() as it:
-        link = Link(f"connect:127.0.0.1:{port_of(it)}", "--stay", "--seconds", "2",
-                    stdin=subprocess.DEVNULL, stdout=writing)
-        os.close(writing)
-        peer = Peer(it.accept()[0], good)
-    peer.runs()
-    sent = [drawn.randbytes(1500) for _ in range(60)]
-    for number, message in enumerate(sent, 1):
-        peer.send(data(message, number))
-        time.sleep(0.004)
+def read_slowly(sent, reading):
+    """What an output has that is read slowly: most of these messages, in their order, and the last
+    line."""
     out = b""
     while piece := os.read(reading, 4096):
         out += piece
         time.sleep(0.05)
-    mails = [bytes.fromhex(it[5:].decode()) for it in out.split(b"\n")[:-1]
-             if it.startswith(b"mail ")]
-    assert (mails == sent[:len(mails)] and len(mails) >= 40
-            and out.split(b"\n")[-2].startswith(b"state="))
+    mails = mail_in(out)
+    assert mails == sent[:len(mails)] and len(mails) >= 40
+    assert out.split(b"\n")[-2].startswith(b"state=")
+
+
+def sixty_messages(peer):
+    sent = [drawn.randbytes(1500) for _ in range(60)]
+    for number, message in enumerate(sent, 1):
+        peer.send(data(message, number))
+        time.sleep(0.004)
+    return sent
+
+
+def test_seconds_slow():
+    """--seconds drops nothing of an output that is read slowly."""
+    link, peer, reading = into_a_pipe("--stay", "--seconds", "2", stdin=subprocess.DEVNULL)
+    read_slowly(sixty_messages(peer), reading)
     assert link.ended(5) == 0
 
 
 def test_seconds_flooded():
     """A standard input that is written all the time doesn't end the patience with a slow output."""
-    reading, writing = os.pipe()
-    with server() as it:
-        link = Link(f"connect:127.0.0.1:{port_of(it)}", "--stay", "--seconds", "2", stdout=writing)
-        os.close(writing)
-        peer = Peer(it.accept()[0], good)
-    peer.runs()
-    sent = [drawn.randbytes(1500) for _ in range(60)]
-    for number, message in enumerate(sent, 1):
-        peer.send(data(message, number))
-        time.sleep(0.004)
+    link, peer, reading = into_a_pipe("--stay", "--seconds", "2")
+    sent = sixty_messages(peer)
 
     def flood():
         with contextlib.suppress(OSError):
@@ -365,14 +354,7 @@ def test_seconds_flooded():
 
     threading.Thread(target=flood, daemon=True).start()
     time.sleep(1.5)
-    out = b""
-    while piece := os.read(reading, 4096):
-        out += piece
-        time.sleep(0.05)
-    mails = [bytes.fromhex(it[5:].decode()) for it in out.split(b"\n")[:-1]
-             if it.startswith(b"mail ")]
-    assert (mails == sent[:len(mails)] and len(mails) >= 40
-            and out.split(b"\n")[-2].startswith(b"state="))
+    read_slowly(sent, reading)
     link.ended(5)
     assert not any("isn't read" in it for it in link.errors())
 
@@ -458,8 +440,7 @@ def test_closed_ends(closed, given, last):
         run = subprocess.Popen(words, stdin=subprocess.PIPE, stdout=subprocess.DEVNULL,
                                stderr=subprocess.PIPE,
                                preexec_fn=lambda closed=closed: os.close(closed))
-        peer = Peer(it.accept()[0], good)
-        peer.runs()
+        peer = joined(it, good)
         peer.send(given)
         try:
             status = run.wait(5)

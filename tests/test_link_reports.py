@@ -9,7 +9,7 @@ import time
 
 import pytest
 
-from .peers import Peer, good, no_ack
+from .peers import Peer, good, joined, no_ack
 from .process import (
     EVENT, Link, connected, free_port, listening, must_end, port_of, reset_at_close, server,
     tcp_pair, times, unacknowledged)
@@ -129,8 +129,7 @@ def test_flood(line, size, is_file):
         link = Link(f"connect:127.0.0.1:{port_of(it)}", stdin=given if is_file else subprocess.PIPE,
                     stderr=subprocess.DEVNULL)
         writer = None if is_file else link.give(line * (size // 2), close=False)
-        peer = Peer(it.accept()[0], good)
-        peer.runs()
+        peer = joined(it, good)
         for num in range(1, 11):
             peer.send(data(b"a", num))
             assert (peer.waits(lambda it: any(f.resp == num for f in it.named("ACK")), 1))

@@ -9,9 +9,9 @@ import time
 
 import pytest
 
-from .peers import Peer, called, good, silent
+from .peers import called, dials, good, joined, linked, running, silent
 from .process import (
-    EVENT, Link, PROGRAM, explained, holds_within, omitted, port_of, server, tcp_pair, terminals,
+    EVENT, PROGRAM, Link, explained, holds_within, omitted, port_of, server, tcp_pair, terminals,
     times)
 from .wire import STACK, checked, data, digits, drawn
 
@@ -132,9 +132,7 @@ def test_trace_whole():
 
 def test_trace_fill():
     """Fill alone, SYN and DEL, isn't reported; junk without a frame is, once 256 bytes came."""
-    with server() as it:
-        link = Link(f"connect:127.0.0.1:{port_of(it)}", "--trace", "--timer-ms", "60000")
-        peer = it.accept()[0]
+    link, peer = linked("--trace", "--timer-ms", "60000")
     peer.sendall(STACK + b"\xff" * 700 + b"\x96" * 700 + data(b"a", 1) + b"\xff" * 3 +
                  data(b"b", 2))
     link.waits(lambda it: b"num=2" in it.err, 5)
@@ -148,11 +146,9 @@ def test_trace_fill():
 def test_trace_of_lines(options):
     """With --again offsets restart with each line, and the junk at the end of a line is reported;
     with --binary too."""
-    it = server()
-    link = Link(f"connect:127.0.0.1:{port_of(it)}", "--trace", "--again", *options)
+    link, it = dials("--trace", "--again", *options)
     for _ in range(2):
-        peer = Peer(it.accept()[0], good)
-        peer.runs()
+        peer = joined(it, good)
         peer.send(b"junk!")
         time.sleep(0.3)
         peer.close()
@@ -206,13 +202,10 @@ def test_trace_of_device():
 def test_trace_unread():
     """A standard error that is read, not read and read again: what was left out is counted, and
     with the lines that are there it is the whole."""
-    with server() as it:
-        reading, writing = os.pipe()
-        link = Link(f"connect:127.0.0.1:{port_of(it)}", "--trace", "--timer-ms", "60000", "--inbox",
-                    "127", "--stay", stdin=subprocess.DEVNULL, stderr=writing)
-        os.close(writing)
-        peer = Peer(it.accept()[0], good)
-    peer.runs()
+    reading, writing = os.pipe()
+    link, peer = running("--trace", "--timer-ms", "60000", "--inbox", "127", "--stay",
+                         stdin=subprocess.DEVNULL, stderr=writing)
+    os.close(writing)
     told, number = b"", 0
     os.set_blocking(reading, False)
     for _ in range(2):

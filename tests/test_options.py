@@ -16,8 +16,8 @@ import pytest
 from .bad_lines import Draws
 from .peers import Peer, good, no_ack, silent
 from .process import (
-    Bridge, Link, PROGRAM, call, commands_in, connected, contents, free_port, holds_within,
-    is_bound, port_of, server)
+    PROGRAM, Bridge, Link, Process, call, commands_in, connected, contents, free_port, holds_within,
+    is_bound, port_of, server, takes, udp_socket)
 from .wire import STRT, binary, checked, data, digits
 
 # What a run may take, and for how long what an option shows is waited for: a busy machine is slow.
@@ -62,10 +62,8 @@ FRAMES = checked(bytes([5, 1, 0, 0, 0, 1])) + data(b"abc", 1) + b"\xff\xff\x81\x
 EXPLAIN = {
     "--raw": (["--raw"], lambda it: it["form"] == "raw" and "ACK" in it["said"]),
     "--from": (["--from", "hexdump"], lambda it: it["form"] == "dump" and "ACK" in it["said"]),
-    "--json": ([
-        "--json"
-    ], lambda it: all(isinstance(json.loads(line), dict) for line in it["said"].splitlines())
-               if it["said"].startswith("{") else False),
+    "--json": (["--json"], lambda it: it["said"].startswith("{") and all(
+        isinstance(json.loads(line), dict) for line in it["said"].splitlines())),
     "--discarded": (["--discarded"], lambda it: re.search("discarded\\W+2", it["said"]) and
                     ("unfinished" in it["said"] or "|-- ACK" in it["said"])),
     "--ladder": (["--ladder"],
@@ -168,12 +166,11 @@ def test_begun():
 # ---- tap
 
 TAP = {"--again": (["--again"], lambda it: it.count("items=") + it.count('"items"') > 2),
-       "--json": (["--json"], lambda it: all(line.startswith('{"from":')
-                                             for line in it.splitlines())),
-       "--ladder": (["--ladder"], lambda it: it.startswith("> who connected")
-                    or "> who connected" in it.split("\n")[0]),
-       "--time": (["--time"], lambda it: re.search(r'(?m)^\d+ |^[<>] \d+ \d+ |^ *\d+ \||"ms":\d',
-                                                   it)),
+       "--json": (["--json"],
+                  lambda it: all(line.startswith('{"from":') for line in it.splitlines())),
+       "--ladder": (["--ladder"], lambda it: "> who connected" in it.split("\n")[0]),
+       "--time": (["--time"],
+                  lambda it: re.search(r'(?m)^\d+ |^[<>] \d+ \d+ |^ *\d+ \||"ms":\d', it)),
        "--max": (["--max", "2"], lambda it: "too long" in it)}
 
 
@@ -183,29 +180,22 @@ def tap(chosen):
     if set(chosen) == {"--json", "--ladder"}:
         refused("tap", chosen, started("tap", [*words, *words_of(TAP, chosen)]), [set(chosen)])
         return
-    run = subprocess.Popen([*PROGRAM, "tap", *words, *words_of(TAP, chosen)],
-                           stdout=subprocess.PIPE, stderr=subprocess.PIPE)
-    try:
-        for _ in range(2 if "--again" in chosen else 1):
-            with connected(port) as caller:
-                called = far.accept()[0]
-                caller.sendall(data(b"abc", 1))
-                caller.shutdown(socket.SHUT_WR)
-                called.settimeout(SECONDS)
-                while called.recv(100):
-                    pass
-                called.close()
-                if "--again" not in chosen:
-                    out, told = run.communicate(timeout=SECONDS)
-        if "--again" in chosen:
-            with connected(port):
-                far.accept()  # then the logs of those before are whole
-                run.kill()
-            out, told = run.communicate(timeout=SECONDS)
-    finally:
-        run.kill()
-    assert not told and run.returncode == (-9 if "--again" in chosen else 0)
-    compare("tap", chosen, TAP, out.decode())
+    run, is_again = Process([*PROGRAM, "tap", *words, *words_of(TAP, chosen)]), "--again" in chosen
+    for _ in range(1 + is_again):
+        with connected(port) as caller:
+            called = far.accept()[0]
+            caller.sendall(data(b"abc", 1))
+            caller.shutdown(socket.SHUT_WR)
+            called.settimeout(SECONDS)
+            takes(called)
+            called.close()
+            status = None if is_again else run.ended(SECONDS)
+    if is_again:
+        with connected(port):
+            far.accept()  # then the logs of those before are whole
+            status = run.kill()
+    assert not run.err and status == (-9 if is_again else 0)
+    compare("tap", chosen, TAP, run.out.decode())
 
 
 # ---- station
@@ -234,20 +224,15 @@ def station(chosen):
     far = server() if connects else None
     port = port_of(far) if connects else free_port()
     words += ["--addr", f"127.0.0.1:{port}"] + ([] if connects else ["--role", "listen"])
-    run = subprocess.Popen([*PROGRAM, "station", *words], stdout=subprocess.PIPE,
-                           stderr=subprocess.PIPE)
-    try:
-        peer = Peer(far.accept()[0] if connects else connected(port), late_stack)
-        peer.runs()
-        peer.waits(lambda it: it.mail, SECONDS if "--send" in chosen else 0.1)
-        peer.taken = 0
-        peer.send(STRT)
-        out, told = run.communicate(timeout=SECONDS)
-    finally:
-        run.kill()
-    assert not told and run.returncode == 0
+    run = Process([*PROGRAM, "station", *words])
+    peer = Peer(far.accept()[0] if connects else connected(port), late_stack)
+    peer.runs()
+    peer.waits(lambda it: it.mail, SECONDS if "--send" in chosen else 0.1)
+    peer.taken = 0
+    peer.send(STRT)
+    assert run.ended(SECONDS) == 0 and not run.err
     starts = len(peer.named("STRT"))
-    seen = {"said": out.decode(), "starts": starts, "mail": peer.mail, "connects": connects}
+    seen = {"said": run.out.decode(), "starts": starts, "mail": peer.mail, "connects": connects}
     compare("station", chosen, STATION, seen)
 
 
@@ -341,7 +326,7 @@ def attempts(chosen, is_due):
     return run.peer.waits(lambda it: it.has_ended, SECONDS if is_due else 1.3)
 
 
-def linger(chosen, is_due):
+def stays(chosen, is_due):
     run = Ran(chosen, greets)
     run.deliver()
     return not run.ends(1.2 if is_due else SECONDS)
@@ -358,12 +343,6 @@ def in_binary(chosen, _):
     run.deliver()
     return run.link.waits(lambda it: b"\0\2hi" in it.out or b"mail 6869" in it.out,
                            SECONDS) and b"\0\2hi" in run.link.out
-
-
-def stays(chosen, is_due):
-    run = Ran(chosen, greets)
-    run.deliver()
-    return not run.ends(1.2 if is_due else SECONDS)
 
 
 def maintains(chosen, is_due):
@@ -425,7 +404,7 @@ LINK = {
     "--restart": (["--restart"], restarts),
     "--timer-ms": (["--timer-ms", "100"], timer),
     "--attempts": (["--attempts", "2"], attempts),
-    "--linger-ms": (["--linger-ms", "5000"], linger),
+    "--linger-ms": (["--linger-ms", "5000"], stays),
     "--seconds": (["--seconds", "2"], seconds),
     "--report": (["--report", "1"],
                  shown('(?m)^(.*Z )?report state=|"event":"report"', "--stay", "")),
@@ -469,13 +448,12 @@ BRIDGE = {
     "--seed": (["--seed", "7"], lambda it: it["got"] == it["by"][7] and it["got"] != it["by"][1]),
     "--trace": (["--trace"], lambda it: re.search(r"(?m)^\d+ > \d+ DATA ", it["told"])),
     "--ladder": (["--ladder"], lambda it: re.search(r"(?m)^\d+ \|-- DATA .*->\|$", it["told"])),
-    "--json": ([
-        "--json"
-    ], lambda it: re.search(r'(?m)^{"from":">","ms":\d+,"offset":0,"item":"DATA",', it["told"])),
-    "--save-first": (["--save-first",
-                      "FOLDER/first"], lambda it: it["saved"].get("first") == b"".join(SENT)),
-    "--save-second": (["--save-second",
-                       "FOLDER/second"], lambda it: it["saved"].get("second") == b""),
+    "--json": (["--json"], lambda it: re.search(
+        r'(?m)^{"from":">","ms":\d+,"offset":0,"item":"DATA",', it["told"])),
+    "--save-first": (["--save-first", "FOLDER/first"],
+                     lambda it: it["saved"].get("first") == b"".join(SENT)),
+    "--save-second": (["--save-second", "FOLDER/second"],
+                      lambda it: it["saved"].get("second") == b""),
 }
 
 
@@ -488,11 +466,8 @@ def bridge_in(folder, chosen):
     percent = {name: 40 if name in chosen else 0 for name in ("--lose", "--damage")}
     draws = {seed: Draws(0, percent["--lose"], percent["--damage"], seed) for seed in (1, 7)}
     by = {seed: [it for it in map(draws[seed].left_of, SENT) if it] for seed in draws}
-    with socket.socket(socket.AF_INET, socket.SOCK_DGRAM) as one, socket.socket(
-            socket.AF_INET, socket.SOCK_DGRAM) as two:
+    with udp_socket() as one, udp_socket() as two:
         near, far = free_port(socket.SOCK_DGRAM), free_port(socket.SOCK_DGRAM)
-        for it in (one, two):
-            it.bind(("127.0.0.1", 0))
         lines = [f"udp:127.0.0.1:{port},127.0.0.1:{port_of(it)}"
                  for port, it in ((near, one), (far, two))]
         words = [it.replace("FOLDER", folder) for it in words_of(BRIDGE, chosen)]
@@ -519,8 +494,8 @@ def bridge_in(folder, chosen):
     again = b"; retry in 1 s\n" in in_vain.err
     in_vain.kill()
     unseen = [] if {"--lose", "--damage"} & set(chosen) else ["--seed"]
-    unseen += ["--trace"] if {"--ladder", "--json"} & set(chosen) else [
-    ]  # it is drawn then, or an object
+    # A trace is drawn then, or an object.
+    unseen += ["--trace"] if {"--ladder", "--json"} & set(chosen) else []
     assert "--seed" in chosen or got == by[1], "not the faults of seed 1"
     compare("bridge", chosen, BRIDGE, {"ended": ended, "got": got, "after": after, "took": took,
                                        "by": by, "saved": saved, "told": run.err.decode(),

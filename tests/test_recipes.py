@@ -7,7 +7,7 @@ import time
 
 import pytest
 
-from .process import PROGRAM, TOP, Link, Process, free_port, holds_within, is_listening
+from .process import PROGRAM, TOP, Link, Process, free_port, holds_within, is_listening, text_of
 from .wire import mail_in
 
 ENDLESS = "4294967295"
@@ -38,8 +38,8 @@ class Recipe:
 
     def commands(self, section):
         """The commands of a section, with these ports and files and a shorter run."""
-        with open(f"{TOP}/docs/INTEROP.md", encoding="utf-8") as it:
-            text = re.search(rf"^### {section}\n(.*?)(?=^#|\Z)", it.read(), re.M | re.S)[1]
+        text = text_of("docs/INTEROP.md")
+        text = re.search(rf"^### {section}\n(.*?)(?=^#|\Z)", text, re.M | re.S)[1]
         commands = "".join(re.findall(r"^    (.*\n)", text, re.M))
         assert commands, f"no recipe '{section}'"
         for old, new in (("/dev/ttyS0", f"{self.folder}/port"), ("from-", f"{self.folder}/from-"),

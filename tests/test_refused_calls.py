@@ -14,7 +14,7 @@ import tty
 
 import pytest
 
-from .process import PROGRAM, free_port, holds_within, is_listening, udp_names
+from .process import PROGRAM, holds_within, is_listening, line_names
 from .wire import digits, mail_in
 
 # The calls of a link, and how the system may refuse each.
@@ -61,12 +61,8 @@ def lines(kind):
         forward.wait()
         for end in ours + its:
             os.close(end)
-    elif kind == "udp":
-        yield udp_names()
     else:
-        port = free_port()
-        ends = f"connect:127.0.0.1:{port}", f"listen:127.0.0.1:{port}"
-        yield ends if kind == "connect" else ends[::-1]
+        yield line_names(kind)
 
 
 def words(line, *options):

@@ -8,11 +8,11 @@ import re
 import socket
 import subprocess
 import tempfile
-import threading
 
 import pytest
 
-from .process import PROGRAM, free_port, holds_within, is_listening, port_of, server, udp_names
+from .process import (
+    PROGRAM, Link, Process, free_port, holds_within, is_listening, line_names, port_of, server)
 from .wire import ack, digits, mail_in
 
 # Refuses the allocation whose number is in REFUSED, and writes a byte for each to the descriptor
@@ -44,6 +44,8 @@ LONG = 10  # seconds that no run may take
 MESSAGES = [b"one", b"two" * 300, b"three"]
 DIGITS = digits(MESSAGES)
 FRAMES = (ack(0) + bytes.fromhex("81050100") + ack(0)) * 5
+
+
 @pytest.fixture(scope="module", autouse=True)
 def library(tmp_path_factory):
     """The malloc that refuses, as a library."""
@@ -53,25 +55,15 @@ def library(tmp_path_factory):
     Run.library = made
 
 
-class Run:
+class Run(Process):
     """A run of the program whose `number`th allocation is refused; 0 is none."""
 
     def __init__(self, number, *words):
-        self.number, self.log = number, tempfile.TemporaryFile()
+        self.log = tempfile.TemporaryFile()
         given = {"LD_PRELOAD": Run.library, "REFUSED": str(number),
                  "COUNTED": str(self.log.fileno())}
-        self.it = subprocess.Popen([*PROGRAM, *words], stdin=subprocess.PIPE,
-                                   stdout=subprocess.PIPE, stderr=subprocess.PIPE,
-                                   env={**os.environ, **given}, pass_fds=(self.log.fileno(),))
-
-    def ends(self, data=b""):
-        """Its status, None if it hangs, and its outputs."""
-        try:
-            said, told = self.it.communicate(data, timeout=LONG)
-            return self.it.returncode, said, told
-        except subprocess.TimeoutExpired:
-            self.it.kill()
-            return (None, *self.it.communicate())
+        super().__init__([*PROGRAM, *words], env={**os.environ, **given},
+                         pass_fds=(self.log.fileno(),))
 
     def count(self):
         """How many allocations it has made."""
@@ -80,6 +72,10 @@ class Run:
     def was_refused(self):
         self.log.seek(0)
         return b"x" in self.log.read()
+
+    def last(self):
+        """Its last line on standard error."""
+        return "".join(self.err.decode().splitlines()[-1:])
 
 
 def each(trial):
@@ -101,39 +97,15 @@ def fault_of(is_refused, status, error):
     return None if status == 0 or is_refused and status == 3 and is_reported else "another ending"
 
 
-class Other:
+def other(line):
     """A link that takes lines as they come, and sends the messages."""
-
-    def __init__(self, line):
-        words = ["link", "--line", line, "--again", "--restart", "--timer-ms", "200"]
-        self.it = subprocess.Popen([*PROGRAM, *words], stdin=subprocess.PIPE,
-                                   stdout=subprocess.PIPE, stderr=subprocess.DEVNULL)
-        self.out = b""
-        self.it.stdin.write(DIGITS)
-        self.it.stdin.flush()
-        self.reading = threading.Thread(target=self.read)
-        self.reading.start()
-
-    def read(self):
-        for piece in iter(lambda: os.read(self.it.stdout.fileno(), 1 << 16), b""):
-            self.out += piece
-
-    def has_all(self):
-        return holds_within(LONG, lambda: len(mail_in(self.out)) == len(MESSAGES))
-
-    def ends(self):
-        self.it.kill()
-        self.it.communicate()
-        self.reading.join()
+    it = Link(line, "--again", "--restart", "--timer-ms", "200")
+    it.give(DIGITS, close=False)
+    return it
 
 
-def names_of(kind):
-    """The names of a line's ends: that of the link whose memory is refused comes first."""
-    if kind == "udp":
-        return udp_names()
-    port = free_port()
-    both = f"connect:127.0.0.1:{port}", f"listen:127.0.0.1:{port}"
-    return both if kind == "connect" else both[::-1]
+def has_all(peer, count=len(MESSAGES)):
+    return peer.waits(lambda it: len(it.mails()) == count, LONG)
 
 
 def begun(peer, kind):
@@ -142,42 +114,32 @@ def begun(peer, kind):
         holds_within(LONG, lambda: is_listening(int(peer.split(":")[2])))
 
 
-def last_of(told):
-    return "".join(told.decode().splitlines()[-1:])
-
-
 def link(kind, number):
-    ours, its = names_of(kind)
-    peer = Other(its)
+    ours, its = line_names(kind)
+    peer = other(its)
     begun(its, kind)
     run = Run(number, "link", "--line", ours, "--timer-ms", "200", "--linger-ms", "400")
-    status, said, told = run.ends(DIGITS)
-    is_lost = status == 0 and not peer.has_all()
-    peer.ends()
-    is_beginning = all(it == MESSAGES[:len(it)] for it in (mail_in(said), mail_in(peer.out)))
+    run.give(DIGITS)
+    status = run.ended(LONG)
+    is_lost = status == 0 and not has_all(peer)
+    peer.kill()
+    is_beginning = all(it == MESSAGES[:len(it)] for it in (mail_in(run.out), peer.mails()))
     fault = "messages are lost" if is_lost else None if is_beginning else "other messages"
-    return run.was_refused(), (status, last_of(told)), fault
+    return run.was_refused(), (status, run.last()), fault
 
 
 def link_that_runs(kind):
     """How much a link allocates after its first notice, whatever comes and goes."""
-    ours, its = names_of(kind)
-    peer = Other(its)
+    ours, its = line_names(kind)
+    peer = other(its)
     begun(its, kind)
     run = Run(0, "link", "--line", ours, "--timer-ms", "200", "--report", "1", "--trace", "--clock")
-    quiet = threading.Thread(target=run.it.stderr.read)
-    quiet.start()
-    first = run.it.stdout.readline()
+    assert run.waits(lambda it: it.out.startswith(b"notice Running"), LONG)
     before = run.count()
-    run.it.stdin.write(20 * DIGITS)
-    run.it.stdin.flush()
-    has_all = holds_within(LONG, lambda: len(mail_in(peer.out)) == 20 * len(MESSAGES))
-    after = run.count()
-    peer.ends()
-    run.it.kill()
-    run.it.communicate()
-    quiet.join()
-    assert first.startswith(b"notice Running") and has_all and after == before
+    run.give(20 * DIGITS, close=False)
+    assert has_all(peer, 20 * len(MESSAGES)) and run.count() == before
+    for it in (peer, run):
+        it.kill()
 
 
 class Talk:
@@ -197,7 +159,7 @@ class Talk:
                         self.sides = [caller, far.accept()[0]]
 
     def has_ended(self):
-        return self.run.it.poll() is not None
+        return not self.run.is_running()
 
     def passes(self, data):
         """What comes out of bytes from each side, one after the other."""
@@ -214,19 +176,20 @@ class Talk:
         return got
 
     def ends(self):
+        """Its status, None if it hangs, and its outputs."""
         for it in self.sides:
             it.close()
-        return self.run.ends()
+        return self.run.ended(LONG), self.run.out, self.run.err
 
 
 def tap(words, whole, number):
     talk = Talk(number, *words)
     got = talk.passes(FRAMES)
-    status, said, told = talk.ends()
+    status, said, _ = talk.ends()
     is_beginning = all(FRAMES.startswith(it) for it in got) and whole.startswith(said)
     is_lost = status == 0 and (got != [FRAMES, FRAMES] or said != whole)
     fault = "bytes are lost" if is_lost else None if is_beginning else "other bytes"
-    return talk.run.was_refused(), (status, last_of(told)), fault
+    return talk.run.was_refused(), (status, talk.run.last()), fault
 
 
 def tap_that_runs(words):

@@ -10,7 +10,7 @@ import time
 import pytest
 
 from .process import (
-    PROGRAM, Process, TOP, contents, free_port, holds_within, is_listening, udp_names)
+    PROGRAM, TOP, Process, contents, free_port, holds_within, is_listening, udp_names)
 from .wire import binary, mail_in, unpacked
 
 LIMIT = 40  # seconds that a scenario may take

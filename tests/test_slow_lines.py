@@ -9,8 +9,9 @@ import time
 import pytest
 
 from .process import (
-    Bridge, Link, free_port, holds_within, is_bound, must_end, port_of, server, terminals, times)
-from .wire import Reader, STACK, ack, data
+    Bridge, Link, free_port, holds_within, is_bound, must_end, port_of, server, terminals, times,
+    udp_socket)
+from .wire import STACK, Reader, ack, data
 
 
 class Terminal:
@@ -121,9 +122,7 @@ def test_slow_bridge(words, least, most):
 def test_slow_datagrams():
     """With --baud N a bridge sends each frame over UDP in a datagram of its own, whole, and not
     before it has had its time."""
-    far, near = (socket.socket(socket.AF_INET, socket.SOCK_DGRAM) for _ in range(2))
-    for it in (far, near):
-        it.bind(("127.0.0.1", 0))
+    far, near = udp_socket(), udp_socket()
     ports = free_port(socket.SOCK_DGRAM), free_port(socket.SOCK_DGRAM)
     lines = [f"udp:127.0.0.1:{port},127.0.0.1:{port_of(it)}"
              for port, it in zip(ports, (far, near))]

@@ -12,34 +12,12 @@ import time
 import pytest
 
 from .process import (
-    Link, PROGRAM, call, connected, explained, free_port, port_of, reset_at_close, server, takes,
-    times)
-from .wire import REASONS, checked, drawn
+    PROGRAM, Link, Process, call, connected, explained, free_port, port_of, reset_at_close, sends,
+    server, takes, times)
+from .wire import REASONS, checked, drawn, drawn_frames
 
 pytestmark = pytest.mark.limit(120)
 LONG = 30  # seconds that nothing here may take
-
-
-def frame():
-    """A drawn frame: control, or data of up to 60 bytes, whole, damaged or cut off."""
-    numbers = drawn.randbytes(3)
-    if drawn.randrange(2):
-        made = checked(bytes([5, drawn.choice([1, 2, 3, 6, 7]), drawn.randrange(64)]) + numbers)
-    else:
-        data = drawn.randbytes(drawn.randrange(1, 61))
-        head = bytes([0x81, len(data), drawn.choice([0, 0x40, 0xC0])]) + numbers
-        made = checked(head) + checked(data)
-    fate = drawn.randrange(8)
-    if fate == 0:
-        at = drawn.randrange(len(made))
-        made = made[:at] + bytes([made[at] ^ drawn.randrange(1, 256)]) + made[at + 1:]
-    elif fate == 1:
-        made = made[:drawn.randrange(len(made))]
-    return made + drawn.randbytes(drawn.choice([0, 0, 3])) + b"\x96" * drawn.randrange(3)
-
-
-def text(count):
-    return b"".join(frame() for _ in range(count))
 
 
 class Tap(Link):
@@ -68,16 +46,6 @@ class Tap(Link):
         return self.ended(LONG), self.err.decode()
 
 
-def sends(peer, data, most=1 << 16):
-    """Sends in drawn pieces, and then the end."""
-    at = 0
-    while at < len(data):
-        size = drawn.randrange(1, most)
-        peer.sendall(data[at:at + size])
-        at += size
-    peer.shutdown(socket.SHUT_WR)
-
-
 def both_ways(tap, up, down, most=1 << 16):
     """Sends both ways at once, and says what came out."""
     got = {}
@@ -85,8 +53,8 @@ def both_ways(tap, up, down, most=1 << 16):
     def take(name, peer):
         got[name] = takes(peer)
 
-    works = [threading.Thread(target=sends, args=(tap.caller, up, most)),
-             threading.Thread(target=sends, args=(tap.called, down, most)),
+    works = [threading.Thread(target=sends, args=(tap.caller, up, most, True)),
+             threading.Thread(target=sends, args=(tap.called, down, most, True)),
              threading.Thread(target=take, args=("down", tap.caller)),
              threading.Thread(target=take, args=("up", tap.called))]
     for it in works:
@@ -103,7 +71,7 @@ def lines_of(said, mark):
 @pytest.mark.parametrize("most, options", [(2, ()), (40, ()), (5000, ("--max", "40"))])
 def test_prints_what_explain_prints(most, options):
     """The lines of each direction are those that `explain` has of its bytes."""
-    up, down = text(1500), text(1200)
+    up, down = drawn_frames(1500), drawn_frames(1200)
     tap = Tap(*options)
     assert both_ways(tap, up, down, most) == (up, down)
     assert tap.ends() == (0, "")
@@ -130,11 +98,11 @@ def test_slow(name, other):
     filled, free = drawn.randbytes(40_000_000), drawn.randbytes(8_000_000)
     tap = Tap()
     reader, writer = getattr(tap, name), getattr(tap, other)
-    sender = threading.Thread(target=sends, args=(writer, filled))
+    sender = threading.Thread(target=sends, args=(writer, filled, 1 << 16, True))
     sender.start()
     time.sleep(0.5)  # what has no room waits with the sender
     before = tap.memory("VmRSS")
-    answers = threading.Thread(target=sends, args=(reader, free))
+    answers = threading.Thread(target=sends, args=(reader, free, 1 << 16, True))
     answers.start()
     assert takes(writer) == free, "the other direction gave other bytes"
     assert sender.is_alive(), "40 MB had room on the way"
@@ -204,12 +172,11 @@ def test_side_that_takes_nothing(name, other):
 def test_connection_refused(to, why):
     """Whom it can't connect to is reported with the reason, once someone has connected."""
     port, to = free_port(), to.replace("PORT", str(free_port()))
-    words = [*PROGRAM, "tap", "--listen", f"127.0.0.1:{port}", "--connect", to]
-    run = subprocess.Popen(words, stdout=subprocess.PIPE, stderr=subprocess.PIPE)
+    tap = Process([*PROGRAM, "tap", "--listen", f"127.0.0.1:{port}", "--connect", to])
     with connected(port) as caller, contextlib.suppress(ConnectionResetError):
         assert not caller.recv(1), "bytes came"
-    out, told = run.communicate(timeout=LONG)
-    assert (run.returncode, out, told.decode()) == (3, b"", f"ddcmp: connect {to}: {why}\n")
+    ends = tap.ended(LONG), tap.out, tap.err.decode()
+    assert ends == (3, b"", f"ddcmp: connect {to}: {why}\n")
 
 
 def test_not_listening():
@@ -243,7 +210,7 @@ def test_chosen_port(words):
 
 @times
 def test_objects():
-    up, down = text(500), text(400)
+    up, down = drawn_frames(500), drawn_frames(400)
     tap = Tap("--json", "--time")
     start = time.monotonic()
     both_ways(tap, up, down, 300)
@@ -301,7 +268,7 @@ def rung(mark, line):
 
 @pytest.mark.parametrize("options", [(), ("--max", "40")])
 def test_ladder(options):
-    up, down = text(700), text(600)
+    up, down = drawn_frames(700), drawn_frames(600)
     tap = Tap("--ladder", *options)
     assert both_ways(tap, up, down, 300) == (up, down) and tap.ends() == (0, "")
     lines = tap.out.decode().splitlines()
@@ -324,36 +291,35 @@ def test_output_closed():
     assert tap.ends() == (3, "ddcmp: write\n")
 
 
-class Again:
+class Again(Process):
     """A tap that carries one caller after another, to a peer that listens at this port."""
 
-    def __init__(self, far, *options, output=subprocess.PIPE):
-        self.port, self.far = free_port(), far
+    def __init__(self, far, *options, **streams):
+        self.port = free_port()
         words = ["--listen", f"127.0.0.1:{self.port}", "--connect", f"127.0.0.1:{far}", *options]
-        words = [*PROGRAM, "tap", "--again", *words]
-        self.run = subprocess.Popen(words, stdout=output, stderr=subprocess.PIPE)
+        super().__init__([*PROGRAM, "tap", "--again", *words], **streams)
 
     def killed(self):
         """What it wrote: the log and standard error."""
-        assert self.run.poll() is None
-        self.run.kill()
-        out, told = self.run.communicate(timeout=LONG)
-        return out.decode(), told.decode()
+        assert self.is_running()
+        self.kill()
+        return self.out.decode(), self.err.decode()
 
 
 def test_again():
     """Callers after one another, one of which calls early: each has its whole log."""
     far = server()
     tap = Again(port_of(far), "--ladder")
-    texts, early = [(text(40), text(30)) for _ in range(3)], None  # its log has room in a pipe
+    texts = [(drawn_frames(40), drawn_frames(30)) for _ in range(3)]
+    early = None  # its log has room in a pipe
     for up, down in texts:
         caller, early = early or connected(tap.port), None
         called = far.accept()[0]
         if (up, down) == texts[0]:
             early = connected(tap.port)  # it waits for its turn
             early.sendall(texts[1][0][:5])
-        sends(called, down)
-        sends(caller, up[5:] if (up, down) == texts[1] else up)
+        sends(called, down, ends=True)
+        sends(caller, up[5:] if (up, down) == texts[1] else up, ends=True)
         assert (takes(called), takes(caller)) == (up, down)
         caller.close()
         called.close()
@@ -407,12 +373,11 @@ def test_again_unwritten():
         assert ends == (b"", f"ddcmp: listen {at}: address in use\n", 3)
     far = server()
     with open("/dev/full", "wb") as full:
-        tap = Again(port_of(far), output=full)
+        tap = Again(port_of(far), stdout=full)
     caller = connected(tap.port)
     caller.sendall(checked(bytes([5, 1, 0, 0, 0, 1])))
     far.accept()
-    told = tap.run.communicate(timeout=LONG)[1].decode()
-    assert (tap.run.returncode, told) == (3, "ddcmp: write\n")
+    assert (tap.ended(LONG), tap.err) == (3, b"ddcmp: write\n")
 
 
 def test_again_socats():

@@ -142,6 +142,31 @@ def mail_in(text):
     return [bytes.fromhex(it[5:].decode()) for it in lines if it.startswith(b"mail ")]
 
 
+def drawn_frame(sizes):
+    """A drawn frame, whole, damaged or cut off, and what follows it; data of any of these sizes and
+    of up to 60 bytes."""
+    kind = drawn.randrange(6)
+    if kind < 2:
+        made = control(drawn.choice([1, 2, 3, 6, 7, 7, 9]), drawn.randrange(64),
+                       drawn.randrange(256), drawn.randrange(256))
+    elif kind == 2:
+        made = maintenance(drawn.randbytes(drawn.randrange(1, 40)))
+    else:
+        size = drawn.choice(sizes) if kind == 5 else drawn.randrange(1, 60)
+        made = data(drawn.randbytes(size), drawn.randrange(256), drawn.randrange(256))
+    fate = drawn.randrange(8)
+    if fate == 0:
+        at = drawn.randrange(len(made))
+        made = made[:at] + bytes([made[at] ^ drawn.randrange(1, 256)]) + made[at + 1:]
+    elif fate == 1:
+        made = made[:drawn.randrange(len(made))]
+    return made + drawn.randbytes(drawn.choice([0, 0, 0, 3])) + b"\x96" * drawn.randrange(3)
+
+
+def drawn_frames(count, sizes=(1, 2, 60)):
+    return b"".join(drawn_frame(sizes) for _ in range(count))
+
+
 def messages_of(count, most=1500):
     """Drawn messages, many of them as short or as long as can be."""
     return [drawn.randbytes(drawn.choice([1, 2, 3, most, drawn.randrange(1, most + 1)]))

@@ -49,7 +49,7 @@ def files_of(crate, top=TOP):
 
 
 def sum_of_program(top=TOP):
-    """One sum over the program, the sources of its crates and what each of them uses; tools/common
+    """One sum over the program, the sources of its crates and what each of them uses; ./ddcmp
     computes the same."""
     lines, found = lines_of_crates(top), hashlib.sha256()
     parts = made_of("ddcmp", top)
