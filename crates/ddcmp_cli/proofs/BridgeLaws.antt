@@ -39,8 +39,8 @@ not-ended old new (Err bridging.Memory) ending h e = no-memory (sym h.0 ∙ e)
 -- it reads nothing, so no read fails
 pub not-read : (lines : LinesKnown) (asked : BridgeArgs) (old new : Known) (ending : Ending)
     → Bridges lines asked old new ending → ending ≡ Faulted Read → ⊥
-not-read _ _ old new ending (inl h) e = no-refusal ending h.1.0 e
-not-read _ _ old new ending (inr (inl h)) e = no-refusal ending h.1.0 e
-not-read _ _ old new ending (inr (inr (inl h))) e = no-refusal ending h.1.0 e
+not-read _ _ old new ending (inl h) e = no-refusal ending h.1 e
+not-read _ _ old new ending (inr (inl h)) e = no-refusal ending h.1 e
+not-read _ _ old new ending (inr (inr (inl h))) e = no-refusal ending h.1 e
 not-read _ _ old new ending (inr (inr (inr h))) e =
     let (_, _, _, _, _, ended, _, ends) = h in not-ended old new ended ending ends e

@@ -104,7 +104,9 @@ pub returns-in-Bridge : goal.returns-in-Bridge
 returns-in-Bridge g c = record {
   performs = λ input left. rw (c.in-Bridge.is) (left, c.bridge.ensures.bridges);
   read = λ _ e. absurd (e c.requires.fine);
-  read_only = λ _ _ _ _ e. absurd (not-read _ _ _ _ _ c.bridge.ensures.bridges e);
+  read_only = λ _ _ _ _ e. absurd
+      (not-read (g.S.LineSystem.lines c.args.system.now) c.in-Bridge.args _ _ _
+      c.bridge.ensures.bridges e);
   write = λ _ _. c.bridge.ensures.write;
   whole = unbroken _ _ c.bridge.ensures.write.1;
   untouched = λ _. refl;
