@@ -25,3 +25,5 @@ mod rows;
 mod same;
 #[cfg(test)]
 mod scripts;
+#[cfg(test)]
+mod texts;

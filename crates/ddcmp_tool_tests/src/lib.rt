@@ -39,4 +39,6 @@ mod sizes;
 #[cfg(test)]
 mod streams;
 #[cfg(test)]
+mod texts;
+#[cfg(test)]
 mod told;
