@@ -146,6 +146,11 @@ def call(*words, given=b"", seconds=60):
     return it.stdout, it.stderr.decode(errors="replace"), it.returncode
 
 
+def refusing(calls, *options):
+    """What a command begins with, so that the system refuses its calls."""
+    return ["strace", "-qq", "-o", "/dev/null", *options, "-e", f"inject={calls}"]
+
+
 def explained(text, *options):
     """The lines of `explain` for these bytes."""
     out, err, status = call("explain", "--raw", *options, given=text)

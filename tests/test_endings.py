@@ -9,12 +9,15 @@ import threading
 
 import pytest
 
-from .process import PROGRAM, call, free_port, version
-from .wire import ack, data
+from .process import (
+    PROGRAM, TOP, call, free_port, port_of, refusing, server, takes, version)
+from .wire import STACK, STRT, ack, data, header
 
 LONG_NAME = "a" * 300
 DIGITS = "050100000001fc55"
 ACK = "0 ACK sub=0 q=0 s=0 resp=0 num=0 addr=1\nitems=1 bytes=8 open=0\n"
+TOO_LONG = "0 too long DATA count=1501 q=0 s=0 resp=0 num=1 addr=1\nitems=1 bytes=8 open=8\n"
+STARTED = "A started dropped=0\nB started dropped=0\n"
 NOTHING = "honest yes clean yes up A=0 B=0 acked A=0 B=0\n"
 USAGE = "error: .*"
 RIGHT, LEFT = "|-- ACK resp=0 " + "-" * 61 + ">|\n", "|<" + "-" * 61 + " ACK resp=0 --|\n"
@@ -50,7 +53,8 @@ def files(tmp_path, monkeypatch):
 def ends(status, output, fault, given, words):
     """A run ends so; the text on standard error is a pattern if it begins `error: `."""
     words = words.split() if isinstance(words, str) else words
-    out, err, got = call(*words, given=given.encode())
+    given = given.encode() if isinstance(given, str) else given
+    out, err, got = call(*words, given=given)
     assert (out.decode(), got) == (output, status)
     is_usage = fault.startswith("error: ")
     assert re.fullmatch(fault, err, re.S) if is_usage else err == (fault and fault + "\n")
@@ -60,6 +64,13 @@ def ends(status, output, fault, given, words):
     (0, NO_COUNTS, "", "", "explain"),
     (1, "", "ddcmp: odd number of digits", "050", "explain"),
     (1, "", "ddcmp: not hexadecimal at 2", "05zz", "explain"),
+    (1, "", "ddcmp: not hexadecimal at 69999", " " * 69_999 + "x", "explain"),
+    (0, ACK, "", ack(0), "explain --raw"),
+    (0, "items=0 bytes=8 open=8\n", "", header(1501, 1), "explain --raw"),
+    (0, TOO_LONG, "", header(1501, 1), "explain --raw --max 1500"),
+    (0, TOO_LONG, "", header(1501, 1), "explain --max 1500 --raw"),
+    (2, "", "ddcmp: an argument isn't UTF-8", "", [b"explain", b"\xff"]),
+    (3, "", "ddcmp: open a b: no such file", "", ["explain", "a b"]),
     (2, "", USAGE, "", "explain --max 16384"),
     (2, "", USAGE, "", "explain --wrong"),
     # A file in place of standard input.
@@ -94,6 +105,37 @@ def test_explain(status, output, fault, given, words):
 
 def test_version():
     ends(0, f"ddcmp {version()}\n", "", "", "--version")
+
+
+def examples(name):
+    """The examples of command lines in a file of `worked`: their heads and what follows each."""
+    with open(f"{TOP}/crates/worked/{name}", encoding="utf-8", newline="") as it:
+        commands = it.read().split("##### ")[1]
+    return [it.split("\n", 1) for it in commands.split("=== ")[1:]]
+
+
+@pytest.mark.parametrize("example", zip(examples("stdin"), examples("stdout")),
+                         ids=lambda it: it[0][0])
+def test_worked(example):
+    """Command lines that the gate compares as calls are the same here: help, usage errors, runs."""
+    (head, given), (same, text) = example
+    words = head.removeprefix("? ").split(" ")[1:]
+    assert head == same
+    if not head.startswith("? "):
+        out, err, status = call(*words, given=given.encode())
+        assert out.decode() + err + f"-> {status}\n" == text
+    elif text.startswith("error: "):
+        assert call(*words) == (b"", text, 2)
+
+
+@pytest.mark.parametrize("command, words, usage", [
+    ("explain", "--raw --max 1 three more words", "[OPTIONS] [FILE] [SECOND]"),
+    ("simulate", "more words", "[OPTIONS] [FILE]"),
+])
+def test_too_many_words(command, words, usage):
+    text = f"error: unexpected argument 'words' found\n\nUsage: ddcmp {command} {usage}\n\n"
+    text += "For more information, try '--help'.\n"
+    assert call(command, *words.split()) == (b"", text, 2)
 
 
 @pytest.mark.parametrize("status, output, fault, given, words", [
@@ -194,6 +236,21 @@ def test_at_a_terminal(what, given, words):
     assert (run.returncode, err.decode()) == (0, text)
 
 
+@pytest.mark.parametrize("refused, text", [
+    ("bind:error=EADDRINUSE", ""), ("connect:error=ECONNREFUSED", ""),
+    ("sendto:error=EPIPE:when=2", f"{STARTED}B wrote {STRT.hex()}\nB passed 8\n"
+                                  f"A wrote {STACK.hex()}\n"),
+])
+def test_refused_connection(refused, text):
+    """`pair` ends if it can't make its connection, or if that fails; `simulate` needs none."""
+    script = "start A\nstart B\npoll B\npass B\npoll A\npass A\nstate A\n"
+    for command, ends_so in (("pair", (3, text, "ddcmp: carrier\n")), ("simulate", (0, None, ""))):
+        words = [*refusing(refused), *PROGRAM, command]
+        run = subprocess.run(words, input=script, capture_output=True, text=True, check=False)
+        out = run.stdout if command == "pair" else None
+        assert (run.returncode, out, run.stderr) == ends_so
+
+
 def test_fewest_files():
     """With too few files to be had `pair` makes no connection. The program has three before it
     opens any, needs one to listen, one to connect and one to accept, and the system may hold a
@@ -226,8 +283,64 @@ def test_station(status, fault, words):
     ends(status, "", fault, "", "station " + words.replace("HERE", here))
 
 
+def station(role, addr, turns=0, timer=0, *more):
+    return ["station", "--role", role, "--addr", addr, "--turns", str(turns),
+            "--timer-ms", str(timer), *more]
+
+
+@pytest.mark.parametrize("status, fault, sent", [
+    (3, "ddcmp: carrier", "6" * 3000), (1, "ddcmp: not hexadecimal", "6" * 2999),
+    (2, USAGE, "6" * 3001), (1, "ddcmp: not hexadecimal", "x" * 3000), (2, USAGE, "x" * 3002),
+    *((1, "ddcmp: not hexadecimal", it) for it in ("0", "zz", "6g", " 61", "61 ")),
+])
+def test_message_of_a_station(status, fault, sent):
+    """Too many digits are a usage error, also if they are none; then come digits that are none,
+    and last the connection, which can't be made."""
+    ends(status, "", fault, "", station("connect", "nowhere", 0, 0, "--send", sent))
+
+
+@pytest.mark.parametrize("role", ["other", "", "Listen", "listen ", "connects"])
+def test_other_roles(role):
+    """They are reported before a wrong message."""
+    text = "error: '--role' is connect or listen\n\nFor more information, try '--help'.\n"
+    out, err, status = call(*station(role, "nowhere", 0, 0, "--send", "zz"))
+    assert (out, err, status) == (b"", text, 2)
+
+
+@pytest.mark.parametrize("role", ["connect", "listen"])
+@pytest.mark.parametrize("addr", ["nowhere", "", "127.0.0.1", "127.0.0.1:65536", "256.0.0.1:7000"])
+def test_no_address(addr, role):
+    ends(3, "", "ddcmp: carrier", "", station(role, addr, 0, 0, "--send", "61"))
+
+
+def test_port_in_use():
+    with server() as used:
+        name = f"127.0.0.1:{port_of(used)}"
+        ends(3, "", "ddcmp: carrier", "", station("listen", name))
+
+
+@pytest.mark.parametrize("sent, turns, timer, least, report", [
+    (b"", 2, 60_000, STRT, "turns=2 state=IStart read=0 written=8\n"),
+    (b"", 20, 30, 3 * STRT, "turns=20 state=IStart read=0 written=[0-9]+\n"),
+    (STACK, 200, 60_000, STRT + ack(0),
+     "notice Running\nturns=200 state=Running read=8 written=16\n"),
+])
+def test_peer_of_a_station(sent, turns, timer, least, report):
+    """A peer that sends nothing gets a STRT, and more of them when the timer expires; one that
+    sends a STACK gets an ACK."""
+    with server() as listener:
+        words = station("connect", f"127.0.0.1:{port_of(listener)}", turns, timer)
+        run = subprocess.Popen([*PROGRAM, *words], stdout=subprocess.PIPE, stderr=subprocess.PIPE)
+        peer = listener.accept()[0]
+        peer.sendall(sent)
+        out, err = run.communicate(timeout=60)
+        assert re.fullmatch(report, out.decode()) and (err, run.returncode) == (b"", 0)
+        assert takes(peer).startswith(least)
+
+
 @pytest.mark.parametrize("words, given", [
     ("explain", b"05"), ("explain --ladder digits digits", b""), ("simulate", b""), ("pair", b""),
+    ("simulate", b"halt A\n"), ("pair", b"halt A\n"), ("--help", b""),
 ])
 def test_full_output(words, given):
     with open("/dev/full", "wb") as full:
@@ -243,3 +356,10 @@ def test_folder_as_input(command):
     run = subprocess.run([*PROGRAM, command], stdin=folder, capture_output=True, check=False)
     os.close(folder)
     assert (run.returncode, run.stdout, run.stderr) == (3, b"", b"ddcmp: read\n")
+
+
+def test_full_output_of_a_station():
+    with open("/dev/full", "wb") as full, server() as listener:
+        words = station("connect", f"127.0.0.1:{port_of(listener)}")
+        run = subprocess.run([*PROGRAM, *words], stdout=full, stderr=subprocess.PIPE, check=False)
+    assert (run.returncode, run.stderr) == (3, b"ddcmp: write\n")

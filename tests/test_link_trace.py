@@ -11,7 +11,7 @@ import pytest
 
 from .peers import called, dials, good, joined, linked, running, silent
 from .process import (
-    EVENT, PROGRAM, Link, explained, holds_within, omitted, port_of, server, tcp_pair, terminals,
+    EVENT, PROGRAM, Link, explained, holds_within, omitted, port_of, tcp_pair, terminals,
     times)
 from .wire import STACK, checked, data, digits, drawn
 

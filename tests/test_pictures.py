@@ -91,6 +91,61 @@ def test_step_by_step(words, wanted):
         it.communicate(timeout=20)
 
 
+MARKED = """start A
+poll A
+cut A 3
+lose A
+lose A
+pass A
+poll A
+expire A
+poll A
+damage A 3 01
+pass A
+expire A
+poll A
+damage A 0 01
+raw B 05
+take B
+state B
+clear
+"""
+MARKS = """A                                                                            B
+| start, now IStart                                                          |
+|-- STRT ------------------------>                                           |
+|                                           ----------------- STRT, 3 of 8 -||
+|-- STRT, rest, lost -----------------X                                      |
+| nothing to lose                                                            |
+| nothing to pass                                                            |
+| idle                                                                       |
+| expired                                                                    |
+|-- STRT ------------------------>                                           |
+|                                           ~~~~~~~~~~~~~~~~ STRT, damaged ->|
+|                                                         header check wrong |
+| expired                                                                    |
+|-- STRT ------------------------>                                           |
+|                                           .................... bytes: 05 ->|
+|                                                            nothing to take |
+|                                                     Halted R=0 N=0 A=0 T=1 |
+|                                                       out=0 in=0 timer=off |
+|                        line not cleared: not halted                        |
+honest yes clean yes up A=0 B=0 acked A=0 B=0
+"""
+TEXTS = [  # with the flights, of which the last hasn't ended
+    "A", "B", "start, now IStart", "nothing to lose", "nothing to pass", "idle", "expired",
+    "header check wrong", "expired", "nothing to take", "Halted R=0 N=0 A=0 T=1",
+    "out=0 in=0 timer=off", "STRT, 3 of 8", "lost", "STRT, rest", "STRT, damaged", "bytes: 05",
+    "line not cleared: not halted", "STRT, damaged",
+    "honest yes clean yes up A=0 B=0 acked A=0 B=0"]
+
+
+def test_marks():
+    """Each line of a script has its marks, in a ladder and in a document."""
+    assert run(MARKED, "--ladder") == (MARKS, "", 0)
+    document, *ends = run(MARKED, "--svg")
+    assert [it.text for it in texts_of(document)] == TEXTS and ends == ["", 0]
+
+
 def drawn_line(draw):
     end, other = draw.sample("AB", 2)
     word = draw.choice(WORDS)

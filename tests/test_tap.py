@@ -12,9 +12,9 @@ import time
 import pytest
 
 from .process import (
-    PROGRAM, Link, Process, call, connected, explained, free_port, port_of, reset_at_close, sends,
-    server, takes, times)
-from .wire import REASONS, checked, drawn, drawn_frames
+    PROGRAM, Link, Process, call, connected, explained, free_port, port_of, receives,
+    reset_at_close, sends, server, takes, times)
+from .wire import REASONS, ack, checked, data, drawn, drawn_frames
 
 pytestmark = pytest.mark.limit(120)
 LONG = 30  # seconds that nothing here may take
@@ -80,6 +80,56 @@ def test_prints_what_explain_prints(most, options):
     last = [it[0] for it in tap.out.decode().splitlines()[-2:]]
     assert (last == [">", "<"] and len(tap.out.splitlines())
             == len(explained(up, *options)) + len(explained(down, *options)))
+
+
+FRAMES = b"\x81" + data(b"abc", 1) + ack(0)  # a start byte alone, and two frames
+FIELDS = [("offset", 0, "item", "header check"),
+          ("offset", 1, "item", "DATA", "count", 3, "q", 0, "s", 0, "resp", 0, "num", 1, "addr", 1,
+           "data", "616263"),
+          ("offset", 14, "item", "ACK", "sub", 0, "q", 0, "s", 0, "resp", 0, "num", 0, "addr", 1)]
+WORDS = ["0 header check", "1 DATA count=3 q=0 s=0 resp=0 num=1 addr=1 616263",
+         "14 ACK sub=0 q=0 s=0 resp=0 num=0 addr=1"]
+LADDER = "> who connected to the tap" + 25 * " " + "whom the tap connected to <"
+ARROWS = [("header check", "~"), ("DATA 1 resp=0 (3 bytes)", "-"), ("ACK resp=0", "-")]
+
+
+def log_of(mark, options, size):
+    """The lines of FRAMES that come from a side, or the last line of one that sends nothing; each
+    moment is 7."""
+    time = "7 " if "--time" in options else ""
+    lines, count = [], 3 if size else 0
+    if "--json" in options:
+        front = {"from": mark, **({"ms": 7} if time else {})}
+        fields = [dict(zip(it[::2], it[1::2])) for it in FIELDS[:count]]
+        last = {"items": count, "bytes": size, "open": 0}
+        return [json.dumps({**front, **it}, separators=(",", ":")) for it in (*fields, last)]
+    for words, (text, line) in zip(WORDS[:count], ARROWS):
+        right, left = f"|-- {text} ".ljust(76, line) + ">|", "|<" + f" {text} --|".rjust(76, line)
+        arrow = right if mark == ">" else left
+        lines.append(time + (arrow if "--ladder" in options else f"{mark} {words}"))
+    return [*lines, f"{time}{mark} items={count} bytes={size} open=0"]
+
+
+@pytest.mark.parametrize("mark", "><")
+@pytest.mark.parametrize("options, cuts", [
+    ([], range(len(FRAMES))), (["--time"], [3]), (["--json"], [3]), (["--json", "--time"], [3]),
+    (["--ladder"], [9]), (["--ladder", "--time"], [14]),
+])
+def test_log_at_each_cut(options, cuts, mark):
+    """Bytes that come in two pieces, from either side: the lines of their log, and what is before
+    each."""
+    for cut in cuts:
+        tap = Tap(*options)
+        sender, receiver = (tap.caller, tap.called) if mark == ">" else (tap.called, tap.caller)
+        for piece in (FRAMES[:cut], FRAMES[cut:]):
+            sender.sendall(piece)
+            assert receives(receiver, len(piece)) == piece
+        assert tap.ends() == (0, "")
+        told = re.sub(r'(?m)^\d+ (?=[<>|])|(?<="ms":)\d+',
+                      lambda it: "7 " if " " in it[0] else "7", tap.out.decode())
+        up, down = (log_of(it, options, len(FRAMES) * (it == mark)) for it in "><")
+        head = [LADDER] * ("--ladder" in options)
+        assert told == "\n".join([*head, *up[:-1], *down[:-1], up[-1], down[-1], ""])
 
 
 def test_hands_on_megabytes():

@@ -3,13 +3,17 @@ against bad peers. What is awaited is what a report states, and no time that a b
 take; a station that has no turns left to wait for is ended by its peer."""
 import contextlib
 import re
+import resource
 import socket
+import subprocess
 import time
 
 import pytest
 
-from .process import PROGRAM, Process, connected, free_port, holds_within, is_listening
-from .wire import STACK, nak
+from .process import (
+    PROGRAM, Process, connected, free_port, holds_within, is_listening, port_of, receives, refusing,
+    server)
+from .wire import STACK, STRT, ack, data, nak
 
 ENDLESS = 4294967295
 CLOSED = r"ddcmp: (ended|read|write)"
@@ -121,3 +125,95 @@ def test_peer_asks_for_ever():
     assert station.has("notice Running")
     station.must_end(3, "ddcmp: write")
     assert time.monotonic() - began >= 5
+
+
+COUNTERS = " ".join(f"{it}=0" for it in (
+    *(f"nak_{way}_{reason}" for way in ("sent", "received") for reason in (
+        "header_check", "data_check", "reply_to_rep", "no_buffer", "overrun", "too_long", "format",
+        "other")), "rep_sent", "rep_received", "messages_sent", "bytes_sent", "messages_again",
+    "bytes_again", "messages_up", "bytes_up", "expiries", "header_checks", "data_checks",
+    "too_longs", "formats"))
+COUNTED = COUNTERS.replace("up=0 bytes_up=0", "up=1 bytes_up=3")
+RUNS, MAIL = "notice Running\n", "notice Running\nnotice HandedUp\nmail 616263\n"
+ABC = data(b"abc", 1)
+
+
+def served(steps, *options, turns=100, before=(), **how):
+    """A station that connects to a peer, which sends its bytes step by step, each once it received
+    what comes before them: what it reports, how it ends, and all that it sent."""
+    with server() as listener:
+        words = [*before, *PROGRAM, "station", "--role", "connect", "--addr",
+                 f"127.0.0.1:{port_of(listener)}", "--turns", str(turns), "--timer-ms", "60000"]
+        run = subprocess.Popen([*words, *options], stderr=subprocess.PIPE,
+                               **{"stdout": subprocess.PIPE, **how})
+        peer = listener.accept()[0]
+        got = b""
+        for awaited, sent in steps:
+            got += receives(peer, awaited)
+            if sent is None:
+                peer.shutdown(socket.SHUT_WR)
+            else:
+                peer.sendall(sent)
+        out, err = run.communicate(timeout=100)
+        with contextlib.suppress(ConnectionResetError):
+            got += receives(peer, 1 << 20)
+    return (out or b"").decode(), err.decode(), run.returncode, got
+
+
+@pytest.mark.parametrize("steps, options, report, sent", [
+    ([(8, STACK + ABC)], "", f"{MAIL}turns=100 state=Running read=21 written=16\n",
+     [STRT, ack(1)]),
+    # The counters are before the last line, if they are requested.
+    ([(8, STACK + ABC)], "--counters",
+     f"{MAIL}counters {COUNTED}\nturns=100 state=Running read=21 written=16\n", [STRT, ack(1)]),
+    # One message is sent once the station runs, and only once.
+    ([(8, STACK), (13, ack(1))], "--send 616263",
+     f"{RUNS}notice Acknowledged 1\nturns=100 state=Running read=16 written=21\n", [STRT, ABC]),
+    # The peer restarts: the station halts, or restarts too.
+    ([(8, STACK), (8, STRT)], "",
+     f"{RUNS}notice PeerRestarted\nturns=100 state=Halted read=16 written=16\n", [STRT, ack(0)]),
+    ([(8, STACK), (8, STRT)], "--restart",
+     f"{RUNS}notice Restarted 0\nturns=100 state=AStart read=16 written=24\n",
+     [STRT, ack(0), STACK]),
+])
+def test_reports(steps, options, report, sent):
+    assert served(steps, *options.split()) == (report, "", 0, b"".join(sent))
+
+
+def test_no_turns():
+    report = "turns=0 state=IStart read=0 written=0\n"
+    assert served([], turns=0) == (report, "", 0, b"")
+
+
+def test_line_that_ends():
+    """Then there is no last line."""
+    ends = served([(8, STACK), (8, None)], turns=ENDLESS)
+    assert ends == (RUNS, "ddcmp: ended\n", 3, STRT + ack(0))
+
+
+def limited(size, path, *steps, **how):
+    """How a station ends whose report may have so many bytes, and the report."""
+    with open(path, "wb") as out:
+        ends = served(steps, stdout=out, restore_signals=False, preexec_fn=lambda:
+                      resource.setrlimit(resource.RLIMIT_FSIZE, (size, size)), **how)
+    return ends[1:3], path.read_text()
+
+
+@pytest.mark.parametrize("size", [0, 15, 31, 43, 60])
+def test_report_that_fails(size, tmp_path):
+    """It is a fault after all turns, and nothing is written after the write that failed."""
+    ends, report = limited(size, tmp_path / "out", (8, STACK + ABC))
+    whole = f"{MAIL}turns=100 state=Running read=21 written=16\n"
+    assert (ends, report) == (("ddcmp: write\n", 3), whole[:size])
+
+
+@pytest.mark.parametrize("refused, fault", [
+    ("recvfrom:error=ECONNRESET", "read"), ("sendto:error=EPIPE", "write"), ("", "ended")])
+@pytest.mark.parametrize("size", [0, 1000])
+def test_line_that_fails(refused, fault, size, tmp_path):
+    """It is the fault that is reported, also if the report failed."""
+    before = refusing(refused) if refused else []
+    steps = [] if refused else [(8, STACK + ABC), (8, None)]
+    ends, report = limited(size, tmp_path / "out", *steps, before=before)
+    assert ends == (f"ddcmp: {fault}\n", 3)
+    assert report == ("" if refused or not size else MAIL)

@@ -101,6 +101,7 @@ def test_tap_to_a_side_that_takes_nothing():
                  f"127.0.0.1:{it.getsockname()[1]}"]
         tap = Process([*PROGRAM, *words])
         caller = connected(port)
-        _side = it.accept()[0]
+        side = it.accept()[0]
     flood(caller, data(b"x" * 1000, 1) * 50)
     uses_little(tap)
+    side.close()

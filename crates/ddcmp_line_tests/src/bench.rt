@@ -1,7 +1,7 @@
 //! A pair for which actions are run one after another and their replies checked.
 use ddcmp_pair::{
     Bytes, Config, End, Event, Memory, Notice, Pair, PairRefusal, Recovered, Reply, RunRefusal,
-    SendRefusal, Seq, Settled, Station, run,
+    Seq, Settled, Station, run,
 };
 use std::alloc::{AllocError, Global};
 use std::process::Abort;
@@ -63,7 +63,6 @@ pub enum Action {
 pub enum Answer {
     Started(u8),
     Accepted(u8),
-    WindowFull,
     Wrote(&'static [u8]),
     Idle,
     Notices(&'static [Notice]),
@@ -124,7 +123,6 @@ pub fn is_answer(reply: &Reply, answer: Answer) -> bool {
     match (reply, answer) {
         (Reply::Started(told), Answer::Started(dropped)) => *told == dropped,
         (Reply::Accepted(Seq(told)), Answer::Accepted(number)) => *told == number,
-        (Reply::SendRefused(told), Answer::WindowFull) => *told == SendRefusal::WindowFull,
         (Reply::Wrote(told), Answer::Wrote(bytes)) => told.as_slice() == bytes,
         (Reply::Idle, Answer::Idle) => true,
         (Reply::Notices(told), Answer::Notices(notices)) => told.as_slice() == notices,
@@ -194,10 +192,6 @@ impl Bench {
     /// Returns whether the line is honest and the run clean.
     pub fn premises(&self) -> (bool, bool) {
         (self.pair.honest(), self.pair.clean())
-    }
-
-    pub fn is_ready(&self) -> bool {
-        self.pair.ready()
     }
 
     pub fn is_done(&self) -> bool {
@@ -274,44 +268,6 @@ impl Bench {
             Ok(reply) => is_answer(&reply, answer),
             Err(_memory) => false,
         }
-    }
-
-    /// Returns the bytes of an end's next frame, if it has one.
-    pub fn polls(&mut self, from: End) -> Option<Bytes> {
-        match self.step(Event::Poll(from)) {
-            Ok(Reply::Wrote(bytes)) => Some(bytes),
-            _ => None,
-        }
-    }
-
-    /// Returns whether an end's next frame arrives whole at the other, which returns this notice.
-    pub fn crosses(&mut self, from: End, notice: &'static [Notice]) -> bool {
-        match self.polls(from) {
-            Some(frame) => {
-                let event = Event::Arrive(from.other(), frame);
-                self.is_answered(event, Answer::Notices(notice))
-            }
-            None => false,
-        }
-    }
-
-    /// Sends message `number` from A to B, where it is taken and acknowledged.
-    pub fn carries(&mut self, rt: &(impl Abort + AllocGlobal), number: u16) {
-        let accepted = Answer::Accepted((number % 256) as u8);
-        let taken = Answer::Took(b"a");
-        assert!(rt;
-            self.is_played(rt.alloc(), Action::Send(End::A, b"a"), accepted),
-            "{number}"
-        );
-        assert!(rt; self.crosses(End::A, &[Notice::HandedUp]), "{number}");
-        assert!(rt;
-            self.is_played(rt.alloc(), Action::Take(End::B), taken),
-            "{number}"
-        );
-        assert!(rt;
-            self.crosses(End::B, &[Notice::Acknowledged(1)]),
-            "{number}"
-        );
     }
 
     /// Checks that on an honest line A sent this message this many times, and each was delivered at

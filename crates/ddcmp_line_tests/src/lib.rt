@@ -1,6 +1,6 @@
-//! Tests of two ends from outside: of `ddcmp_pair` with events, of pictures on a paper of their
-//! own, of everything that plays or serves with failing allocations, and of hostile use: damage,
-//! cuts, junk and loss, over finished calls. Worked examples are in `worked`.
+//! Tests of two ends from outside, of what a script of `ddcmp simulate` can't show; the rest is in
+//! `tests/`. Of `ddcmp_pair` with events: sizes, runs, damage, loss and ends of different sizes.
+//! Of everything that plays or serves: failing allocations, and the texts of faults.
 #![tactic(auto)]
 
 #[cfg(test)]
@@ -12,16 +12,12 @@ mod damage;
 #[cfg(test)]
 mod link;
 #[cfg(test)]
-mod marks;
-#[cfg(test)]
-mod order;
-#[cfg(test)]
 mod readers;
 #[cfg(test)]
 mod refused;
 #[cfg(test)]
-mod rows;
-#[cfg(test)]
 mod same;
 #[cfg(test)]
 mod scripts;
+#[cfg(test)]
+mod texts;

@@ -52,6 +52,3 @@ pub fn check_bytes(check: u16) -> [u8; 2]
     LittleEndian::write_u16(&mut bytes, check);
     bytes
 }
-
-#[cfg(test)]
-mod tests;

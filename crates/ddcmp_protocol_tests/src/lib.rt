@@ -1,5 +1,5 @@
-//! Tests of the protocol from outside: of frames, windows and a core, and of a station by its
-//! calls, driven, served, and as a link; of the sockets of `ddcmp_net` over the network of this
+//! Tests of the protocol from outside: of numbers, frames, windows and a core, and of a station by
+//! its calls, driven, and as a link; of the sockets of `ddcmp_net` over the network of this
 //! machine, and of the time that is passed to a station.
 #![tactic(auto)]
 
@@ -14,9 +14,9 @@ mod frames;
 #[cfg(test)]
 mod links;
 #[cfg(test)]
-mod same;
+mod numbers;
 #[cfg(test)]
-mod served;
+mod same;
 #[cfg(test)]
 mod sockets;
 #[cfg(test)]

@@ -250,16 +250,21 @@ fn cross(
 
 #[test]
 fn pieces_cross(rt: HostRuntime) -> Result<(), Fail> {
-    cross(&rt, End::A, 0)?;
-    cross(&rt, End::B, 1)?;
-    cross(&rt, End::A, 1023)?;
-    cross(&rt, End::B, 1024)?;
-    cross(&rt, End::B, 1025)?;
-    cross(&rt, End::A, 2047)?;
-    cross(&rt, End::A, 2048)?;
-    cross(&rt, End::B, 2049)?;
-    cross(&rt, End::A, 16393)?;
-    cross(&rt, End::B, 16393)
+    for (from, length) in [
+        (End::A, 0),
+        (End::B, 1),
+        (End::A, 1023),
+        (End::B, 1024),
+        (End::B, 1025),
+        (End::A, 2047),
+        (End::A, 2048),
+        (End::B, 2049),
+        (End::A, 16393),
+        (End::B, 16393),
+    ] {
+        cross(&rt, from, length)?;
+    }
+    Ok(())
 }
 
 /// What is returned is what was received over the connection, not what was passed in.

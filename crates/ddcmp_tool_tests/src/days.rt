@@ -1,5 +1,9 @@
 //! Sessions over many days, by a clock of the test's own, beyond the overflow of 32 bits of
 //! milliseconds: each wakes for its timers, its reports and its end, and never in between.
+use crate::calls::{
+    connects, delivers, end_of, ends_input, open_fails, pass_time, reads, sends, wake, wakes_at,
+    wakes_without_line_at,
+};
 use ddcmp_session::{EndReason, LineKind, MessageForm, Options, Session};
 use ddcmp_station::Config;
 use std::process::Abort;
@@ -58,7 +62,7 @@ fn session(rt: &(impl Abort + AllocGlobal), options: Options) -> Session {
 
 fn begun(rt: &(impl Abort + AllocGlobal), options: Options) -> Session {
     let mut session = session(rt, options);
-    assert!(rt; session.connected());
+    assert!(rt; connects(&mut session));
     session
 }
 
@@ -88,23 +92,21 @@ fn sleeps(rt: &(impl Abort + AllocGlobal), options: Options) -> (u64, u64, u64) 
     let period_ms = (options.report as u64).saturating_mul(1000);
     let timer_ms = options.timer_ms as u64;
     for _wake in 0..1_000_000u32 {
-        session.handle_timeout(now);
+        wake(&mut session, now);
         let has_reported = takes_report(rt, &mut session);
         assert!(rt; has_reported == is_due(now, period_ms));
         reports = reports.saturating_add(has_reported as u64);
-        if session.end().is_some() {
+        if end_of(&session).is_some() {
             break;
         }
-        session.fill();
-        let n = session.to_line().len();
+        let n = sends(&mut session);
         assert!(rt; (n > 0) == (now.checked_rem(timer_ms) == Some(0)));
-        session.line_took(n);
-        session.handle_timeout(now);
-        assert!(rt; session.wakes_at() > now);
-        now = session.wakes_at();
+        wake(&mut session, now);
+        assert!(rt; wakes_at(&session) > now);
+        now = wakes_at(&session);
         wakes = wakes.saturating_add(1);
     }
-    assert!(rt; session.end() == Some(EndReason::Time));
+    assert!(rt; end_of(&session) == Some(EndReason::Time));
     (wakes, reports, now)
 }
 
@@ -120,6 +122,15 @@ fn a_day_of_silence(rt: HostRuntime) {
 #[test]
 fn sixty_days_of_silence(rt: HostRuntime) {
     assert!(&rt; sleeps(&rt, options(MINUTE_MS, SIXTY, DAY)) == (86_400, 60, SIXTY_MS));
+}
+
+fn opens_at(session: &Session) -> u64 {
+    session.opens_at()
+}
+
+/// Returns whether the run ends at this moment.
+fn is_over(session: &Session, now: u64) -> bool {
+    session.run_ends_at() <= now
 }
 
 /// Returns when the attempt of this number is made to open a line that never opens, in
@@ -141,20 +152,22 @@ fn sixty_days_without_a_line(rt: HostRuntime) {
     let mut session = session(rt, options(MINUTE_MS, SIXTY, 3600));
     let (mut wakes, mut reports, mut tries, mut now) = (0u64, 0u64, 0u64, 0u64);
     for _wake in 0..1_000_000u32 {
-        session.pass_time(now);
+        pass_time(&mut session, now);
         let has_reported = takes_report(rt, &mut session);
         assert!(rt; has_reported == is_due(now, 3_600_000));
         reports = reports.saturating_add(has_reported as u64);
-        if session.run_ends_at() <= now {
+        if is_over(&session, now) {
             break;
         }
-        assert!(rt; (session.opens_at() <= now) == (tried_at(tries) == now));
-        if session.opens_at() <= now {
-            let _seconds = session.open_failed(now);
+        let is_due = opens_at(&session) <= now;
+        assert!(rt; is_due == (tried_at(tries) == now));
+        if is_due {
+            let _opening = open_fails(&mut session, now);
             tries = tries.saturating_add(1);
         }
-        assert!(rt; session.wakes_without_line_at(now) > now);
-        now = session.wakes_without_line_at(now);
+        let next = wakes_without_line_at(&session, now);
+        assert!(rt; next > now);
+        now = next;
         wakes = wakes.saturating_add(1);
     }
     assert!(rt; (tries, reports, now) == (172_804, 1440, SIXTY_MS));
@@ -168,7 +181,7 @@ fn passes(from: &mut Session, to: &mut Session) -> bool {
     from.fill();
     let used = to.received(from.to_line());
     from.line_took(used);
-    let _delivered = to.deliver();
+    let _delivered = delivers(to);
     used > 0
 }
 
@@ -214,17 +227,17 @@ impl Two {
 
     /// Wakes both ends at this moment, and passes what they send.
     fn wake(&mut self, now: u64) {
-        self.a.handle_timeout(now);
-        self.b.handle_timeout(now);
+        wake(&mut self.a, now);
+        wake(&mut self.b, now);
         settles(&mut self.a, &mut self.b);
-        self.a.handle_timeout(now);
-        self.b.handle_timeout(now);
+        wake(&mut self.a, now);
+        wake(&mut self.b, now);
         self.mails = self.mails.saturating_add(takes_mails(&mut self.b));
     }
 
     /// Returns the next moment at which one of them wakes.
     fn wakes_at(&self) -> u64 {
-        self.a.wakes_at().min(self.b.wakes_at())
+        wakes_at(&self.a).min(wakes_at(&self.b))
     }
 
     /// Checks that both report at this moment, or neither does.
@@ -254,7 +267,7 @@ fn sixty_days_of_little_traffic(rt: HostRuntime) {
         two.wake(now);
         two.report_if(rt, is_due(now, DAY_MS));
         if now == next {
-            assert!(rt; two.a.input_read(b"6162\n") == 5);
+            assert!(rt; reads(&mut two.a, b"6162\n") == 5);
             next = next.saturating_add(every_ms);
             sent = sent.saturating_add(1);
             two.wake(now);
@@ -276,11 +289,8 @@ fn loses_one(rt: &impl Abort, two: &mut Two) {
     let before = WRAP_MS - 1000;
     assert!(rt; before < two.wakes_at());
     two.wake(before);
-    assert!(rt; two.a.input_read(b"63\n") == 3);
-    two.a.fill();
-    let n = two.a.to_line().len();
-    assert!(rt; n > 0);
-    two.a.line_took(n);
+    assert!(rt; reads(&mut two.a, b"63\n") == 3);
+    assert!(rt; sends(&mut two.a) > 0);
     two.wake(before);
     assert!(rt; two.wakes_at() == before + TIMER_MS);
     two.wake(before + TIMER_MS);
@@ -288,17 +298,18 @@ fn loses_one(rt: &impl Abort, two: &mut Two) {
 
 /// Ends both inputs after a last message.
 fn ends(rt: &impl Abort, two: &mut Two, now: u64) {
-    assert!(rt; two.a.input_read(b"64\n") == 3);
+    assert!(rt; reads(&mut two.a, b"64\n") == 3);
     two.wake(now);
-    two.a.input_ended();
-    two.b.input_ended();
+    ends_input(&mut two.a);
+    ends_input(&mut two.b);
     two.wake(now);
-    assert!(rt; two.a.end() == Some(EndReason::Done));
-    assert!(rt; (two.b.end(), two.b.wakes_at()) == (None, now.saturating_add(500)));
-    two.b.handle_timeout(now.saturating_add(499));
-    assert!(rt; two.b.end().is_none());
-    two.b.handle_timeout(now.saturating_add(500));
-    assert!(rt; two.b.end() == Some(EndReason::Done));
+    assert!(rt; end_of(&two.a) == Some(EndReason::Done));
+    assert!(rt; end_of(&two.b).is_none());
+    assert!(rt; wakes_at(&two.b) == now.saturating_add(500));
+    wake(&mut two.b, now.saturating_add(499));
+    assert!(rt; end_of(&two.b).is_none());
+    wake(&mut two.b, now.saturating_add(500));
+    assert!(rt; end_of(&two.b) == Some(EndReason::Done));
 }
 
 /// A message that the peer refuses is retransmitted after each pause: these double from 10 ms on,
@@ -312,11 +323,11 @@ fn thirty_days_of_refusals(rt: HostRuntime) {
     short.config.max = 1;
     short.timer_ms = 1;
     let mut two = Two::new(rt, long, short);
-    assert!(rt; two.a.input_read(b"6162\n") == 5);
+    assert!(rt; reads(&mut two.a, b"6162\n") == 5);
     let (mut wakes, mut now) = (0u64, 0u64);
     for _wake in 0..1_000_000u32 {
         two.wake(now);
-        if two.a.end().is_some() {
+        if end_of(&two.a).is_some() {
             break;
         }
         now = two.wakes_at();
@@ -325,5 +336,6 @@ fn thirty_days_of_refusals(rt: HostRuntime) {
     // There are 13 pauses that double and 43,198 or 43,199 of a minute, with two wakes for each.
     assert!(rt; 86_400 < wakes && wakes < 86_440);
     assert!(rt; (now, two.mails) == (SIXTY_MS / 2, 0));
-    assert!(rt; (two.a.end(), two.b.end()) == (Some(EndReason::Time), Some(EndReason::Time)));
+    assert!(rt; end_of(&two.a) == Some(EndReason::Time));
+    assert!(rt; end_of(&two.b) == Some(EndReason::Time));
 }

@@ -1,29 +1,21 @@
-//! Tests of the tools from outside. Of `ddcmp_explain`: its output at every cut, size and fault,
-//! over streams, for dumps, logs and detected forms. Of `ddcmp_tap`: what a direction forwards, its
-//! room and its text, and two captured directions as a ladder. Of `ddcmp_bridge`: its loop over
-//! lines in memory. Of `ddcmp_session`: two sessions over bad lines, a session over many days, its
-//! loop over devices, what contracts know of these, its reports, and a clock of the day that is
-//! set. Of sessions and taps: failing allocations.
+//! Tests of the tools from outside, of what the program can't show; the rest is in `tests/`. Of
+//! `ddcmp_explain` and `ddcmp_tap`: a reader for every size, and the room of a direction. Of
+//! `ddcmp_bridge`: its loop over lines in memory. Of `ddcmp_session`: two sessions over bad lines,
+//! a session over many days, its loop over devices, what contracts know of these, its reports, and
+//! a clock of the day that is set. Of sessions and taps: failing allocations. Of all: the texts of
+//! faults.
 #![tactic(auto)]
 
 #[cfg(test)]
-mod captures;
+mod calls;
 #[cfg(test)]
 mod clocks;
 #[cfg(test)]
 mod days;
 #[cfg(test)]
-mod detected;
-#[cfg(test)]
 mod directions;
 #[cfg(test)]
-mod dumps;
-#[cfg(test)]
-mod explains;
-#[cfg(test)]
 mod joined;
-#[cfg(test)]
-mod logs;
 #[cfg(test)]
 mod loops;
 #[cfg(test)]
@@ -31,12 +23,10 @@ mod refused;
 #[cfg(test)]
 mod reports;
 #[cfg(test)]
-mod same;
-#[cfg(test)]
 mod sessions;
 #[cfg(test)]
 mod sizes;
 #[cfg(test)]
-mod streams;
+mod texts;
 #[cfg(test)]
 mod told;

@@ -1,6 +1,7 @@
 //! The loop of a session over devices in memory, which move random numbers of bytes at a time.
 ghost use Rattle.std.specs.Prelude.{◌≤◌, length};
 
+use crate::calls::{connects, delivers, ends_input, ends_line, hears, reads, wake};
 use crate::sessions::{append, messages, options, session};
 use ddcmp_io::Got;
 use ddcmp_session::{
@@ -105,26 +106,36 @@ impl Desk {
 
     /// Runs the other end.
     fn peer_turn(&mut self) {
-        self.peer.handle_timeout(self.now);
+        wake(&mut self.peer, self.now);
         if self.peer_input.rest().is_empty() {
-            self.peer.input_ended();
+            ends_input(&mut self.peer);
         } else {
-            let used = self.peer.input_read(self.peer_input.rest());
+            let used = reads(&mut self.peer, self.peer_input.rest());
             self.peer_input.at = self.peer_input.at.saturating_add(used);
         }
-        let used = self.peer.received(self.to_line.rest());
+        let used = hears(&mut self.peer, self.to_line.rest());
         self.to_line.at = self.to_line.at.saturating_add(used);
         for _message in 0..u64::MAX {
-            if !self.peer.deliver() {
+            if !delivers(&mut self.peer) {
                 break;
             }
         }
-        self.peer_output.take(self.peer.to_output());
-        self.peer.output_took(self.peer.to_output().len());
-        self.peer.fill();
-        self.from_line.take(self.peer.to_line());
-        self.peer.line_took(self.peer.to_line().len());
+        writes_output(&mut self.peer, &mut self.peer_output);
+        writes_line(&mut self.peer, &mut self.from_line);
     }
+}
+
+/// Moves what is pending for the output.
+fn writes_output(session: &mut Session, to: &mut Way) {
+    to.take(session.to_output());
+    session.output_took(session.to_output().len());
+}
+
+/// Moves what is pending for the line.
+fn writes_line(session: &mut Session, to: &mut Way) {
+    session.fill();
+    to.take(session.to_line());
+    session.line_took(session.to_line().len());
 }
 
 impl Devices for Desk {
@@ -141,7 +152,7 @@ impl Devices for Desk {
             _ => {
                 self.from_line.clear();
                 self.to_line.clear();
-                self.is_open = self.peer.connected();
+                self.is_open = connects(&mut self.peer);
                 Ok(self.is_open)
             }
         }
@@ -151,7 +162,7 @@ impl Devices for Desk {
 
     fn close_line(&mut self) {
         if self.is_open {
-            let _has_room = self.peer.line_ended();
+            ends_line(&mut self.peer);
             self.is_open = false;
         }
     }

@@ -1,5 +1,9 @@
 //! The reports of a session, by a clock of the test's own: when they are written, the time of day,
 //! and reports on lines.
+use crate::calls::{
+    connects, drops_errors, ends_input, ends_line, fill, has_errors, open_fails, pass_time, reads,
+    wakes_without_line_at,
+};
 use ddcmp_session::{Down, LineKind, MessageForm, Options, Session};
 use ddcmp_station::Config;
 use std::fmt::InlineText;
@@ -63,12 +67,12 @@ fn carry(from: &mut Session, to: &mut Session) {
 /// Has a session run on a line with another one.
 fn run(rt: &(impl Abort + AllocGlobal), one: &mut Session) {
     let mut other = session(rt, true);
-    assert!(rt; one.connected() && other.connected());
+    assert!(rt; connects(one) && connects(&mut other));
     for _turn in 0..4u8 {
         carry(one, &mut other);
         carry(&mut other, one);
     }
-    assert!(rt; one.has_run() && one.to_errors().is_empty());
+    assert!(rt; one.has_run() && has_errors(one, b""));
 }
 
 fn running(rt: &(impl Abort + AllocGlobal), stay: bool) -> Session {
@@ -93,15 +97,15 @@ fn tells(rt: &impl Abort, session: &mut Session, begins: &str, ends: &str) {
 #[test]
 fn whole_periods_apart(rt: HostRuntime) {
     let mut session = session(&rt, false);
-    assert!(&rt; session.wakes_without_line_at(0) == 1000);
-    session.pass_time(2500);
+    assert!(&rt; wakes_without_line_at(&session, 0) == 1000);
+    pass_time(&mut session, 2500);
     let first = "2001-09-09T01:46:42.500Z report state=Halted read=0 written=0 sent=0 \
         acknowledged=0 handed=0 lost=0 counters ";
     tells(&rt, &mut session, first, "\n");
-    assert!(&rt; session.wakes_without_line_at(2500) == 3000);
-    session.pass_time(2999);
-    assert!(&rt; session.to_errors().is_empty());
-    session.pass_time(3000);
+    assert!(&rt; wakes_without_line_at(&session, 2500) == 3000);
+    pass_time(&mut session, 2999);
+    assert!(&rt; has_errors(&session, b""));
+    pass_time(&mut session, 3000);
     tells(&rt, &mut session, "2001-09-09T01:46:43.000Z report ", "\n");
 }
 
@@ -136,11 +140,24 @@ fn forms(rt: HostRuntime) {
         };
         let mut session = session_with(&rt, options);
         run(&rt, &mut session);
-        assert!(&rt; session.input_read(b"61\n6262\n") == 3);
-        assert!(&rt; session.input_read(b"6262\n") == 5);
-        session.fill();
-        session.pass_time(1250);
-        assert!(&rt; session.to_errors() == report.as_bytes());
+        assert!(&rt; reads(&mut session, b"61\n6262\n") == 3);
+        assert!(&rt; reads(&mut session, b"6262\n") == 5);
+        fill(&mut session);
+        pass_time(&mut session, 1250);
+        assert!(&rt; has_errors(&session, report.as_bytes()));
+    }
+}
+
+/// Ends it while it still has this input.
+fn closes(session: &mut Session, input: &[u8]) {
+    let _done = session.close(input, true);
+}
+
+/// Returns whether what is pending for standard error contains this.
+fn tells_of(session: &Session, what: &str) -> bool {
+    match str::from_utf8(session.to_errors()) {
+        Ok(text) => text.contains(what),
+        Err(_none) => false,
     }
 }
 
@@ -148,34 +165,38 @@ fn forms(rt: HostRuntime) {
 fn lost_messages(rt: HostRuntime) {
     for is_closed in [false, true] {
         let mut session = running(&rt, false);
-        assert!(&rt; session.input_read(b"61\n") == 3);
+        assert!(&rt; reads(&mut session, b"61\n") == 3);
         let lost = if is_closed {
-            session.close(b"62\n?\n63\n", true);
+            closes(&mut session, b"62\n?\n63\n");
             " sent=1 acknowledged=0 handed=0 lost=3 counters "
         } else {
-            session.line_ended();
+            ends_line(&mut session);
             " sent=1 acknowledged=0 handed=0 lost=1 counters "
         };
-        assert!(&rt; !session.was_refused() && session.to_errors().is_empty());
-        session.pass_time(1000);
-        let Ok(text) = str::from_utf8(session.to_errors()) else {
-            panic!(&rt; "no text");
-        };
-        assert!(&rt; text.contains(lost));
+        assert!(&rt; !session.was_refused() && has_errors(&session, b""));
+        pass_time(&mut session, 1000);
+        assert!(&rt; tells_of(&session, lost));
     }
+}
+
+fn writes_line(session: &mut Session) {
+    session.report(&InlineText::of("this is a line of standard error"));
 }
 
 #[test]
 fn lines_left_out(rt: HostRuntime) {
     let mut session = session(&rt, false);
-    session.pass_time(250);
+    pass_time(&mut session, 250);
     for _line in 0..5000u32 {
-        session.report(&InlineText::of("this is a line of standard error"));
+        writes_line(&mut session);
     }
-    let n = session.to_errors().len();
-    session.errors_took(n);
+    drops_errors(&mut session);
     let begins = "2001-09-09T01:46:40.250Z ddcmp: ";
     tells(&rt, &mut session, begins, " lines left out\n");
+}
+
+fn reports_down(session: &mut Session) {
+    session.report_down(Down::Closed);
 }
 
 /// Why a line is down when all is delivered is reported only with `stay`.
@@ -183,27 +204,31 @@ fn lines_left_out(rt: HostRuntime) {
 fn lines_down(rt: HostRuntime) {
     for stay in [false, true] {
         let mut session = running(&rt, stay);
-        session.input_ended();
-        session.report_down(Down::Closed);
+        ends_input(&mut session);
+        reports_down(&mut session);
         if stay {
             let line = "2001-09-09T01:46:40.000Z line down: closed by the other end\n";
             tells(&rt, &mut session, line, "");
         } else {
-            assert!(&rt; session.to_errors().is_empty());
+            assert!(&rt; has_errors(&session, b""));
         }
     }
+}
+
+fn pauses_at(session: &mut Session, now: u64) -> Option<u64> {
+    session.pause_after_line(now)
 }
 
 /// After a station has run the first pause is short again; otherwise pauses double.
 #[test]
 fn pauses(rt: HostRuntime) {
     let mut session = session(&rt, false);
-    assert!(&rt; session.open_failed(20) == 1 && session.opens_at() == 1020);
-    assert!(&rt; session.open_failed(30) == 2 && session.opens_at() == 2030);
+    assert!(&rt; open_fails(&mut session, 20) == (1, 1020));
+    assert!(&rt; open_fails(&mut session, 30) == (2, 2030));
     run(&rt, &mut session);
-    session.line_ended();
-    assert!(&rt; session.pause_after_line(40).is_none());
-    assert!(&rt; session.open_failed(50) == 1 && session.opens_at() == 1050);
-    assert!(&rt; session.connected());
-    assert!(&rt; session.pause_after_line(60) == Some(2));
+    ends_line(&mut session);
+    assert!(&rt; pauses_at(&mut session, 40).is_none());
+    assert!(&rt; open_fails(&mut session, 50) == (1, 1050));
+    assert!(&rt; connects(&mut session));
+    assert!(&rt; pauses_at(&mut session, 60) == Some(2));
 }

@@ -1,4 +1,5 @@
 //! Two sessions without I/O over lines that lose, damage and cut, by a clock of the test's own.
+use crate::calls::{connects, delivers, end_of, ends_input, ends_line, lost, reads, wake};
 use ddcmp_session::{EndReason, LineKind, MessageForm, Options, Session};
 use ddcmp_station::Config;
 use std::process::Abort;
@@ -37,7 +38,7 @@ pub(crate) fn session(rt: &(impl Abort + AllocGlobal), options: Options) -> Sess
     let Ok(mut session) = Session::new(rt.alloc(), options, LineKind::Connect) else {
         panic!(rt; "no memory");
     };
-    assert!(rt; session.connected());
+    assert!(rt; connects(&mut session));
     session
 }
 
@@ -86,11 +87,11 @@ impl Side {
     fn types(&mut self, draws: &mut Draws) {
         let rest = self.input.as_slice().get(self.at..).unwrap_or(&[]);
         if rest.is_empty() {
-            self.session.input_ended();
+            ends_input(&mut self.session);
             return;
         }
         let piece = &rest[..rest.len().min(draws.below(4000))];
-        self.at = self.at.saturating_add(self.session.input_read(piece));
+        self.at = self.at.saturating_add(reads(&mut self.session, piece));
     }
 
     /// Passes received bytes to the session, in a chunk of random size.
@@ -107,7 +108,7 @@ impl Side {
     /// Writes some of the output.
     fn writes(&mut self, rt: &impl Abort, draws: &mut Draws) {
         for _message in 0..u64::MAX {
-            if !self.session.deliver() {
+            if !delivers(&mut self.session) {
                 break;
             }
         }
@@ -139,8 +140,8 @@ impl Side {
 
     /// Runs what an end does between two waits.
     fn turn(&mut self, rt: &impl Abort, draws: &mut Draws, now: u64, to: &mut Vec<u8>) {
-        self.session.handle_timeout(now);
-        self.end = self.session.end();
+        wake(&mut self.session, now);
+        self.end = end_of(&self.session);
         if self.end.is_none() {
             self.types(draws);
             self.sends(rt, draws, to);
@@ -169,7 +170,7 @@ fn exchanges(rt: &(impl Abort + AllocGlobal), seed: u64) {
     assert!(rt; (a.end, b.end) == (Some(EndReason::Done), Some(EndReason::Done)));
     assert!(rt; a.output.as_slice() == b.input.as_slice());
     assert!(rt; b.output.as_slice() == a.input.as_slice());
-    assert!(rt; (a.session.lost(), b.session.lost()) == (0, 0));
+    assert!(rt; lost(&a.session) == 0 && lost(&b.session) == 0);
 }
 
 #[test]
@@ -202,11 +203,11 @@ fn a_line_that_has_not_ended_is_counted(rt: HostRuntime) {
     let mut a = session(&rt, options(0, 86_400));
     let mut b = session(&rt, options(0, 86_400));
     start(&mut a, &mut b);
-    assert!(rt; a.input_read(&[0, 1, 7]) == 3);
-    assert!(rt; a.connected());
-    assert!(rt; a.lost() == 1);
-    let _has_room = a.line_ended();
-    assert!(rt; a.lost() == 1);
+    assert!(rt; reads(&mut a, &[0, 1, 7]) == 3);
+    assert!(rt; connects(&mut a));
+    assert!(rt; lost(&a) == 1);
+    ends_line(&mut a);
+    assert!(rt; lost(&a) == 1);
 }
 
 /// If a received message keeps it from starting, it counts that when it starts.
@@ -215,12 +216,12 @@ fn a_refused_start_counts_later(rt: HostRuntime) {
     let mut a = session(&rt, options(0, 86_400));
     let mut b = session(&rt, options(0, 86_400));
     start(&mut a, &mut b);
-    assert!(rt; b.input_read(&[0, 1, 9]) == 3);
+    assert!(rt; reads(&mut b, &[0, 1, 9]) == 3);
     carries(&mut b, &mut a);
-    assert!(rt; a.input_read(&[0, 1, 7]) == 3);
-    assert!(rt; !a.connected());
-    assert!(rt; a.lost() == 0);
-    assert!(rt; a.deliver());
-    assert!(rt; a.connected());
-    assert!(rt; a.lost() == 1);
+    assert!(rt; reads(&mut a, &[0, 1, 7]) == 3);
+    assert!(rt; !connects(&mut a));
+    assert!(rt; lost(&a) == 0);
+    assert!(rt; delivers(&mut a));
+    assert!(rt; connects(&mut a));
+    assert!(rt; lost(&a) == 1);
 }

@@ -5,6 +5,7 @@
 
 mod commands;
 mod devices;
+mod endings;
 mod pairs;
 mod pictures;
 mod scripts;
@@ -27,6 +28,7 @@ fn run(rt: &HostRuntime, part: &str, head: &str, lines: &str) -> io::Result<()> 
         "scripts" => scripts::run(rt, head, lines),
         "pictures" => pictures::run(rt, head, lines),
         "devices" => devices::run(rt, lines),
+        "endings" => endings::run(rt, head),
         _ => println!(rt; "no part"),
     }
 }

@@ -1,4 +1,4 @@
-//! A served station with failing allocations.
+//! A served station with failing allocations, whose writes take a byte each.
 use crate::same::is;
 use ddcmp_frame::failing::{BoundedSink, Pieces};
 use ddcmp_net::{ServeFault, serve};
@@ -15,6 +15,8 @@ impl Clock for Standing {
         0
     }
 }
+
+const STRT: &[u8] = &[0x05, 0x06, 0xC0, 0x00, 0x00, 0x01, 0x75, 0x95];
 
 /// STACK, and then data message 1, `abc`.
 fn stack_and_data() -> &'static [u8] {
@@ -38,8 +40,8 @@ struct ServeOutcome {
 
 fn serves(alloc: Global) -> ServeOutcome {
     let mut reader = Pieces::of(stack_and_data());
-    let mut writer = BoundedSink::<256>::new();
-    let mut report = BoundedSink::<256>::new();
+    let mut writer = BoundedSink::<256>::new().at_most(1);
+    let mut report = BoundedSink::<256>::new().at_most(1);
     let answer = serve(
         alloc,
         &mut reader,
@@ -74,6 +76,7 @@ fn is_refused(rt: &(impl Abort + AllocGlobal)) -> bool {
     }
     is(rt, &told.answer, &Ok(()));
     is(rt, told.report.bytes(), reported());
+    assert!(rt; told.writer.bytes() == STRT);
     false
 }
 

@@ -2,7 +2,7 @@
 use crate::frames::calls::{
     counts, counts_plain, data, data_plain, is, plain_of, push, push_all, push_plain, reader_of,
 };
-use crate::frames::vectors::{controls, messages};
+use crate::frames::vectors::frames;
 use ddcmp_frame::plain::PlainReader;
 use ddcmp_frame::{Item, Reader};
 use std::alloc::{AllocError, Global};
@@ -16,10 +16,7 @@ const MAXIMA: [u16; 4] = [16383, 3, 2, 1];
 /// The frames of the published layouts, one after another.
 fn published(alloc: Global) -> Result<Vec<u8>, AllocError> {
     let mut text = Vec::new(alloc);
-    for (_kind, _sub, _flags, _resp, _num, bytes) in controls() {
-        text.extend_from_slice(bytes)?;
-    }
-    for bytes in messages() {
+    for bytes in frames() {
         text.extend_from_slice(bytes)?;
     }
     Ok(text)

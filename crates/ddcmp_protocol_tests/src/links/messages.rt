@@ -1,6 +1,17 @@
-//! Messages of an input, in lines and in binary, pushed in one chunk and byte by byte.
+//! Messages of an input, in lines and in binary, pushed in chunks and byte by byte.
 use ddcmp_input::{Entry, HexLines, Lengths, PushedEntry};
 use std::process::Abort;
+
+/// A call, with its argument and its expected result.
+#[derive(Clone, Copy)]
+enum Row {
+    /// A chunk, how many of its bytes are used, and what they complete.
+    Chunk(&'static [u8], usize, Option<Entry>),
+    Byte(u8, Option<Entry>),
+    Message(&'static [u8]),
+    Number(u64),
+    Unfinished(bool),
+}
 
 fn lines(rt: &(impl Abort + AllocGlobal)) -> HexLines {
     match HexLines::new(rt.alloc(), 3) {
@@ -16,101 +27,134 @@ fn lengths(rt: &(impl Abort + AllocGlobal)) -> Lengths {
     }
 }
 
-/// Returns what one line completes.
-fn entry_of(rt: &(impl Abort + AllocGlobal), line: &[u8]) -> Option<Entry> {
+/// Returns whether lines do what the row expects.
+fn is_line(lines: &mut HexLines, row: Row) -> bool {
+    match row {
+        Row::Chunk(piece, used, entry) => lines.push_all(piece) == PushedEntry { used, entry },
+        Row::Byte(byte, entry) => lines.push(byte) == entry,
+        Row::Message(message) => lines.message() == message,
+        Row::Number(number) => lines.number() == number,
+        Row::Unfinished(_) => false,
+    }
+}
+
+/// Returns whether messages after their lengths do what the row expects.
+fn is_binary(lengths: &mut Lengths, row: Row) -> bool {
+    match row {
+        Row::Chunk(piece, used, entry) => lengths.push_all(piece) == PushedEntry { used, entry },
+        Row::Byte(byte, entry) => lengths.push(byte) == entry,
+        Row::Message(message) => lengths.message() == message,
+        Row::Unfinished(is_unfinished) => lengths.is_unfinished() == is_unfinished,
+        Row::Number(_) => false,
+    }
+}
+
+/// Checks that each row is as expected.
+fn plays(rt: &impl Abort, lines: &mut HexLines, rows: &[Row]) {
+    for (i, row) in rows.iter().enumerate() {
+        assert!(rt; is_line(lines, *row), "row {i}");
+    }
+}
+
+/// Checks what one line completes.
+fn completes(rt: &(impl Abort + AllocGlobal), line: &'static [u8], entry: Option<Entry>) {
     let mut lines = lines(rt);
-    let pushed = lines.push_all(line);
-    assert!(rt; pushed.used == line.len());
-    pushed.entry
+    let row = Row::Chunk(line, line.len(), entry);
+    assert!(rt; is_line(&mut lines, row));
+}
+
+/// Lines, and what each completes.
+const LINES: &[(&[u8], Option<Entry>)] = &[
+    (b"00fF7a\n", Some(Entry::Message)),
+    (b"00fF7a01\n", Some(Entry::TooLong)),
+    (b"00f\n", Some(Entry::NotHexadecimal)),
+    (b"0g\n", Some(Entry::NotHexadecimal)),
+    (b"\n", None),
+    (b"00fF7a", None),
+    (b"00fF7a\r\n", Some(Entry::Message)),
+    (b"00f\r\n", Some(Entry::NotHexadecimal)),
+    (b"\r\n", None),
+    (b"00\rfF\n", Some(Entry::NotHexadecimal)),
+    (b"\r00\n", Some(Entry::NotHexadecimal)),
+    (b"00\r\r\n", Some(Entry::NotHexadecimal)),
+];
+
+fn each_line() -> &'static [(&'static [u8], Option<Entry>)] {
+    LINES
+}
+
+const CR: &[Row] = &[
+    Row::Chunk(b"6162\r", 5, None),
+    Row::Byte(b'\n', Some(Entry::Message)),
+    Row::Message(b"ab"),
+    Row::Chunk(b"63\r\n", 4, Some(Entry::Message)),
+    Row::Message(b"c"),
+    Row::Number(2),
+];
+
+const COUNTED: &[Row] = &[
+    Row::Chunk(b"\n616263\nx\n62", 8, Some(Entry::Message)),
+    Row::Message(b"abc"),
+    Row::Number(2),
+    Row::Chunk(b"x\n62", 2, Some(Entry::NotHexadecimal)),
+    Row::Number(3),
+    Row::Chunk(b"62", 2, None),
+    Row::Byte(b'\n', Some(Entry::Message)),
+    Row::Message(b"b"),
+];
+
+const BINARY: &[Row] = &[
+    Row::Chunk(b"\x00\x03abc\x00\x00", 5, Some(Entry::Message)),
+    Row::Message(b"abc"),
+    Row::Chunk(b"\x00\x00", 2, Some(Entry::Empty)),
+    Row::Unfinished(false),
+    Row::Chunk(b"\x00\x04abcd\x00\x01z", 2, Some(Entry::TooLong)),
+    Row::Unfinished(false),
+    Row::Chunk(b"abcd\x00\x01z", 7, Some(Entry::Message)),
+    Row::Message(b"z"),
+    Row::Chunk(b"\x00", 1, None),
+    Row::Unfinished(true),
+    Row::Chunk(b"\x03", 1, None),
+    Row::Unfinished(true),
+    Row::Chunk(b"ab", 2, None),
+    Row::Unfinished(true),
+];
+
+fn with_cr() -> &'static [Row] {
+    CR
+}
+
+fn counted() -> &'static [Row] {
+    COUNTED
+}
+
+fn binary() -> &'static [Row] {
+    BINARY
 }
 
 #[test]
 fn lines_of_digits(rt: HostRuntime) {
-    assert!(&rt; entry_of(&rt, b"00fF7a\n") == Some(Entry::Message));
-    assert!(&rt; entry_of(&rt, b"00fF7a01\n") == Some(Entry::TooLong));
-    assert!(&rt; entry_of(&rt, b"00f\n") == Some(Entry::NotHexadecimal));
-    assert!(&rt; entry_of(&rt, b"0g\n") == Some(Entry::NotHexadecimal));
-    assert!(&rt; entry_of(&rt, b"\n") == None);
-    assert!(&rt; entry_of(&rt, b"00fF7a") == None);
+    for (line, entry) in each_line() {
+        completes(&rt, *line, *entry);
+    }
 }
 
 #[test]
 fn lines_that_end_with_cr(rt: HostRuntime) {
-    assert!(&rt; entry_of(&rt, b"00fF7a\r\n") == Some(Entry::Message));
-    assert!(&rt; entry_of(&rt, b"00f\r\n") == Some(Entry::NotHexadecimal));
-    assert!(&rt; entry_of(&rt, b"\r\n") == None);
-    assert!(&rt; entry_of(&rt, b"00\rfF\n") == Some(Entry::NotHexadecimal));
-    assert!(&rt; entry_of(&rt, b"\r00\n") == Some(Entry::NotHexadecimal));
-    assert!(&rt; entry_of(&rt, b"00\r\r\n") == Some(Entry::NotHexadecimal));
     let mut lines = lines(&rt);
-    assert!(&rt; lines.push_all(b"6162\r").entry == None);
-    assert!(&rt; lines.push(b'\n') == Some(Entry::Message));
-    assert!(&rt; lines.message() == &b"ab"[..]);
-    assert!(&rt; lines.push_all(b"63\r\n").entry == Some(Entry::Message));
-    assert!(&rt; lines.message() == &b"c"[..]);
-    assert!(&rt; lines.number() == 2);
+    plays(&rt, &mut lines, with_cr());
 }
 
 #[test]
 fn lines_are_counted(rt: HostRuntime) {
     let mut lines = lines(&rt);
-    let first = lines.push_all(b"\n616263\nx\n62");
-    assert!(&rt;
-        first
-            == PushedEntry {
-                used: 8,
-                entry: Some(Entry::Message)
-            }
-    );
-    assert!(&rt; lines.message() == &b"abc"[..]);
-    assert!(&rt; lines.number() == 2);
-    let second = lines.push_all(b"x\n62");
-    assert!(&rt;
-        second
-            == PushedEntry {
-                used: 2,
-                entry: Some(Entry::NotHexadecimal)
-            }
-    );
-    assert!(&rt; lines.number() == 3);
-    assert!(&rt; lines.push_all(b"62").entry == None);
-    assert!(&rt; lines.push(b'\n') == Some(Entry::Message));
-    assert!(&rt; lines.message() == &b"b"[..]);
+    plays(&rt, &mut lines, counted());
 }
 
 #[test]
 fn messages_after_lengths(rt: HostRuntime) {
     let mut lengths = lengths(&rt);
-    let first = lengths.push_all(b"\x00\x03abc\x00\x00");
-    assert!(&rt;
-        first
-            == PushedEntry {
-                used: 5,
-                entry: Some(Entry::Message)
-            }
-    );
-    assert!(&rt; lengths.message() == &b"abc"[..]);
-    assert!(&rt; lengths.push_all(b"\x00\x00").entry == Some(Entry::Empty));
-    assert!(&rt; !lengths.is_unfinished());
-    let long = lengths.push_all(b"\x00\x04abcd\x00\x01z");
-    assert!(&rt;
-        long == PushedEntry {
-            used: 2,
-            entry: Some(Entry::TooLong)
-        }
-    );
-    assert!(&rt; !lengths.is_unfinished());
-    let passed = lengths.push_all(b"abcd\x00\x01z");
-    assert!(&rt;
-        passed
-            == PushedEntry {
-                used: 7,
-                entry: Some(Entry::Message)
-            }
-    );
-    assert!(&rt; lengths.message() == &b"z"[..]);
-    for part in [&b"\x00"[..], b"\x03", b"ab"] {
-        assert!(&rt; lengths.push_all(part).entry == None);
-        assert!(&rt; lengths.is_unfinished());
+    for (i, row) in binary().iter().enumerate() {
+        assert!(rt; is_binary(&mut lengths, *row), "row {i}");
     }
 }

@@ -1,4 +1,5 @@
 //! A session allocates all its memory when it is made: that fails, or the session does everything.
+use crate::calls::{connects, delivers, drops_errors, end_of, ends_input, ends_line, reads, wake};
 use ddcmp_session::{EndReason, LineKind, MessageForm, Options, Session};
 use ddcmp_station::{Config, ConfigRefusal};
 use std::process::Abort;
@@ -52,9 +53,8 @@ fn passes(from: &mut Session, to: &mut Session) -> bool {
     to.log_received(sent);
     let used = to.received(sent);
     from.line_took(used);
-    let _delivered = to.deliver();
-    let told = from.to_errors().len();
-    from.errors_took(told);
+    let _delivered = delivers(to);
+    drops_errors(from);
     used > 0
 }
 
@@ -97,15 +97,15 @@ fn is_refused(rt: &(impl Abort + AllocGlobal), form: MessageForm, kind: LineKind
     };
     for line in 0..4u64 {
         let now = 1 + 1000 * line;
-        assert!(rt; a.connected() && b.connected());
-        a.handle_timeout(now);
-        b.handle_timeout(now);
+        assert!(rt; connects(&mut a) && connects(&mut b));
+        wake(&mut a, now);
+        wake(&mut b, now);
         settles(&mut a, &mut b);
-        assert!(rt; a.input_read(text.as_slice()) == text.len());
+        assert!(rt; reads(&mut a, text.as_slice()) == text.len());
         settles(&mut a, &mut b);
         is_written(rt, &mut b, text.as_slice());
-        a.line_ended();
-        b.line_ended();
+        ends_line(&mut a);
+        ends_line(&mut b);
     }
     ends(rt, &mut a, &mut b);
     false
@@ -119,15 +119,19 @@ fn is_written(rt: &impl Abort, session: &mut Session, text: &[u8]) {
     session.output_took(n);
 }
 
+fn finishes(session: &mut Session) {
+    let _done = session.close(b"", true);
+    session.finish();
+    session.write_end();
+}
+
 fn ends(rt: &impl Abort, a: &mut Session, b: &mut Session) {
-    assert!(rt; a.connected() && b.connected());
+    assert!(rt; connects(a) && connects(b));
     settles(a, b);
-    a.input_ended();
-    a.handle_timeout(5000);
-    assert!(rt; a.end() == Some(EndReason::Done));
-    a.close(b"", true);
-    a.finish();
-    a.write_end();
+    ends_input(a);
+    wake(a, 5000);
+    assert!(rt; end_of(a) == Some(EndReason::Done));
+    finishes(a);
     assert!(rt; (a.lost(), a.has_run()) == (0, true));
 }
 
