@@ -112,7 +112,7 @@ def receives(peer, size, seconds=LONG):
     while len(found) < size and time.monotonic() < until:
         peer.settimeout(max(0.01, until - time.monotonic()))
         with contextlib.suppress(TimeoutError):
-            piece = peer.recv(1 << 16)
+            piece = peer.recv(1 << 20)
             if not piece:
                 break
             found += piece

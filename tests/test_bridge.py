@@ -131,7 +131,7 @@ def test_bridged_slowly():
             break
     assert (bridge.memory() <= before + 512 and bridge.processor_time() - used <= 0.1
             and sending.is_alive())
-    got = receives(two, len(text))
+    got = receives(two, len(text), 2 * LONG)
     sending.join(LONG)
     one.close()
     assert got == text and bridge.ended() == 0 and bridge.counts()[0] == (2048, 0, 0, 0, 0)
@@ -151,7 +151,7 @@ def test_bridged_rest():
     frames = [data(drawn.randbytes(990), it % 256) for it in range(4000)]
     sending = threading.Thread(target=sends, args=(one, b"".join(frames), 1 << 16))
     sending.start()  # so that its window grows
-    receives(two, sum(map(len, frames)))
+    receives(two, sum(map(len, frames)), 2 * LONG)
     sending.join(LONG)
     bridge.run.send_signal(signal.SIGSTOP)
     two.sendall(data(b"unwanted", 1))
@@ -452,7 +452,7 @@ def test_unread_trace():
     os.close(writing)
     frames = b"".join(data(drawn.randbytes(1000), it % 256) for it in range(300))
     threading.Thread(target=one.sendall, args=(frames,), daemon=True).start()
-    assert receives(two, len(frames), 10) == frames
+    assert receives(two, len(frames)) == frames
     told = b"".join(iter(lambda: os.read(reading, 1 << 16), b""))
     status = bridge.ended(5)
     assert status == 0 and 9 < bridge.took < 12.5
