@@ -25,8 +25,8 @@ use Rattle.ddcmp_io.specs.declared.device.Worst.TheVariants.{Fine}
 use Rattle.ddcmp_io.specs.Change.{SourceChange, SinkChange}
 use Rattle.ddcmp_io.specs.Input.{GaveMost}
 use Rattle.ddcmp_io.specs.Written.{AppendsPart, Known}
-use Rattle.ddcmp_args.specs.Args.{HasBridge, HasExplain, HasLink, HasStation, HasTap, Reads, option_in}
-use Rattle.ddcmp_args.specs.Args.{text_in, Asks, IsAsked, IsOutOfOrder, file_of}
+use Rattle.ddcmp_args.specs.Args.{HasBridge, HasExplain, HasLink, HasStation, HasTap, Reads}
+use Rattle.ddcmp_args.specs.Args.{option_in, text_in, Asks, IsAsked, IsOutOfOrder, file_of}
 use Rattle.ddcmp_core.specs.Limits.{MAX_COUNT}
 use Rattle.ddcmp_cli.specs.Lines.{LinesKnown}
 use Rattle.ddcmp_cli.specs.LinkEndings.{Links}

@@ -72,7 +72,7 @@ pub trait LineSystem {
     ghost use Rattle.ddcmp_link.specs.declared.fault.LinkFailure.TheVariants.{Write};
     ghost use Rattle.ddcmp_session.specs.declared.link.LinkOutcome.{LinkOutcome as OutcomeValue};
     ghost use Rattle.ddcmp_bridge.specs.declared.bridge.BridgeEnd.{BridgeEnd as EndValue};
-    ghost use Rattle.ddcmp_device.specs.declared.bridging.BridgeFault.{BridgeFault as BridgeFaultValue};
+    ghost use Rattle.ddcmp_device.specs.declared.bridging.BridgeFault.{BridgeFault as NotBridged};
     ghost use Rattle.ddcmp_cli.specs.Lines.{LinesKnown, text_of};
 
     // What is known of its lines.
@@ -102,7 +102,7 @@ pub trait LineSystem {
         second: LineName<'a>,
         options: BridgeOptions<'a>,
     ) -> Result<BridgeEnd, BridgeFault<'a>>
-        ensures { (ended : Result EndValue BridgeFaultValue)
+        ensures { (ended : Result EndValue NotBridged)
             → (lines self.now).bridges (word_of first.entry) (word_of second.entry) options.entry
             ≡ Some ended → result ≡ ended };
 }

@@ -6,7 +6,8 @@ use Rattle.ddcmp_session.specs.Session.{SessionView, is_delivered}
 use Rattle.ddcmp_session.specs.Timing.{end, had_input, is_done, is_given_up, is_listener, is_spent}
 use Rattle.ddcmp_session.specs.Timing.{lingers_until, run_ends_at, stays}
 use Rattle.ddcmp_session.specs.declared.session.EndReason.{EndReason}
-use Rattle.ddcmp_session.specs.declared.session.EndReason.TheVariants.{Done, Time, Restarted, GivenUp}
+use Rattle.ddcmp_session.specs.declared.session.EndReason.TheVariants.{Done, GivenUp}
+use Rattle.ddcmp_session.specs.declared.session.EndReason.TheVariants.{Time, Restarted}
 
 -- what comes last of a chain is Done only if its condition holds, and none before
 chosen : (a b c d : Bool) → ◌≡◌ {A = Option EndReason}

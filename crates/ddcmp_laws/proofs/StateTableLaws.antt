@@ -17,7 +17,8 @@ use Rattle.ddcmp_core.specs.declared.state.Timer.TheVariants.{Off, Fresh, On}
 use Rattle.ddcmp_core.specs.Table.{after_expire, after_expire_in, after_expire_with, after_halt}
 use Rattle.ddcmp_core.specs.Table.{after_start, is_on}
 use Rattle.ddcmp_core.specs.Table.{after_startup, next_maintenance, next_running, reply_to_offer}
-use Rattle.ddcmp_laws.specs.StateTable.{Acknowledge, Action, Comes, Deliver, HandOver, HaltRequested}
+use Rattle.ddcmp_laws.specs.StateTable.{Acknowledge, Action, Comes, Deliver, HandOver}
+use Rattle.ddcmp_laws.specs.StateTable.{HaltRequested}
 use Rattle.ddcmp_laws.specs.StateTable.{Input, OweAck, OweNak, OweRep, StartRequested, StopTimer}
 use Rattle.ddcmp_laws.specs.StateTable.{TimerExpires, act_all}
 use Rattle.ddcmp_laws.specs.StateTable.{by_table, effects_in, next_by_table, run, state_table}
@@ -111,7 +112,8 @@ received IStart l s (TooLong of_data) = refl
 received IStart l s BadFormat = refl
 received AStart l s (Good Strt) = refl
 received AStart l s (Good Stack) = refl
-received AStart l s (Good (Acked resp)) = choose (Comes (Good (Acked resp))) s (resp == 0) _ _ refl refl
+received AStart l s (Good (Acked resp)) =
+    choose (Comes (Good (Acked resp))) s (resp == 0) _ _ refl refl
 received AStart l s (Good (Naked why resp)) = refl
 received AStart l s (Good (Rep num)) = refl
 received AStart l s (Good (Data resp num message)) =

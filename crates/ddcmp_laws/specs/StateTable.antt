@@ -3,8 +3,8 @@
 -- as remembered (no copy was at hand), so that who has it can compare row by row. What no row has
 -- changes nothing. "Unsure" marks what is remembered alone, and "profile" where this project chose,
 -- or differs (docs/PROTOCOL.md, Beside DDCMP 4.1).
-use Rattle.std.specs.Prelude.{ℕ, Bool, true, false, ◌&&◌, if◌then◌else◌, nat_lt, ◌==◌, not, List, []}
-use Rattle.std.specs.Prelude.{◌∷◌, ◌++◌, drop, length}
+use Rattle.std.specs.Prelude.{ℕ, Bool, true, false, ◌&&◌, if◌then◌else◌, nat_lt, ◌==◌, not}
+use Rattle.std.specs.Prelude.{List, [], ◌∷◌, ◌++◌, drop, length}
 use Rattle.ddcmp_frame.specs.declared.nak.Nak.{Nak as Reason}
 use Rattle.ddcmp_frame.specs.declared.nak.Nak.TheVariants as reason
 use Rattle.ddcmp_window.specs.Numbers.{is_within, next_number}
@@ -321,8 +321,8 @@ frame_of MessagePends state reply s = Data s.r s.t (message_at_next s)
 frame_of AckPends state reply s = Acked s.r
 frame_of MaintenancePends state reply s = Maint (first_of s.out)
 
--- The station once it was sent (unsure: when the timer starts): STRT, STACK and REP start the reply timer anew, a message starts
--- one that is off, and any frame with RESP is the reply.
+-- The station once it was sent: STRT, STACK and REP start the reply timer anew, a message starts one
+-- that is off, and any frame with RESP is the reply. Unsure: when the timer starts.
 abbrev pub after_sending : Pending → StationState → StationState
 after_sending StartPends s = record s { due = false; timer = Fresh }
 after_sending NakPends s = record s { reply = Quiet }

@@ -8,7 +8,8 @@ ghost use Rattle.ddcmp_streams.specs.declared.messages.MessageForm.TheVariants.{
 ghost use Rattle.ddcmp_session.specs.declared.session.EndReason.TheVariants.{Done};
 ghost use Rattle.ddcmp_session.specs.Session.{SessionView, is_delivered};
 ghost use Rattle.ddcmp_session.specs.Text.{mail_text};
-ghost use Rattle.ddcmp_session.specs.Timing.{after_failure, after_line, end, lingers_until, reopens};
+ghost use Rattle.ddcmp_session.specs.Timing.{after_failure, after_line, end, lingers_until};
+ghost use Rattle.ddcmp_session.specs.Timing.{reopens};
 ghost use Rattle.ddcmp_session.specs.Timing.{wakes_without_line_at};
 
 /// A session is done only once its input was read to its end and all of it is delivered, or was
@@ -22,8 +23,8 @@ pub fn done_once_all_is_read()
     ensures stays { (s : SessionView) → s.options.stay ≡ true → end s ≢ Some Done }
 {}
 
-/// With `--again` a line that has ended, or couldn't be opened, is opened again, 30 seconds later at
-/// most, or at once if the station ran on it; and the session wakes for that.
+/// With `--again` a line that has ended, or couldn't be opened, is opened again, 30 seconds later
+/// at most, or at once if the station ran on it; and the session wakes for that.
 pub fn opens_again()
     ensures reopens { (s : SessionView) → s.options.again ≡ true → reopens s ≡ true }
     ensures at_once { (s : SessionView) → s.course.has_run_here ≡ true

@@ -116,7 +116,8 @@ returns-in-Bridge g c = record {
   bridges = λ args are. (
     refl,
     subst (λ a. Bridges (g.S.LineSystem.lines c.args.system.now) a
-        (g.W.Sink.contents c.args.writer.now) (g.W.Sink.contents c.bridge.new.writer) c.bridge.result)
+        (g.W.Sink.contents c.args.writer.now) (g.W.Sink.contents c.bridge.new.writer)
+        c.bridge.result)
         (ap (bridged_or args) (sym c.in-Bridge.is ∙ are)) c.bridge.ensures.bridges,
   );
 }
