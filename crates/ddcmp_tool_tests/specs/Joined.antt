@@ -1,8 +1,6 @@
 -- What passed at two lines in memory.
-use Rattle.std.specs.Prelude.{ℕ, Bool, true, false, List, [], ◌∷◌, Option, None, Some}
-use Rattle.std.specs.Prelude.{codes, if◌then◌else◌}
-use Rattle.ddcmp_bridge.specs.Crossing.{LinePlan, plan_of}
-use Rattle.ddcmp_ports.specs.declared.line_name.LineName.TheVariants.{Device}
+use Rattle.std.specs.Prelude.{ℕ, Bool, false, List, [], ◌∷◌, Option, None, Some}
+use Rattle.std.specs.Prelude.{if◌then◌else◌}
 use Rattle.ddcmp_ports.specs.declared.port.News.TheVariants.{Opened}
 use Rattle.ddcmp_ports.specs.declared.port.Port.{Port}
 use Rattle.ddcmp_ports.specs.declared.port.Port.TheVariants.{Input, Output, Errors, First, Second}
@@ -34,10 +32,3 @@ stuck_of first second Second = stuck_in second
 stuck_of first second Input = stuck_in false
 stuck_of first second Output = stuck_in false
 stuck_of first second Errors = stuck_in false
-
--- the lines, devices without a speed
-abbrev pub first_plan : LinePlan
-first_plan = plan_of (Device (codes "a")) 0
-
-abbrev pub second_plan : LinePlan
-second_plan = plan_of (Device (codes "b")) 0

@@ -73,15 +73,17 @@ impl Line {
 struct Joined {
     first: Line,
     second: Line,
+    first_name: LineName<'static>,
+    second_name: LineName<'static>,
     moment: u64,
 }
 
 impl TwoLines for Joined {
-    ghost use Rattle.ddcmp_tool_tests.specs.Joined.{first_plan, second_plan};
+    ghost use Rattle.ddcmp_bridge.specs.Crossing.{plan_of};
 
-    ghost first = { λ _. first_plan };
+    ghost first = { λ j. plan_of j.first_name 0 };
 
-    ghost second = { λ _. second_plan };
+    ghost second = { λ j. plan_of j.second_name 0 };
 }
 
 impl System for Joined {
@@ -193,12 +195,14 @@ const OPTIONS: BridgeOptions<'static> = BridgeOptions {
 /// All good frames of each line arrive at the other, in chunks, before the time is over.
 #[test]
 fn good_frames_come_to_the_other_line(rt: HostRuntime) {
+    let (first, second) = (LineName::Device("a"), LineName::Device("b"));
     let mut lines = Joined {
         first: line_of(&rt, CAME),
         second: line_of(&rt, BACK),
+        first_name: first,
+        second_name: second,
         moment: 0,
     };
-    let (first, second) = (LineName::Device("a"), LineName::Device("b"));
     let Some(mut bridge) = Bridge::new(rt.alloc(), first, second, &OPTIONS) else {
         panic!(rt; "no memory")
     };
