@@ -1,5 +1,5 @@
 -- Two links that ended well: what the one read is what the other wrote.
-use Rattle.std.proofs.Common.{◌≡◌, ◌∙◌, ap, sym, subst, refl, ℕ, Bool, true, List, [], Option, Some}
+use Rattle.std.proofs.Common.{◌≡◌, ◌∙◌, ap, sym, subst, refl, ℕ, Bool, true, false, List, [], Option, Some}
 use Rattle.std.proofs.Common.{None, arith, Result, Ok, Err}
 use Rattle.std.specs.Prelude.{◌≤◌}
 use Rattle.std.specs.List.{All}
@@ -21,7 +21,7 @@ use Rattle.ddcmp_laws.specs.Connected.{IsConnectedOnce}
 use Rattle.ddcmp_laws.specs.Connections.{first_connection}
 use Rattle.ddcmp_laws.specs.Endings.{WasFinished}
 use Rattle.ddcmp_laws.specs.Pipe.{Made, session_of}
-use Rattle.ddcmp_laws.specs.SessionRuns.{Ran}
+use Rattle.ddcmp_laws.specs.SessionRuns.{Ran, RanTogether}
 use Rattle.ddcmp_laws.specs.Traces.{IsHonest}
 use Rattle.ddcmp_laws.proofs.Acted.{log-lines}
 use Rattle.ddcmp_laws.proofs.ConnectionLaws.{once-in-files}
@@ -30,36 +30,37 @@ use Rattle.ddcmp_laws.proofs.FramesTogether.{frames-together}
 use Rattle.ddcmp_laws.proofs.MergeRuns.{log_of, merged-runs, no_log}
 use Rattle.ddcmp_laws.proofs.OverLines.{agrees_first}
 use Rattle.ddcmp_laws.proofs.RunLaws.{all-to-b, files-begin-b}
-use Rattle.ddcmp_laws.proofs.Extended.{Extended, extended}
+use Rattle.ddcmp_laws.proofs.Extended.{Extended, extended, no_lines}
 
 first-follows : Follows no_log [] no_log
 unfolding received
 first-follows = record { acts = (tt, [], refl); bytes = refl; lines = refl }
 
--- a run that ended well, from its options to its traffic
-record WasRun (options : Options) (kind : LineKind) (last : SessionView) (after : Traffic) : Type 0
-  where
-    ran : Ran
-    same : ran.made.options ≡ options
-    done : AreDone ran.steps (first_connection ran.made)
-    held : BuffersView
-    t : Traffic
-    finished : WasFinished true ran held t last after
-    left : List ℕ
-    follows : Follows (log_of ran) left after.log
+-- a run, from its options to its traffic
+pub record WasRun (is_well : Bool) (options : Options) (last : SessionView) (after : Traffic)
+    : Type 0 where
+  pub ran : Ran
+  pub same : ran.made.options ≡ options
+  pub done : AreDone ran.steps (first_connection ran.made)
+  pub held : BuffersView
+  pub t : Traffic
+  pub finished : WasFinished is_well ran held t last after
+  pub left : List ℕ
+  pub follows : Follows (log_of ran) left after.log
 
-was-run : (options : Options) (binary : IsBinary options) (kind : LineKind) (last : SessionView)
-    (after : Traffic) → RunsNew true options kind (Some no_traffic) last (Some after)
-    → WasRun options kind last after
-was-run options binary kind last after new =
+pub was-run : (is_well : Bool) (options : Options) → options.maintenance ≡ false
+    → (kind : LineKind) (last : SessionView) (after : Traffic)
+    → RunsNew is_well options kind (Some no_traffic) last (Some after)
+    → WasRun is_well options last after
+was-run is_well options of_data kind last after new =
     let made : Made =
-    record { options = options; of_data = binary.of_data; kind = kind; line = new.line } in
+    record { options = options; of_data = of_data; kind = kind; line = new.line } in
     let ends = new.ends.ends in
     let a =
     ends.over (first_connection made) no_traffic refl refl (agrees_first made new.clear) in
     let w = a.2 in
     let f =
-    subst (λ k. Finishes true new.ends.closed k last (Some after)) a.1 new.ends.finishes in
+    subst (λ k. Finishes is_well new.ends.closed k last (Some after)) a.1 new.ends.finishes in
     let d = f.delivers.traffic a.0 refl in
     let x = f.takes.traffic _ d.1 in
     let logs : after.log ≡ a.0.log = log-is _ after x.1 in
@@ -95,6 +96,43 @@ once ran left log follows one =
     let k = log-lines ran.steps (session_of ran.made).session no_log in
     omega (arith, e, k, one)
 
+-- two runs over one line
+pub record AreTogether (a b : Ran) : Type 0 where
+  pub once_a : IsConnectedOnce a
+  pub once_b : IsConnectedOnce b
+  pub fits_a : first_refusal a.made.options.config ≡ None
+  pub fits_b : first_refusal b.made.options.config ≡ None
+  pub together : RanTogether a b
+
+pub over-one-line : (a b : Ran) (options other_options : Options) (t u : Traffic)
+    (left other_left : List ℕ) → a.made.options ≡ options → b.made.options ≡ other_options
+    → first_refusal options.config ≡ None → first_refusal other_options.config ≡ None
+    → AreDone a.steps (first_connection a.made) → AreDone b.steps (first_connection b.made)
+    → Follows (log_of a) left t.log → Follows (log_of b) other_left u.log
+    → IsOneLine options other_options t u → AreTogether a b
+over-one-line a b options other_options t u left other_left same other_same f g done_a done_b
+    follows other_follows line =
+    let f' = ap (λ (o : Options). first_refusal o.config) same ∙ f in
+    let g' = ap (λ (o : Options). first_refusal o.config) other_same ∙ g in
+    let once_a = once a left t.log follows line.one in
+    let once_b = once b other_left u.log other_follows line.other in
+    record {
+      once_a = once_a;
+      once_b = once_b;
+      fits_a = f';
+      fits_b = g';
+      together =
+          frames-together a b f' g' done_a done_b once_a once_b
+          (merged-runs a b line.order done_a done_b once_a once_b
+          (subst (λ (o : Options). IsHonest o.config.max b.made.options.config.max line.order)
+          (sym same)
+          (subst (λ (o : Options). IsHonest options.config.max o.config.max line.order)
+          (sym other_same) line.honest))
+          (subst (λ xs. IsBehind [] (log_of a).acts xs) (sym line.of_first) follows.acts)
+          (subst (λ xs. IsBehind [] (log_of b).acts xs) (sym line.of_second)
+          other_follows.acts));
+    }
+
 pub bytes-arrive : (options other_options : Options) (kind other_kind : LineKind)
     (last other_last : SessionView) (t u : Traffic)
     → first_refusal options.config ≡ None → first_refusal other_options.config ≡ None
@@ -104,23 +142,14 @@ pub bytes-arrive : (options other_options : Options) (kind other_kind : LineKind
     → IsOneLine options other_options t u → BytesArrive options t u
 bytes-arrive options other_options kind other_kind last other_last t u f g binary other_binary
     ran none other line messages fit file =
-    let a = was-run options binary kind last t ran in
-    let b = was-run other_options other_binary other_kind other_last u other in
-    let f' = ap (λ (o : Options). first_refusal o.config) a.same ∙ f in
-    let g' = ap (λ (o : Options). first_refusal o.config) b.same ∙ g in
-    let once_a = once a.ran a.left t.log a.follows line.one in
-    let once_b = once b.ran b.left u.log b.follows line.other in
-    let together =
-    frames-together a.ran b.ran f' g' a.done b.done once_a once_b
-    (merged-runs a.ran b.ran line.order a.done b.done once_a once_b
-    (subst (λ (o : Options). IsHonest o.config.max b.ran.made.options.config.max line.order)
-    (sym a.same)
-    (subst (λ (o : Options). IsHonest options.config.max o.config.max line.order) (sym b.same)
-    line.honest))
-    (subst (λ xs. IsBehind [] (log_of a.ran).acts xs) (sym line.of_first) a.follows.acts)
-    (subst (λ xs. IsBehind [] (log_of b.ran).acts xs) (sym line.of_second) b.follows.acts)) in
-    arrives a.ran b.ran b.done (all-to-b a.ran b.ran f' g' a.done b.done together)
-    (once-in-files a.ran b.ran a.done b.done once_a once_b
+    let a = was-run true options binary.of_data kind last t ran in
+    let b = was-run true other_options other_binary.of_data other_kind other_last u other in
+    let both =
+    over-one-line a.ran b.ran options other_options t u a.left b.left a.same b.same f g a.done
+    b.done a.follows b.follows line in
+    arrives a.ran b.ran b.done
+    (all-to-b a.ran b.ran both.fits_a both.fits_b a.done b.done both.together)
+    (once-in-files a.ran b.ran a.done b.done both.once_a both.once_b
     (ap (λ (o : Options). o.form) a.same ∙ binary.form)
     (ap (λ (o : Options). o.form) b.same ∙ other_binary.form))
     messages
@@ -155,36 +184,18 @@ known-run {well} {options} {kind} {before} {after} {last} t is now ran =
 
 -- ---- however they ended
 
--- a run, to its end
+-- a run with messages in binary, to its end
 all-of : (is_well : Bool) (options : Options) (binary : IsBinary options) (kind : LineKind)
     (last : SessionView) (after : Traffic)
-    → RunsNew is_well options kind (Some no_traffic) last (Some after) → Extended options after
+    → RunsNew is_well options kind (Some no_traffic) last (Some after)
+    → Extended options after last after.written
 all-of is_well options binary kind last after new =
-    let made : Made =
-    record { options = options; of_data = binary.of_data; kind = kind; line = new.line } in
-    let ends = new.ends.ends in
-    let a =
-    ends.over (first_connection made) no_traffic refl refl (agrees_first made new.clear) in
-    let w = a.2 in
-    let f =
-    subst (λ k. Finishes is_well new.ends.closed k last (Some after)) a.1 new.ends.finishes in
-    let d = f.delivers.traffic a.0 refl in
-    let x = f.takes.traffic _ d.1 in
-    extended is_well made w.steps new.held a.0 after last new.held.received binary.form w.calls
-    (record {
-      closed = new.ends.closed;
-      ended = record {
-        only = w.only;
-        agrees = w.agrees;
-        closes = subst (λ s. Closes new.held s new.ends.closed) (sym w.session) ends.closes;
-      };
-      finishes = f;
-    })
-    (subst (λ g. Follows (log_of (record { made = made; steps = w.steps })) new.held.received g)
-    (sym (log-is _ after x.1)) (w.order no_log first-follows))
-  where
-    log-is : (x y : Traffic) → ◌≡◌ {A = Option Traffic} (Some y) (Some x) → y.log ≡ x.log
-    log-is x y e = cc
+    let w = was-run is_well options binary.of_data kind last after new in
+    subst (λ (o : Options). Extended o after last after.written) w.same
+    (extended is_well w.ran.made w.ran.steps w.held w.t after last w.left w.done w.finished
+    w.follows
+    (no_lines is_well w.ran.made w.ran.steps w.held w.t after last w.left w.done w.finished
+    w.follows (ap (λ (o : Options). o.form) w.same ∙ binary.form)))
 
 pub bytes-begin : (is_well other_is_well : Bool) (options other_options : Options)
     (kind other_kind : LineKind) (last other_last : SessionView) (t u : Traffic)
@@ -197,22 +208,12 @@ bytes-begin is_well other_is_well options other_options kind other_kind last oth
     binary other_binary ran other line messages fit file =
     let a = all-of is_well options binary kind last t ran in
     let b = all-of other_is_well other_options other_binary other_kind other_last u other in
-    let f' = ap (λ (o : Options). first_refusal o.config) a.same ∙ f in
-    let g' = ap (λ (o : Options). first_refusal o.config) b.same ∙ g in
-    let once_a = once a.ran a.left t.log a.follows line.one in
-    let once_b = once b.ran b.left u.log b.follows line.other in
-    let together =
-    frames-together a.ran b.ran f' g' a.done b.done once_a once_b
-    (merged-runs a.ran b.ran line.order a.done b.done once_a once_b
-    (subst (λ (o : Options). IsHonest o.config.max b.ran.made.options.config.max line.order)
-    (sym a.same)
-    (subst (λ (o : Options). IsHonest options.config.max o.config.max line.order) (sym b.same)
-    line.honest))
-    (subst (λ xs. IsBehind [] (log_of a.ran).acts xs) (sym line.of_first) a.follows.acts)
-    (subst (λ xs. IsBehind [] (log_of b.ran).acts xs) (sym line.of_second) b.follows.acts)) in
+    let both =
+    over-one-line a.ran b.ran options other_options t u a.left b.left a.same b.same f g a.done
+    b.done a.follows b.follows line in
     subst (λ xs. Begins xs (in_binary messages)) b.written
-    (files-begin-b a.ran b.ran f' g' a.done b.done together
-    (once-in-files a.ran b.ran a.done b.done once_a once_b
+    (files-begin-b a.ran b.ran both.fits_a both.fits_b a.done b.done both.together
+    (once-in-files a.ran b.ran a.done b.done both.once_a both.once_b
     (ap (λ (o : Options). o.form) a.same ∙ binary.form)
     (ap (λ (o : Options). o.form) b.same ∙ other_binary.form))
     messages

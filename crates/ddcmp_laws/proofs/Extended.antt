@@ -26,7 +26,7 @@ use Rattle.ddcmp_laws.proofs.Acted.{AreAlone, session_over}
 use Rattle.ddcmp_laws.proofs.Anew.{stays_all, stays_first}
 use Rattle.ddcmp_laws.proofs.ConnectionLaws.{does-so}
 use Rattle.ddcmp_laws.proofs.EndLaws.{kept, led}
-use Rattle.ddcmp_laws.proofs.Finished.{taken_at_last}
+use Rattle.ddcmp_laws.proofs.Finished.{over_at_last, read_at_last, taken_at_last}
 use Rattle.ddcmp_laws.proofs.LastSteps.{after-same}
 use Rattle.ddcmp_laws.proofs.MergeRuns.{log_of, no_log}
 
@@ -159,15 +159,19 @@ log-append (x ∷ xs) ys s log = log-append xs ys x.session (log_after x.call s 
 
 -- ---- a run
 
--- the calls of a run, to its end, and its traffic then
-pub record Extended (options : Options) (after : Traffic) : Type 0 where
+-- The calls of a run until its session was this one, closed, when its output had taken these bytes;
+-- and what had been read from its devices then.
+pub record Extended (options : Options) (after : Traffic) (new : SessionView) (taken : List ℕ)
+    : Type 0 where
   pub ran : Ran
   pub same : ran.made.options ≡ options
   pub done : AreDone ran.steps (first_connection ran.made)
+  pub session : (got_to ran).history.session ≡ new
   pub held : BuffersView
   pub t : Traffic
   pub read : t.read ≡ after.read
-  pub written : t.written ≡ after.written
+  pub over : t.is_over ≡ after.is_over
+  pub written : t.written ≡ taken
   pub agrees : Agrees held (got_to ran).history t
   pub left : List ℕ
   pub follows : Follows (log_of ran) left after.log
@@ -177,66 +181,89 @@ ends-so : (b : Bool) (old new : SessionView) → form_of old.messages ≡ form.B
 ends-so true old new binary w = w.binary binary
 ends-so false old new binary w = w
 
-pub extended : (is_well : Bool) (made : Made) (steps : List SessionStep) (held : BuffersView)
-    (t after : Traffic) (last : SessionView) (left : List ℕ) → made.options.form ≡ form.Binary
-    → AreDone steps (first_connection made)
-    → WasFinished is_well (record { made = made; steps = steps }) held t last after
-    → Follows (log_of (record { made = made; steps = steps })) left after.log
-    → Extended made.options after
-unfolding after_session_steps log_over
-extended is_well made steps held t after last left binary done fin follows =
-    let ran : Ran = record { made = made; steps = steps } in
-    let c = got_to ran in
-    let h = c.history in
-    let f = fin.finishes in
-    let closing : SessionStep =
-    record {
-      call = Closed held.input held.is_over fin.ended.closes.is_reported;
-      session = fin.closed;
-    } in
-    let next = after_session_step closing h in
-    let stays = stays_all made steps (first_connection made) done (stays_first made) in
-    let kind : form_of f.delivered.messages ≡ form.Binary =
-    (kept f.delivers.steps fin.closed f.delivered f.delivers.calls).form
-    ∙ fin.ended.closes.closed.form ∙ stays.holds.kind ∙ binary in
-    let same : f.with_lines ≡ f.delivered =
-    ends-so f.writes f.delivered f.with_lines kind f.lines in
-    let takes = subst (λ s. AreDeliveries f.takes.steps s last) same f.takes.calls in
-    let more =
-    deliveries-then f.delivers.steps f.takes.steps fin.closed f.delivered last f.delivers.calls
-    takes in
-    let ys = f.delivers.steps ++ f.takes.steps in
-    let all = led ys next last more.0 in
-    let alone = deliveries-alone ys fin.closed last (log_of ran) more.0 in
-    let over = over-alone (closing ∷ ys) c (refl, alone.0) (fin.ended.closes.closed, all.calls) in
-    let then = then-over steps (closing ∷ ys) (first_connection made) done over.0 in
-    let taken = taken_at_last is_well ran held t after last fin in
-    record {
-      ran = record { made = made; steps = steps ++ closing ∷ ys };
-      same = refl;
-      done = then.0;
-      held = held;
-      t = with_written (taken_in ys fin.closed) t;
-      read = sym taken.0;
-      written =
-          ap (λ xs. t.written ++ xs) more.1
-          ∙ sym
-          (append_assoc t.written (taken_in f.delivers.steps fin.closed)
-          (taken_in f.takes.steps f.delivered))
-          ∙ ap
-          (λ s. (t.written ++ taken_in f.delivers.steps fin.closed) ++ taken_in f.takes.steps s)
-          (sym same)
-          ∙ sym taken.1;
-      agrees =
-          subst
-          (λ (x : Connection).
-          Agrees held x.history (with_written (taken_in ys fin.closed) t)) (sym (then.1 ∙ over.1))
-          (agrees-all ys next last held t more.0
-          (fin.ended.closes.agrees h t refl fin.ended.agrees));
-      left = left;
-      follows =
-          subst (λ l. Follows l left after.log)
-          (sym
-          (log-append steps (closing ∷ ys) (session_of made).session no_log ∙ alone.1))
-          follows;
-    }
+module _ (is_well : Bool) (made : Made) (steps : List SessionStep) (held : BuffersView)
+    (t after : Traffic) (last : SessionView) (left : List ℕ)
+    (done : AreDone steps (first_connection made))
+    (fin : WasFinished is_well (record { made = made; steps = steps }) held t last after)
+    (follows : Follows (log_of (record { made = made; steps = steps })) left after.log) where
+  abbrev ran : Ran
+  ran = record { made = made; steps = steps }
+
+  abbrev h : SessionHistory
+  h = (got_to ran).history
+
+  -- until these deliveries
+  until : (ys : List SessionStep) (new : SessionView) → AreDeliveries ys fin.closed new
+      → Extended made.options after new (t.written ++ taken_in ys fin.closed)
+  unfolding after_session_steps log_over
+  until ys new does =
+      let closing : SessionStep =
+      record {
+        call = Closed held.input held.is_over fin.ended.closes.is_reported;
+        session = fin.closed;
+      } in
+      let next = after_session_step closing h in
+      let all = led ys next new does in
+      let alone = deliveries-alone ys fin.closed new (log_of ran) does in
+      let over =
+      over-alone (closing ∷ ys) (got_to ran) (refl, alone.0)
+      (fin.ended.closes.closed, all.calls) in
+      let then = then-over steps (closing ∷ ys) (first_connection made) done over.0 in
+      let whole = then.1 ∙ over.1 in
+      record {
+        ran = record { made = made; steps = steps ++ closing ∷ ys };
+        same = refl;
+        done = then.0;
+        session = ap (λ (x : Connection). x.history.session) whole ∙ all.session;
+        held = held;
+        t = with_written (taken_in ys fin.closed) t;
+        read = sym (read_at_last is_well ran held t after last fin);
+        over = sym (over_at_last is_well ran held t after last fin);
+        written = refl;
+        agrees =
+            subst
+            (λ (x : Connection).
+            Agrees held x.history (with_written (taken_in ys fin.closed) t)) (sym whole)
+            (agrees-all ys next new held t does
+            (fin.ended.closes.agrees h t refl fin.ended.agrees));
+        left = left;
+        follows =
+            subst (λ l. Follows l left after.log)
+            (sym
+            (log-append steps (closing ∷ ys) (session_of made).session no_log ∙ alone.1))
+            follows;
+      }
+
+  -- until the received messages were delivered
+  pub delivered_to : Extended made.options after fin.finishes.delivered
+      (t.written ++ taken_in fin.finishes.delivers.steps fin.closed)
+  delivered_to = until fin.finishes.delivers.steps fin.finishes.delivered fin.finishes.delivers.calls
+
+  -- to the end, if no last lines were written
+  pub extended : fin.finishes.with_lines ≡ fin.finishes.delivered
+      → Extended made.options after last after.written
+  extended same =
+      let f = fin.finishes in
+      let more =
+      deliveries-then f.delivers.steps f.takes.steps fin.closed f.delivered last f.delivers.calls
+      (subst (λ s. AreDeliveries f.takes.steps s last) same f.takes.calls) in
+      subst (Extended made.options after last)
+      (ap (λ xs. t.written ++ xs) more.1
+      ∙ sym
+      (append_assoc t.written (taken_in f.delivers.steps fin.closed)
+      (taken_in f.takes.steps f.delivered))
+      ∙ ap
+      (λ s. (t.written ++ taken_in f.delivers.steps fin.closed) ++ taken_in f.takes.steps s)
+      (sym same)
+      ∙ sym (taken_at_last is_well ran held t after last fin).1)
+      (until (f.delivers.steps ++ f.takes.steps) last more.0)
+
+  -- with messages in binary there are none
+  pub no_lines : made.options.form ≡ form.Binary
+      → fin.finishes.with_lines ≡ fin.finishes.delivered
+  no_lines binary =
+      let f = fin.finishes in
+      let stays = stays_all made steps (first_connection made) done (stays_first made) in
+      ends-so f.writes f.delivered f.with_lines
+      ((kept f.delivers.steps fin.closed f.delivered f.delivers.calls).form
+      ∙ fin.ended.closes.closed.form ∙ stays.holds.kind ∙ binary) f.lines

@@ -1,7 +1,8 @@
 -- Runs over devices that ended well: what the output took of them.
 use Rattle.std.proofs.Common.{◌≡◌, ◌≤◌, ◌∙◌, ap, sym, subst, refl, ℕ, Bool, true, false, arith}
 use Rattle.std.proofs.Common.{List, [], ◌∷◌, ◌++◌, ◌⊎◌, inl, inr, map, drop, length, Some}
-use Rattle.std.proofs.Common.{None, append_assoc, append-nil}
+use Rattle.std.proofs.Common.{None, append_assoc, append-nil, take}
+use Rattle.std.proofs.lemmas.List.{take-append-drop}
 use Rattle.ddcmp_input.specs.InBinary.{in_binary}
 use Rattle.ddcmp_io.specs.Queue.{QueueView}
 use Rattle.ddcmp_io.specs.Written.{HandsOver, HoldsBy}
@@ -21,6 +22,7 @@ use Rattle.ddcmp_session.specs.Finishing.{WritesEnd, WritesEndIf, after_taken_by
 use Rattle.ddcmp_session.proofs.GoingLaws.{same-at, same-now}
 use Rattle.ddcmp_laws.specs.Connections.{first_connection}
 use Rattle.ddcmp_laws.specs.Pipe.{Made, session_of, undelivered}
+use Rattle.ddcmp_laws.specs.Prefix.{Begins}
 use Rattle.ddcmp_laws.specs.SessionRuns.{DeliversAll, Ran, got_to}
 use Rattle.ddcmp_laws.specs.Endings.{FilesArrive, TookAll, WasFinished, last_text, shown_at_last}
 use Rattle.ddcmp_laws.specs.Sessions.{mail_in, messages_of, texts_of}
@@ -53,6 +55,22 @@ lines_in old new text none whole over =
     held : (b : Bool) → HoldsBy b (Some []) (Some old.waiting) [] []
     held true = (0, none)
     held false = ([], none, refl)
+
+-- and whatever room they had: some of them
+some_lines : (old new : QueueView) (text : List ℕ)
+    → HandsOver (queued old) (queued new) text
+    → (extra : List ℕ) × Begins extra text × (new.waiting ≡ old.waiting ++ extra)
+some_lines old new text over =
+    by new.is_cut (over.holds (Some old.waiting) [] (held old.is_cut))
+  where
+    held : (b : Bool) → HoldsBy b (Some old.waiting) (Some old.waiting) [] []
+    held true = (0, sym (append-nil old.waiting))
+    held false = ([], sym (append-nil old.waiting), refl)
+
+    by : (b : Bool) → HoldsBy b (Some old.waiting) (Some new.waiting) [] text
+        → (extra : List ℕ) × Begins extra text × (new.waiting ≡ old.waiting ++ extra)
+    by true r = (take r.0 text, (drop r.0 text, take-append-drop r.0 text), r.1)
+    by false r = (r.0, ([], sym r.2), r.1)
 
 ends_if : (b : Bool) (old new : SessionView) → WritesEndIf b old new
     → new ≡ record old { output = new.output }
@@ -88,9 +106,18 @@ module _ (is_well : Bool) (ran : Ran) (held : BuffersView) (t after : Traffic) (
   pub read_at_last : after.read ≡ t.read
   read_at_last = taken_at_last.0
 
-module _ (ran : Ran) (held : BuffersView) (t after : Traffic) (last : SessionView)
+  pub over_at_last : after.is_over ≡ t.is_over
+  over_at_last =
+      let f = fin.finishes in
+      let d = f.delivers.traffic t refl in
+      ap (λ (x : Traffic). x.is_over)
+      (same-now
+      (f.takes.traffic (after_taken_by (taken_in f.delivers.steps fin.closed) d.0 t) d.1).1)
+
+-- a run that has written its last lines
+module _ (is_well : Bool) (ran : Ran) (held : BuffersView) (t after : Traffic) (last : SessionView)
     (does : AreDone ran.steps (first_connection ran.made))
-    (fin : WasFinished true ran held t last after) where
+    (fin : WasFinished is_well ran held t last after) (writes : fin.finishes.writes ≡ true) where
   abbrev f : MessageForm
   f = ran.made.options.form
 
@@ -125,10 +152,10 @@ module _ (ran : Ran) (held : BuffersView) (t after : Traffic) (last : SessionVie
   no_mail_first : delivered.link.station.core.station.inbox ≡ []
   no_mail_first =
       none_first delivered.link.station.core.station.inbox
-      ((fin.finishes.drained (fin.finishes.well refl).0).mail room)
+      ((fin.finishes.drained writes).mail room)
 
-  none_first_waits : delivered.output.waiting ≡ []
-  none_first_waits = (fin.finishes.drained (fin.finishes.well refl).0).waiting
+  pub none_first_waits : delivered.output.waiting ≡ []
+  none_first_waits = (fin.finishes.drained writes).waiting
 
   leads : Led fin.finishes.delivers.steps (after_session_step step h) delivered
   leads =
@@ -149,7 +176,7 @@ module _ (ran : Ran) (held : BuffersView) (t after : Traffic) (last : SessionVie
       ∙ ap (λ (d : LinkView). d.station.core.station.inbox) fin.ended.closes.closed.link
 
   -- what the output took before the last lines
-  took_first : t.written ++ taken_in fin.finishes.delivers.steps fin.closed
+  pub took_first : t.written ++ taken_in fin.finishes.delivers.steps fin.closed
       ≡ texts_of f (shown_at_last reported h)
   took_first =
       let steps = fin.finishes.delivers.steps in
@@ -174,7 +201,7 @@ module _ (ran : Ran) (held : BuffersView) (t after : Traffic) (last : SessionVie
 
   ends : WritesEnd delivered lined
   ends =
-      subst (λ b. WritesEndIf b delivered lined) (fin.finishes.well refl).0 fin.finishes.lines
+      subst (λ b. WritesEndIf b delivered lined) writes fin.finishes.lines
 
   lined_link : lined.link ≡ delivered.link
   lined_link = same-at (λ x. x.link) lined _ ends.stays
@@ -215,16 +242,26 @@ module _ (ran : Ran) (held : BuffersView) (t after : Traffic) (last : SessionVie
           (second.counters ∙ same-at (λ x. x.options.counters) lined _ ends.stays))
           ∙ ap (λ d. end_text last.options.counters d) (sym last_link)
 
-  pub took_all : TookAll reported ran last after
-  took_all =
-      let none = (fin.finishes.well refl).1.waiting in
+  -- in lines, whether they had room or not
+  pub took_lines : f ≡ form.Digits
+      → (extra : List ℕ) × Begins extra (end_text delivered.options.counters delivered.link)
+      × (taken_in fin.finishes.takes.steps lined ++ last.output.waiting ≡ extra)
+  took_lines is =
+      let some =
+      some_lines delivered.output lined.output
+      (end_text delivered.options.counters delivered.link) (ends.lines (kind_first ∙ is)) in
+      (some.0, some.1, takes.0 ∙ some.2 ∙ ap (λ xs. xs ++ some.0) none_first_waits)
+
+  pub took_all : is_well ≡ true → TookAll reported ran last after
+  took_all well =
+      let none = (fin.finishes.well well).1.waiting in
       let two = taken_in fin.finishes.takes.steps lined in
       record {
         none_waits = none;
         no_mail =
             ap (λ (d : LinkView). d.station.core.station.inbox) last_link ∙ no_mail_first;
         wrote = λ whole.
-            (taken_at_last true ran held t after last fin).1
+            (taken_at_last is_well ran held t after last fin).1
             ∙ ap (λ xs. xs ++ two) took_first
             ∙ ap (λ xs. texts_of f (shown_at_last reported h) ++ xs)
             (sym (append-nil two)
@@ -235,7 +272,7 @@ module _ (ran : Ran) (held : BuffersView) (t after : Traffic) (last : SessionVie
 
 -- ---- two runs
 
-mail_at_last : (reported : Bool) (h : SessionHistory)
+pub mail_at_last : (reported : Bool) (h : SessionHistory)
     → mail_in (shown_at_last reported h) ≡ mail_in h.shown ++ undelivered h
 mail_at_last reported h =
     mail_more h.shown (losses reported h.session ++ map Mail (undelivered h))
@@ -254,7 +291,9 @@ arrives giver taker does delivers files messages fit held other_held t other_t a
     let reported = took.ended.closes.is_reported in
     let max = giver.made.options.config.max in
     let shown = shown_at_last reported h in
-    let all = took_all taker other_held other_t other_after other_last does took in
+    let all =
+    took_all true taker other_held other_t other_after other_last does took
+    (took.finishes.well refl).0 refl in
     all.wrote (inl files.taker_form)
     ∙ ap (λ g. texts_of g shown ++ last_text g other_last) files.taker_form
     ∙ append-nil (texts_of form.Binary shown)

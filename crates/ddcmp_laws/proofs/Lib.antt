@@ -3,6 +3,10 @@ pub mod StateTableLaws
 pub mod StationLaws
 pub mod StartingLaws
 pub mod BytesArrive
+pub mod MailLaws
+pub mod ShownLines
+pub mod LineInputs
+pub mod LinesArrive
 pub mod CameLaws
 pub mod NumberLaws
 pub mod StartLaws

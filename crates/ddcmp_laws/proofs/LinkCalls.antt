@@ -5,7 +5,7 @@ use Rattle.std.specs.Prelude.{◌&&◌, option_to_list}
 use Rattle.std.proofs.lemmas.List.{take-append-drop}
 use Rattle.ddcmp_frame.specs.Reader.{ReaderView}
 use Rattle.ddcmp_core.specs.Store.{first_message}
-use Rattle.ddcmp_core.specs.Table.{Frame, is_on, may_send, after_accept, after_halt}
+use Rattle.ddcmp_core.specs.Table.{is_on, may_send, after_accept, after_halt}
 use Rattle.ddcmp_proto.specs.declared.config.Config.{Config}
 use Rattle.ddcmp_station.specs.Driving.{deadline_at, is_due, core_after_take_arm, frame_bytes}
 use Rattle.ddcmp_station.specs.Linking.{LinkView, total_plus, with_state, started, anew, after_wake}

@@ -1,5 +1,5 @@
 -- A line that loses and changes nothing: what arrived is a prefix of what was written.
-use Rattle.std.specs.Prelude.{◌≡◌, ℕ, List, [], ◌∷◌, ◌++◌, replicate}
+use Rattle.std.specs.Prelude.{ℕ, List, [], ◌∷◌, ◌++◌, replicate}
 use Rattle.ddcmp_frame.specs.declared.codes.TheConstants.{SYN}
 use Rattle.ddcmp_frame.specs.Wire.{wire}
 use Rattle.ddcmp_pair.specs.declared.event.Event.{Event}

@@ -1,5 +1,7 @@
 pub mod StateTable
 pub mod Arrival
+pub mod MailLines
+pub mod ArrivalInLines
 pub mod Traces
 pub mod Vectors
 pub mod Story

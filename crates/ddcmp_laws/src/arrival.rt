@@ -5,6 +5,7 @@ ghost use Rattle.ddcmp_proto.specs.declared.config.ConfigRefusal.{ConfigRefusal 
 ghost use Rattle.ddcmp_session.specs.Traffic.{LineAct, Traffic, no_traffic};
 ghost use Rattle.ddcmp_session.specs.declared.link.LinkOutcome.{LinkOutcome as LinkOutcomeValue};
 ghost use Rattle.ddcmp_laws.specs.Arrival.{BytesArrive, BytesBegin, IsBinary, IsOneLine, IsStream};
+ghost use Rattle.ddcmp_laws.specs.ArrivalInLines.{IsInLines, LinesArrive, LinesBegin};
 ghost use Rattle.ddcmp_laws.specs.Traces.{IsHonest};
 
 use ddcmp_session::{Devices, LineKind, LinkFault, LinkOutcome, Options, run_link};
@@ -43,6 +44,45 @@ pub fn bytes_arrive<D: Devices, E: Devices>(
         → D.traffic devices.new ≡ Some t → E.traffic other_devices.new ≡ Some u
         → IsBinary options → IsBinary other_options → IsOneLine options other_options t u
         → BytesArrive options t u }
+{
+    let first = run_link(alloc, options, kind, devices);
+    let second = run_link(alloc, other_options, other_kind, other_devices);
+    (first, second)
+}
+
+/// Runs two links over devices that report their bytes, their messages in lines.
+///
+/// Suppose the same of their line. Then the digits of the lines `mail` in what the second wrote to
+/// its output are those of a prefix of the messages in the input of the first, however both end;
+/// and of all of them if the first has read all of its input and both end well. No other line of
+/// that output begins with `mail `.
+pub fn lines_arrive<D: Devices, E: Devices>(
+    alloc: Global,
+    options: Options,
+    other_options: Options,
+    kind: LineKind,
+    other_kind: LineKind,
+    devices: &mut D,
+    other_devices: &mut E,
+) -> (
+    Result<LinkOutcome, LinkFault<D::Refusal>>,
+    Result<LinkOutcome, LinkFault<E::Refusal>>,
+)
+    ensures begins { (t u : Traffic)
+        → ((why : Refusal) → result.0 ≢ Err (LinkFault.Refused why))
+        → ((why : Refusal) → result.1 ≢ Err (LinkFault.Refused why))
+        → D.traffic devices.old ≡ Some no_traffic
+        → E.traffic other_devices.old ≡ Some no_traffic
+        → D.traffic devices.new ≡ Some t → E.traffic other_devices.new ≡ Some u
+        → IsInLines options → IsInLines other_options → IsOneLine options other_options t u
+        → LinesBegin options t u }
+    ensures whole { (outcome other_outcome : LinkOutcomeValue) (t u : Traffic)
+        → result.0 ≡ Ok outcome → result.1 ≡ Ok other_outcome
+        → D.traffic devices.old ≡ Some no_traffic
+        → E.traffic other_devices.old ≡ Some no_traffic
+        → D.traffic devices.new ≡ Some t → E.traffic other_devices.new ≡ Some u
+        → IsInLines options → IsInLines other_options → IsOneLine options other_options t u
+        → LinesArrive options t u }
 {
     let first = run_link(alloc, options, kind, devices);
     let second = run_link(alloc, other_options, other_kind, other_devices);

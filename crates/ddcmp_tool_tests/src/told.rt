@@ -5,7 +5,8 @@ ghost use Rattle.ddcmp_io.specs.Queue.{after_pushed};
 use crate::sessions::{append, options, session};
 use ddcmp_io::{ByteQueue, Got};
 use ddcmp_session::{
-    Buffers, Devices, EndReason, LineKind, LinkOutcome, Session, Transfer, Wanted, run_link,
+    Buffers, Devices, EndReason, LineKind, LinkOutcome, MessageForm, Options, Session, Transfer,
+    Wanted, run_link,
 };
 use std::alloc::Global;
 use std::process::Abort;
@@ -332,11 +333,9 @@ fn have_order(first: &[LineAct], second: &[LineAct]) -> bool {
     true
 }
 
-/// Two runs of a link over one line that is honest, as over a connection: both end well, and the
-/// second delivers what the first has read.
-#[test]
-fn two_links_share_a_line(rt: HostRuntime) {
-    const FILE: &[u8] = b"\0\x03abc";
+/// Runs two links over one line that is honest, as over a connection: both end well, and the second
+/// delivers the message that the first has read. Returns what the second has written.
+fn share_a_line(rt: &(impl Abort + AllocGlobal), form: MessageForm, file: &[u8]) -> Vec<u8> {
     let to_first = &[
         Gate {
             sent: 8,
@@ -357,18 +356,40 @@ fn two_links_share_a_line(rt: HostRuntime) {
             readable: 29,
         },
     ];
-    let mut first = devices(&rt, FILE, OF_SECOND, to_first);
-    let mut second = devices(&rt, b"", OF_FIRST, to_second);
-    let one = run_link(rt.alloc(), options(100, 60), LineKind::Connect, &mut first);
-    let other = run_link(rt.alloc(), options(100, 60), LineKind::Connect, &mut second);
+    let options = Options {
+        form,
+        ..options(100, 60)
+    };
+    let mut first = devices(rt, file, OF_SECOND, to_first);
+    let mut second = devices(rt, b"", OF_FIRST, to_second);
+    let one = run_link(rt.alloc(), options, LineKind::Connect, &mut first);
+    let other = run_link(rt.alloc(), options, LineKind::Connect, &mut second);
     assert!(rt; matches!(&one, Ok(LinkOutcome::Delivered)));
     assert!(rt; matches!(&other, Ok(LinkOutcome::Delivered)));
     assert!(rt; first.lines == 1 && second.lines == 1);
-    let (to_a, by_a) = moved(&rt, first.acts.as_slice());
-    let (to_b, by_b) = moved(&rt, second.acts.as_slice());
+    let (to_a, by_a) = moved(rt, first.acts.as_slice());
+    let (to_b, by_b) = moved(rt, second.acts.as_slice());
     assert!(rt; to_a.as_slice() == by_b.as_slice());
     assert!(rt; to_b.as_slice() == by_a.as_slice());
     assert!(rt; have_order(first.acts.as_slice(), second.acts.as_slice()));
-    assert!(rt; first.read.waiting() == FILE);
-    assert!(rt; second.written.waiting() == FILE);
+    assert!(rt; first.read.waiting() == file);
+    assert!(rt; first.is_over);
+    bytes(rt, second.written.waiting())
+}
+
+/// In binary the second writes the file that the first has read.
+#[test]
+fn two_links_share_a_line(rt: HostRuntime) {
+    const FILE: &[u8] = b"\0\x03abc";
+    let written = share_a_line(&rt, MessageForm::Binary, FILE);
+    assert!(rt; written.as_slice() == FILE);
+}
+
+/// In lines it writes the digits of its messages in lines `mail`, among others.
+#[test]
+fn two_links_share_a_line_in_lines(rt: HostRuntime) {
+    let written = share_a_line(&rt, MessageForm::Digits, b"616263\r\n");
+    let lines = b"notice Running\nnotice HandedUp\nmail 616263\nstate=Halted read=29 written=24 \
+        sent=0 acknowledged=0 handed=1\n";
+    assert!(rt; written.as_slice() == lines.as_slice());
 }
