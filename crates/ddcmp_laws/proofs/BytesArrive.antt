@@ -1,6 +1,6 @@
 -- Two links that ended well: what the one read is what the other wrote.
-use Rattle.std.proofs.Common.{◌≡◌, ◌∙◌, ap, sym, subst, refl, ℕ, Bool, true, false, List, [], Option, Some}
-use Rattle.std.proofs.Common.{None, arith, Result, Ok, Err}
+use Rattle.std.proofs.Common.{◌≡◌, ◌∙◌, ap, sym, subst, refl, ℕ, Bool, true, false, List, []}
+use Rattle.std.proofs.Common.{Option, Some, None, arith, Result, Ok, Err}
 use Rattle.std.specs.Prelude.{◌≤◌}
 use Rattle.std.specs.List.{All}
 use Rattle.ddcmp_input.specs.InBinary.{in_binary, Fits}

@@ -237,7 +237,8 @@ module _ (is_well : Bool) (made : Made) (steps : List SessionStep) (held : Buffe
   -- until the received messages were delivered
   pub delivered_to : Extended made.options after fin.finishes.delivered
       (t.written ++ taken_in fin.finishes.delivers.steps fin.closed)
-  delivered_to = until fin.finishes.delivers.steps fin.finishes.delivered fin.finishes.delivers.calls
+  delivered_to =
+      let f = fin.finishes in until f.delivers.steps f.delivered f.delivers.calls
 
   -- to the end, if no last lines were written
   pub extended : fin.finishes.with_lines ≡ fin.finishes.delivered

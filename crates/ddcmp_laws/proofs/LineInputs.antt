@@ -3,7 +3,8 @@ use Rattle.std.proofs.Common.{◌≡◌, ◌∙◌, ap, sym, refl, ℕ, Bool, tr
 use Rattle.std.proofs.Common.{◌∷◌, ◌++◌, append_assoc, append-nil, map}
 use Rattle.std.specs.List.{All}
 use Rattle.std.proofs.lemmas.List.Elements.{All-head, All-tail}
-use Rattle.ddcmp_input.specs.InLines.{IsLine, Line, in_lines, line_at, line_end, next_number, told_in}
+use Rattle.ddcmp_input.specs.InLines.{IsLine, Line, in_lines, line_at, line_end, next_number}
+use Rattle.ddcmp_input.specs.InLines.{told_in}
 use Rattle.ddcmp_input.specs.InLines as lines
 use Rattle.ddcmp_input.specs.Told.{Got}
 use Rattle.ddcmp_input.proofs.LineLaws.{all_lines, empty_line, one_line}
@@ -86,7 +87,11 @@ given_first made t of returns is fit input = by t.is_over refl
     by : (over : Bool) → t.is_over ≡ over
         → IsPrefixOf (messages_given made t) (map message_of of)
     by true e =
-        ([], append-nil (messages_given made t) ∙ given_lines made t of returns is fit (input.whole e))
+        (
+          [],
+          append-nil (messages_given made t)
+              ∙ given_lines made t of returns is fit (input.whole e),
+        )
     by false e =
         let max = made.options.config.max in
         let rest = input.begins.0 in

@@ -42,7 +42,8 @@ digits_plain : (k n : ℕ) (acc : List ℕ) → is_plain acc ≡ true
 digits_plain zero n acc p = p
 digits_plain (suc k) n acc p =
     let more = digit_glyph false (n % 10) ∷ acc in
-    let q : is_plain more ≡ true = plain_one (digit_glyph false (n % 10)) acc (digit_plain (n % 10)) p in
+    let q : is_plain more ≡ true =
+    plain_one (digit_glyph false (n % 10)) acc (digit_plain (n % 10)) p in
     by (n / 10 == 0) more q (digits_plain k (n / 10) more q)
   where
     by : (last : Bool) (more : List ℕ) → is_plain more ≡ true
@@ -129,7 +130,10 @@ pub mails_first : (xs ys : List ℕ)
     → (rest : List (List ℕ)) × (mails_in xs ++ rest ≡ mails_in (xs ++ ys))
 mails_first xs ys =
     let m = lines_more [] xs ys in
-    (mails_of (lines_from m.0 ys), sym (ap mails_of m.1 ∙ mails_more (lines_from [] xs) (lines_from m.0 ys)))
+    (
+      mails_of (lines_from m.0 ys),
+      sym (ap mails_of m.1 ∙ mails_more (lines_from [] xs) (lines_from m.0 ys)),
+    )
 
 -- A text of whole lines, with these messages.
 abbrev pub Tells : List ℕ → List (List ℕ) → Type 0

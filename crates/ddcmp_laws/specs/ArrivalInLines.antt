@@ -27,12 +27,12 @@ digits_of lines = map (λ (line : Line). encode_lower line.message) lines
 -- If the input of the first is lines of messages that fit, those in the output of the second are a
 -- prefix of these messages.
 abbrev pub LinesBegin : Options → Traffic → Traffic → Type 0
-LinesBegin options t u = (lines : List Line) (returns : Bool) → All (IsLine options.config.max) lines
-    → IsInput (in_lines returns lines) t
+LinesBegin options t u = (lines : List Line) (returns : Bool)
+    → All (IsLine options.config.max) lines → IsInput (in_lines returns lines) t
     → IsPrefixOf (mails_in u.written) (digits_of lines)
 
 -- If the first has read all of it, they are these messages.
 abbrev pub LinesArrive : Options → Traffic → Traffic → Type 0
-LinesArrive options t u = (lines : List Line) (returns : Bool) → All (IsLine options.config.max) lines
-    → t.read ≡ in_lines returns lines
+LinesArrive options t u = (lines : List Line) (returns : Bool)
+    → All (IsLine options.config.max) lines → t.read ≡ in_lines returns lines
     → mails_in u.written ≡ digits_of lines
