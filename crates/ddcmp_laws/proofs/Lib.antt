@@ -3,6 +3,7 @@ pub mod StateTableLaws
 pub mod StationLaws
 pub mod StartingLaws
 pub mod BytesArrive
+pub mod BridgeLaws
 pub mod MailLaws
 pub mod ShownLines
 pub mod LineInputs

@@ -1,5 +1,6 @@
 pub mod StateTable
 pub mod Arrival
+pub mod BridgeFaults
 pub mod MailLines
 pub mod ArrivalInLines
 pub mod Traces

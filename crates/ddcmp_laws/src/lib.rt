@@ -14,6 +14,7 @@ pub mod damage;
 pub mod delivers;
 pub mod drives_recover;
 pub mod endings;
+pub mod faults;
 pub mod line;
 pub mod link_restarts;
 pub mod link_steps;
