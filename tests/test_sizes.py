@@ -1,11 +1,13 @@
 """The program over the whole of each range and with long inputs, compared with what this module
 computes by itself. No contract says that memory is there at every size."""
+import os
 import random
+import time
 
 import pytest
 
-from .process import call
-from .wire import data, rep
+from .process import Link, call, listening
+from .wire import binary, data, rep
 
 pytestmark = pytest.mark.limit(300)
 STARTS = ["start A", "start B", "settle"]
@@ -144,3 +146,26 @@ def test_many_words():
     """Words that ask for nothing are refused, however many they are."""
     output, error, status = call("explain", *["extra"] * 40)
     assert (status, output) == (2, b"") and error.startswith("error: ")
+
+
+@pytest.mark.parametrize("traced", [False, True])
+@pytest.mark.parametrize("window, inbox, longest", [(1, 1, 1), (7, 8, 1500), (255, 255, 16383)])
+def test_memory(window, inbox, longest, traced):
+    """A link allocates before its line is open, and nothing after that, whatever comes in and is
+    not taken out: 700 KB, and `window + inbox + 12` times the longest message, are enough; with a
+    trace 600 KB more."""
+    sizes = "--binary", f"--window={window}", f"--inbox={inbox}", f"--max={longest}"
+    unread, taken = os.pipe()
+    link = Link("listen:127.0.0.1:0", *sizes, *["--trace"] * traced, stdout=taken)
+    port, before = listening(link), link.memory("VmData")
+    peer = Link(f"connect:127.0.0.1:{port}", *sizes)
+    for it in (link, peer):
+        it.give(binary([varied(longest, i) for i in range((1 << 23) // (longest + 40))]), False)
+    assert peer.waits(lambda it: len(it.out) > 1 << 17, 20)
+    time.sleep(1)
+    after = link.memory("VmData")
+    for it in (peer, link):
+        it.kill()
+    os.close(taken)
+    os.close(unread)
+    assert after == before <= 700 + 600 * traced + (window + inbox + 12) * longest / 1024
