@@ -1,7 +1,7 @@
-/* What the toolchain declares of C beside the C library, as far as ddcmp reaches it, for ARM64 Linux
-   with glibc; its own objects are for x86-64. Its libc/src/heap.rt and os/src/c.rt have the contracts.
-   A slice is passed as a pointer and a length. If ddcmp needs more, its link fails and names it.
-   With HEAP_ALONE it is what the C library needs. */
+/* What the toolchain declares of C beside the C library, as far as ddcmp reaches it, for ARM64 with
+   Linux and glibc; its own objects are for x86-64. The contracts are in its libc/src/heap.rt and
+   os/src/c.rt. A slice is passed as a pointer and a length. If ddcmp needs more, its link fails and
+   names it. With HEAP_ALONE it is what the C library needs. */
 #define _GNU_SOURCE
 #include <stdbool.h>
 #include <stddef.h>
