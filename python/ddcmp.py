@@ -605,6 +605,9 @@ class _HasDescriptor(Protocol):
     def fileno(self) -> int: ...
 
 
+_BEGUN = (State.RUNNING, State.MAINTENANCE)
+
+
 class Line:
     """A started station over a file descriptor: a socket, a pipe or a `serial_port`.
 
@@ -657,8 +660,7 @@ class Line:
 
     def send(self, message: Bytes, timeout: Optional[float] = None) -> int:
         """Queues a message once the station runs and the window has room; returns its number."""
-        begun = (State.RUNNING, State.MAINTENANCE)
-        self._until(lambda: self.station.room and self.station.state in begun, timeout)
+        self._until(lambda: self.station.room and self.station.state in _BEGUN, timeout)
         number = self.station.send(message)
         self._write()
         return number
@@ -968,9 +970,8 @@ class AsyncLine(asyncio.Protocol):
 
     async def send(self, message: Bytes) -> int:
         """Queues a message once the station runs and the window has room; returns its number."""
-        begun = (State.RUNNING, State.MAINTENANCE)
         await self._until(lambda: not self._fault and self.station.room
-                          and self.station.state in begun)
+                          and self.station.state in _BEGUN)
         number = self.station.send(message)
         self._run()
         return number
@@ -1016,7 +1017,7 @@ class AsyncLine(asyncio.Protocol):
                 self._waiters.remove(waiter)
 
     def connection_made(self, transport: Any) -> None:
-        transport.set_write_buffer_limits(0)
+        transport.set_write_buffer_limits(1, 0)  # with 0, one of TLS pauses for ever
         self._transport, self._fault = transport, None
         self._run()
 
@@ -1027,6 +1028,9 @@ class AsyncLine(asyncio.Protocol):
         if self._expiry:
             self._expiry.cancel()
         self._wake()
+
+    def eof_received(self) -> None:
+        self.connection_lost(None)  # the transport may wait for a peer that doesn't read
 
     def pause_writing(self) -> None:
         self._is_writable = False
@@ -1052,7 +1056,8 @@ class AsyncLine(asyncio.Protocol):
             self.connection_lost(fault)
             self._transport.abort()
             raise
-        if len(self._received) < self._inbox or self.station.outgoing:
+        is_idle = not self.station.outgoing and self.station.state in _BEGUN
+        if len(self._received) < self._inbox or not is_idle:
             self._transport.resume_reading()
         else:
             self._transport.pause_reading()
@@ -1073,7 +1078,7 @@ class AsyncLine(asyncio.Protocol):
                 self.notice(notice)
 
     def _write(self, transport: asyncio.Transport) -> None:
-        while self._is_writable and not self._fault:
+        while self._is_writable and not transport.is_closing():
             frame = self.station.poll()
             self._arm()
             if not frame:

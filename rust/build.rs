@@ -14,7 +14,8 @@ fn main() {
     println!("cargo:rerun-if-env-changed=DDCMP_LIB_DIR");
     println!("cargo:rerun-if-env-changed=PKG_CONFIG_PATH");
     let made = concat!(env!("CARGO_MANIFEST_DIR"), "/../c/out");
-    let folder = std::env::var("DDCMP_LIB_DIR").ok()
+    let folder = std::env::var("DDCMP_LIB_DIR")
+        .ok()
         .or_else(|| Some(made.to_string()).filter(|it| Path::new(it).join("libddcmp.a").exists()))
         .or_else(found_by_pkg_config)
         .expect("no libddcmp.a: make it by c/build, or DDCMP_LIB_DIR names its folder");

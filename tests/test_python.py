@@ -750,15 +750,22 @@ def test_nobody_receives(kind, pair):
         late(other.receive)
 
 
-def test_peer_leaves(kind, pair):
-    """What the peer sent before is received, and then each call reports the end."""
-    line, (here, there) = kind(pair[0]), pair
+@contextlib.contextmanager
+def running_by_hand(there, **sizes):
+    """A station that is run by hand, once it runs."""
     there.setblocking(False)
-    with ddcmp.Station() as other:
+    with ddcmp.Station(**sizes) as other:
         other.start()
         until = time.monotonic() + SOON
         while other.state != ddcmp.State.RUNNING and time.monotonic() < until:
             by_hand(there, other)
+        yield other
+
+
+def test_peer_leaves(kind, pair):
+    """What the peer sent before is received, and then each call reports the end."""
+    line, there = kind(pair[0]), pair[1]
+    with running_by_hand(there) as other:
         other.send(b"last")
         by_hand(there, other)
         there.shutdown(socket.SHUT_RDWR)
@@ -766,6 +773,20 @@ def test_peer_leaves(kind, pair):
     refused(EOFError, "the line has ended", line.receive, SOON)
     refused(EOFError, "the line has ended", line.send, b"x", SOON)
     assert [line.flush(SOON), list(line)] == [None, []]
+    line.close()
+
+
+def test_peer_reads_nothing(kind, pair):
+    """A peer that has ended its side, and reads no more."""
+    sizes = {"window": 255, "max": 16383}
+    line = kind(pair[0], 60, None, **sizes)
+    with running_by_hand(pair[1], **sizes):
+        for _ in range(200):
+            line.send(bytes(16383), SOON)
+        late(line.flush)
+        pair[1].shutdown(socket.SHUT_WR)
+        for call in (line.receive, line.flush):
+            refused(EOFError, "the line has ended", call, SOON)
     line.close()
 
 

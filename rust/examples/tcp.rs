@@ -31,7 +31,8 @@ impl Link {
     fn read(&mut self) -> Result<(), Box<dyn Error>> {
         let left = self.deadline.saturating_duration_since(Instant::now());
         let wait = left.max(Duration::from_millis(1));
-        self.line.set_read_timeout(Some(wait).filter(|_| self.station.timer_on()))?;
+        self.line
+            .set_read_timeout(Some(wait).filter(|_| self.station.timer_on()))?;
         let mut piece = [0; 4096];
         let length = match self.line.read(&mut piece) {
             Ok(0) => return Err("the line has ended".into()),
@@ -65,7 +66,11 @@ fn main() -> Result<(), Box<dyn Error>> {
     let station = Station::new(Config::default())?;
     let line = TcpStream::connect(address)?;
     line.set_nodelay(true)?;
-    let mut link = Link { station, line, deadline: Instant::now() };
+    let mut link = Link {
+        station,
+        line,
+        deadline: Instant::now(),
+    };
     link.station.start()?;
     let (mut is_sent, mut is_received) = (false, false);
     while !(is_sent && is_received && link.station.outgoing() == 0) {

@@ -34,7 +34,9 @@ use std::fmt;
 #[allow(non_camel_case_types)]
 pub mod ffi;
 
-pub use ffi::{ddcmp_counters as Counters, ddcmp_nak_counts as NakCounts, ddcmp_numbers as Numbers};
+pub use ffi::{
+    ddcmp_counters as Counters, ddcmp_nak_counts as NakCounts, ddcmp_numbers as Numbers,
+};
 
 /// Defines an enumeration of numbers of the C library, with their texts.
 macro_rules! numbers {
@@ -139,7 +141,13 @@ pub struct Config {
 
 impl Default for Config {
     fn default() -> Config {
-        Config { window: 7, inbox: 8, max: 1500, syn: 0, restart: false }
+        Config {
+            window: 7,
+            inbox: 8,
+            max: 1500,
+            syn: 0,
+            restart: false,
+        }
     }
 }
 
@@ -176,21 +184,48 @@ pub struct Station {
 impl Station {
     /// Makes a halted station.
     pub fn new(config: Config) -> Result<Station, Error> {
-        let Config { window, inbox, max, syn, restart } = config;
-        let sizes = ffi::ddcmp_config { window, inbox, max, syn, restart: restart.into() };
+        let Config {
+            window,
+            inbox,
+            max,
+            syn,
+            restart,
+        } = config;
+        let sizes = ffi::ddcmp_config {
+            window,
+            inbox,
+            max,
+            syn,
+            restart: restart.into(),
+        };
         let handle = Cell::new(ffi::DDCMP_NO_STATION);
         checked(unsafe { ffi::ddcmp_new(&sizes, handle.as_ptr()) })?;
         let frame = vec![0; unsafe { ffi::ddcmp_frame_room(handle.as_ptr()) }];
-        Ok(Station { handle, frame, message: vec![0; max.into()] })
+        Ok(Station {
+            handle,
+            frame,
+            message: vec![0; max.into()],
+        })
     }
 
     /// Returns the sizes.
     pub fn config(&self) -> Config {
         let mut sizes = ffi::ddcmp_config::default();
-        checked(unsafe { ffi::ddcmp_config(self.handle.as_ptr(), &mut sizes) })
-            .expect("a station");
-        let ffi::ddcmp_config { window, inbox, max, syn, restart } = sizes;
-        Config { window, inbox, max, syn, restart: restart != 0 }
+        checked(unsafe { ffi::ddcmp_config(self.handle.as_ptr(), &mut sizes) }).expect("a station");
+        let ffi::ddcmp_config {
+            window,
+            inbox,
+            max,
+            syn,
+            restart,
+        } = sizes;
+        Config {
+            window,
+            inbox,
+            max,
+            syn,
+            restart: restart != 0,
+        }
     }
 
     /// Starts a halted station; returns how many queued messages were dropped.
@@ -260,7 +295,12 @@ impl Station {
     pub fn take(&mut self) -> Option<Vec<u8>> {
         let (mut taken, out) = (0, &mut self.message);
         checked(unsafe {
-            ffi::ddcmp_take(self.handle.as_ptr(), out.as_mut_ptr(), out.len(), &mut taken)
+            ffi::ddcmp_take(
+                self.handle.as_ptr(),
+                out.as_mut_ptr(),
+                out.len(),
+                &mut taken,
+            )
         })
         .expect("room for a message");
         Some(out[..taken].to_vec()).filter(|it| !it.is_empty())
@@ -270,18 +310,27 @@ impl Station {
     pub fn feed(&mut self, piece: &[u8]) -> Result<Fed, Error> {
         let (mut used, mut notice) = (0, ffi::ddcmp_notice::default());
         let (at, length) = (self.handle.as_ptr(), piece.len());
-        checked(unsafe {
-            ffi::ddcmp_feed(at, piece.as_ptr(), length, &mut used, &mut notice)
-        })?;
+        checked(unsafe { ffi::ddcmp_feed(at, piece.as_ptr(), length, &mut used, &mut notice) })?;
         let kind = NoticeKind::of(notice.kind.into());
-        Ok(Fed { used, notice: kind.map(|kind| Notice { kind, count: notice.count }) })
+        Ok(Fed {
+            used,
+            notice: kind.map(|kind| Notice {
+                kind,
+                count: notice.count,
+            }),
+        })
     }
 
     /// Returns the next frame for the line, if any.
     pub fn poll(&mut self) -> Option<&[u8]> {
         let (mut written, out) = (0, &mut self.frame);
         checked(unsafe {
-            ffi::ddcmp_poll(self.handle.as_ptr(), out.as_mut_ptr(), out.len(), &mut written)
+            ffi::ddcmp_poll(
+                self.handle.as_ptr(),
+                out.as_mut_ptr(),
+                out.len(),
+                &mut written,
+            )
         })
         .expect("room for a frame");
         Some(&out[..written]).filter(|it| !it.is_empty())
@@ -321,7 +370,9 @@ impl Station {
 
 impl fmt::Debug for Station {
     fn fmt(&self, f: &mut fmt::Formatter<'_>) -> fmt::Result {
-        f.debug_struct("Station").field("state", &self.state()).finish_non_exhaustive()
+        f.debug_struct("Station")
+            .field("state", &self.state())
+            .finish_non_exhaustive()
     }
 }
 
