@@ -10,7 +10,10 @@
    one is null, it does nothing, and returns DDCMP_NULL or what it returns for a handle without a
    station. A null pointer with length 0 is allowed then.
 
-   Only ddcmp_new and ddcmp_reader_new allocate. */
+   Only ddcmp_new and ddcmp_reader_new allocate.
+
+   What 0.x promises: the calls, numbers and structs of libddcmp.so.0 stay as they are. No struct
+   grows: what is added has calls, numbers and structs of its own, and raises the version. */
 #ifndef DDCMP_H
 #define DDCMP_H
 
@@ -18,9 +21,15 @@
 #include <stddef.h>
 #include <stdint.h>
 
+#define DDCMP_VERSION "0.1.0"
+#define DDCMP_VERSION_NUMBER 100    /* major * 10000 + minor * 100 + patch */
+
 #ifdef __cplusplus
 extern "C" {
 #endif
+
+/* Returns the DDCMP_VERSION_NUMBER of the library, which may be a later one than this header's. */
+extern uint32_t ddcmp_version(void);
 
 typedef struct ddcmp_station { void *at; } ddcmp_station;
 #define DDCMP_NO_STATION { NULL }
@@ -191,7 +200,7 @@ struct ddcmp_item {
 #define DDCMP_CALL extern
 #endif
 
-/* A uint32_t that is returned is an enum ddcmp_code, but for ddcmp_state and ddcmp_check. */
+/* A uint32_t that is returned is an enum ddcmp_code, but for ddcmp_state. */
 
 /* Makes a halted station in a handle that has none. */
 DDCMP_CALL uint32_t ddcmp_new(const struct ddcmp_config *config, ddcmp_station *station);
@@ -286,10 +295,6 @@ DDCMP_CALL uint16_t ddcmp_check(const uint8_t *text, size_t length);
 #endif
 
 /* ---- texts */
-
-#define DDCMP_VERSION "0.1.0"
-
-static inline const char *ddcmp_version(void) { return DDCMP_VERSION; }
 
 static inline const char *ddcmp_strerror(uint32_t code) {
     switch (code) {

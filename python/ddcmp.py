@@ -2,10 +2,11 @@
 
 A `Station` does no I/O and keeps no time: received bytes go in, frames and notices come out, and
 the caller runs the reply timer. A `Line` does all that for a station over a socket or a serial
-port. A `Reader` finds frames in bytes. docs/LIBRARY.md states what a caller owes.
+port while one of its calls waits, a `ThreadLine` on a thread of its own, and an `AsyncLine` over a
+transport of asyncio. A `Reader` finds frames in bytes. docs/LIBRARY.md states what a caller owes.
 
-The library is the file that DDCMP_LIBRARY names, else the one installed beside this module, else
-the one that the loader finds.
+The library is the file that DDCMP_LIBRARY names, else the one that was installed with this module
+or that c/build has made beside it, else the one that the loader finds.
 
 Two stations exchange a message in memory:
 
@@ -54,6 +55,9 @@ Traceback (most recent call last):
     ...
 ddcmp.Error: the handle has no station or reader
 """
+import asyncio
+import collections
+import contextlib
 import ctypes
 import enum
 import errno
@@ -61,20 +65,40 @@ import io
 import math
 import os
 import select
+import socket
+import sys
 import termios
 import threading
 import time
 from typing import (
-    Any, Callable, Dict, Iterator, List, NamedTuple, Optional, Protocol, Tuple, Type, TypeVar,
-    Union,
+    Any, AsyncIterator, Callable, Deque, Dict, Iterator, List, NamedTuple, Optional, Protocol, Set,
+    Tuple, Type, TypeVar, Union,
 )
 
+__version__ = "0.1.0"
 Bytes = Union[bytes, bytearray, memoryview]
 Self = TypeVar("Self", bound="_Handle")
 
 
-class _Text(enum.IntEnum):
-    """A number of the C library, with its text."""
+class _ShortHelp(enum.EnumMeta):
+    """Has `help` leave out what an enumeration has of `int`."""
+
+    def __dir__(cls) -> List[str]:
+        return ["__doc__", "__module__", *cls.__members__]
+
+
+class _Number(enum.IntEnum, metaclass=_ShortHelp):
+    """A number of the C library; as text, its name in words."""
+
+    def __str__(self) -> str:
+        return self.name.replace("_", " ").lower()
+
+    def __format__(self, form: str) -> str:
+        return format(str(self), form)
+
+
+class _Text(_Number):
+    """A number of the C library that has a text there."""
 
     text: str
 
@@ -83,6 +107,9 @@ class _Text(enum.IntEnum):
         it._value_ = number
         it.text = text
         return it
+
+    def __str__(self) -> str:
+        return self.text
 
 
 class Code(_Text):
@@ -148,7 +175,7 @@ class HeaderKind(_Text):
     STACK = 7, "STACK"
 
 
-class ItemKind(enum.IntEnum):
+class ItemKind(_Number):
     """The kind of an item."""
 
     GOOD = 1  #: a whole frame with right CRCs
@@ -158,7 +185,7 @@ class ItemKind(enum.IntEnum):
     FORMAT = 5  #: an invalid header with a right CRC
 
 
-class Fault(enum.IntEnum):
+class Fault(_Number):
     """Why a header is invalid. A reader returns only the first two."""
 
     BAD_TYPE = 1  #: no control message has this TYPE
@@ -302,7 +329,7 @@ _CALLS = {
     "frame_room": "np", "next_length": "np", "offset": "8p", "open": "np", "held": "np",
     "take_arm": "tp", "timer_on": "tp", "expire": "tp", "numbers": "4pp", "counters": "4pp",
     "reader_new": "42p", "reader_free": "vp", "reader_push": "4ppnpppnp", "reader_open": "np",
-    "reader_reset": "4p", "write_frame": "4ppnpnp", "check": "2pn",
+    "reader_reset": "4p", "write_frame": "4ppnpnp", "check": "2pn", "version": "4",
 }
 
 
@@ -310,16 +337,18 @@ def _load() -> ctypes.PyDLL:
     """Loads the library. Python's lock is held during its calls, which never wait."""
     name = "libddcmp.so.0"
     home = os.path.dirname(os.path.realpath(__file__))
-    beside = os.path.normpath(os.path.join(home, "../../../lib", name))
-    path = os.environ.get("DDCMP_LIBRARY") or (beside if os.path.exists(beside) else name)
+    # Of `pip install`, of c/build, and of ./install.
+    known = [os.path.normpath(f"{home}/{it}/{name}")
+             for it in ("ddcmp.libs", "../c/out", "../../../lib")]
+    found = next(filter(os.path.exists, known), name)
     try:
-        library = ctypes.PyDLL(path)
-    except OSError as fault:
-        raise ImportError(f"{fault}; DDCMP_LIBRARY names the library") from fault
-    for call, types in _CALLS.items():
-        function = getattr(library, f"ddcmp_{call}")
-        function.restype = _TYPES[types[0]]
-        function.argtypes = [_TYPES[it] for it in types[1:]]
+        library = ctypes.PyDLL(os.environ.get("DDCMP_LIBRARY") or found)
+        for call, types in _CALLS.items():
+            function = getattr(library, f"ddcmp_{call}")
+            function.restype = _TYPES[types[0]]
+            function.argtypes = [_TYPES[it] for it in types[1:]]
+    except (OSError, AttributeError) as fault:
+        raise ImportError(f"{fault}; DDCMP_LIBRARY names the library") from None
     return library
 
 
@@ -399,6 +428,8 @@ class Station(_Handle):
     Call `start`; then `poll` until it returns None, after each `feed`, `send` and `expire`. If
     `take_arm` returns True, set a deadline for the reply timer; when it comes and `timer_on` is
     True, call `expire`. Don't feed while `waiting` is as many as `config.inbox`.
+
+    The sizes are those of a `Config`, or of keywords, as in `Station(max=512)`.
     """
 
     state: State = _query("state", "The state.", State)
@@ -412,7 +443,8 @@ class Station(_Handle):
     held: int = _query("held", "How many bytes are buffered.")
     timer_on: bool = _query("timer_on", "Whether the reply timer is on.")
 
-    def __init__(self, config: Config = Config()) -> None:
+    def __init__(self, config: Config = Config(), **sizes: int) -> None:
+        config = Config(**{**config._asdict(), **sizes})
         window, inbox, longest = (_fit(it, 16) for it in config[:3])
         sizes = _Config(window, inbox, longest, _fit(config.syn, 8), bool(config.restart))
         super().__init__(ctypes.byref(sizes))
@@ -573,6 +605,9 @@ class _HasDescriptor(Protocol):
     def fileno(self) -> int: ...
 
 
+_BEGUN = (State.RUNNING, State.MAINTENANCE)
+
+
 class Line:
     """A started station over a file descriptor: a socket, a pipe or a `serial_port`.
 
@@ -625,8 +660,7 @@ class Line:
 
     def send(self, message: Bytes, timeout: Optional[float] = None) -> int:
         """Queues a message once the station runs and the window has room; returns its number."""
-        begun = (State.RUNNING, State.MAINTENANCE)
-        self._until(lambda: self.station.room and self.station.state in begun, timeout)
+        self._until(lambda: self.station.room and self.station.state in _BEGUN, timeout)
         number = self.station.send(message)
         self._write()
         return number
@@ -642,12 +676,7 @@ class Line:
 
     def __iter__(self) -> Iterator[bytes]:
         """Yields received messages until the line ends."""
-        while True:
-            try:
-                message = self.receive()
-            except EOFError:
-                return
-            yield message
+        return _until_end(self.receive)
 
     def _until(self, is_done: Callable[[], bool], timeout: Optional[float]) -> None:
         """Runs the line until something is done."""
@@ -726,6 +755,343 @@ class Line:
 
     def _is_full(self) -> bool:
         return self.station.waiting >= self._inbox
+
+
+def _until_end(receive: Callable[[], bytes]) -> Iterator[bytes]:
+    while True:
+        try:
+            message = receive()
+        except EOFError:
+            return
+        yield message
+
+
+class ThreadLine:
+    """A line with a station of its own, which a thread runs while the program is busy.
+
+    The calls are those of `Line`, for any thread. A call raises what ended the line: EOFError if
+    the line has ended or was closed, ConnectionResetError if the station is halted, as when the
+    peer has restarted, or what `notice` has raised, which is called on the line's thread. Reading
+    pauses while as many messages as the inbox has are not received yet and all that was sent is
+    acknowledged.
+
+    As a context manager it flushes on exit, unless an exception was raised, and closes. A program
+    that ends without that doesn't wait for the thread.
+
+    >>> here, there = socket.socketpair()
+    >>> with ThreadLine(here, max=512) as one, ThreadLine(there, max=512) as other:
+    ...     one.send(b"Hello", 10)
+    ...     print(other.receive(10))
+    b'Hello'
+    """
+
+    def __init__(self, transport: Union[int, _HasDescriptor], config: Config = Config(),
+                 timer: float = 3.0, notice: Optional[Callable[[Notice], object]] = None,
+                 **sizes: int) -> None:
+        self.config = Config(**{**config._asdict(), **sizes})
+        self.state: Optional[State] = None  #: that of the station when the thread last looked
+        self._changed = threading.Condition()  # for all below
+        self._queued: Deque[bytes] = collections.deque()
+        self._received: Deque[bytes] = collections.deque()
+        self._is_flushed, self._is_closing = True, False
+        self._fault: Optional[BaseException] = None
+        self._wakes, self._waker = socket.socketpair()
+        self._wakes.setblocking(False)
+        self._waker.setblocking(False)
+        words = transport, timer, notice
+        self._thread = threading.Thread(target=self._run, args=words, daemon=True)
+        self._thread.start()
+        with self._once(lambda: self.state is not None, None):
+            pass
+
+    def __enter__(self) -> "ThreadLine":
+        return self
+
+    def __exit__(self, kind: Optional[Type[BaseException]], *_: object) -> None:
+        try:
+            if kind is None:
+                self.flush()
+        finally:
+            self.close()
+
+    def send(self, message: Bytes, timeout: Optional[float] = None) -> None:
+        """Queues a message once fewer than the window are queued that the station didn't take."""
+        data = _bytes(message)
+        if not 0 < len(data) <= self.config.max:
+            raise Error(Code.TOO_LONG if data else Code.EMPTY)
+        with self._once(lambda: not self._fault and len(self._queued) < self.config.window, timeout):
+            self._queued.append(data)
+            self._is_flushed = False
+
+    def receive(self, timeout: Optional[float] = None) -> bytes:
+        """Waits for the next received message, and returns it."""
+        with self._once(lambda: len(self._received) > 0, timeout):
+            return self._received.popleft()
+
+    def flush(self, timeout: Optional[float] = None) -> None:
+        """Waits until each message is acknowledged and each frame is written."""
+        with self._once(lambda: self._is_flushed, timeout):
+            pass
+
+    def __iter__(self) -> Iterator[bytes]:
+        """Yields received messages until the line ends."""
+        return _until_end(self.receive)
+
+    def close(self) -> None:
+        """Ends the thread, and leaves the transport open: what isn't acknowledged is lost."""
+        if sys.is_finalizing():  # there are no other threads any more
+            return
+        with self._changed:
+            self._is_closing = True
+            self._wake()
+        if threading.current_thread() is not self._thread:
+            self._thread.join()
+
+    @contextlib.contextmanager
+    def _once(self, is_done: Callable[[], bool], timeout: Optional[float]) -> Iterator[None]:
+        """Waits until something is done, and wakes the thread after what is done then."""
+        if threading.current_thread() is self._thread:
+            raise RuntimeError("a line can't be waited for on its own thread")
+        with self._changed:
+            self._changed.wait_for(lambda: is_done() or self._fault, timeout)
+            if not is_done():
+                raise self._fault or TimeoutError("the line took too long")
+            yield
+            self._wake()
+
+    def _wake(self) -> None:
+        with contextlib.suppress(OSError):  # it will wake, or has ended
+            self._waker.send(b"\0")
+
+    def _run(self, *words: Any) -> None:
+        """Runs the line until it ends."""
+        fault: BaseException = EOFError("the line has ended")
+        try:
+            with Station(self.config) as station:
+                station.start()
+                self._turn(Line(station, *words))
+        except (OSError, EOFError, Error) as it:
+            fault = it
+        except BaseException as it:
+            fault = it
+            raise
+        finally:
+            with self._changed:
+                self._fault = fault
+                self._changed.notify_all()
+                self._wakes.close()
+                self._waker.close()
+
+    def _turn(self, line: Line) -> None:
+        """Runs the line, and exchanges messages with the program, until it ends or is closed."""
+        line._poller.register(self._wakes, select.POLLIN)
+        try:
+            while True:
+                line._feed()
+                line._write()
+                with contextlib.suppress(BlockingIOError):
+                    self._wakes.recv(4096)  # before it looks at what it was woken for
+                if self._is_closing:
+                    return
+                if not self._exchange(line):
+                    line._wait(math.inf)
+        finally:
+            with self._changed:
+                self._received += iter(line.station.take, None)
+
+    def _exchange(self, line: Line) -> bool:
+        """Moves messages between the station and the program; returns whether there were any."""
+        station, moved = line.station, 0
+        with self._changed:
+            self.state = station.state
+            while self._queued and station.room and self.state == State.RUNNING:
+                station.send(self._queued.popleft())
+                moved += 1
+            while station.waiting and (len(self._received) < self.config.inbox or station.outgoing):
+                self._received.append(station.take() or b"")
+                moved += 1
+            self._is_flushed = not self._queued and not station.outgoing and not line._frame
+            self._changed.notify_all()
+        if self.state == State.HALTED:
+            raise ConnectionResetError("the station is halted")
+        return moved > 0
+
+
+class AsyncLine(asyncio.Protocol):
+    """A station over a transport of asyncio, such as a connection; it runs while its loop does.
+
+    Start the station first. A call raises what ended the line: EOFError if the line has ended or
+    was closed, ConnectionResetError if the station is halted, as when the peer has restarted, or
+    what `notice` has raised. Reading pauses while as many messages as the inbox has are not
+    received yet and all that was sent is acknowledged.
+
+    As a context manager it flushes on exit, unless an exception was raised, and closes.
+
+    >>> async def echo(line: AsyncLine) -> None:
+    ...     async for message in line:
+    ...         await line.send(message[::-1])
+    >>> async def main() -> None:
+    ...     lines = []
+    ...     for end in socket.socketpair():
+    ...         station = Station(max=512)
+    ...         station.start()
+    ...         loop = asyncio.get_running_loop()
+    ...         _, line = await loop.create_connection(lambda: AsyncLine(station), sock=end)
+    ...         lines.append(line)
+    ...     echoes = asyncio.create_task(echo(lines[1]))
+    ...     async with lines[0] as line:
+    ...         await line.send(b"stressed")
+    ...         print(await line.receive())
+    ...     await echoes
+    >>> asyncio.run(main())
+    b'desserts'
+    """
+
+    def __init__(self, station: Station, timer: float = 3.0,
+                 notice: Optional[Callable[[Notice], object]] = None) -> None:
+        self.station, self.timer, self.notice = station, timer, notice
+        self._inbox = station.config.inbox
+        self._received: Deque[bytes] = collections.deque()
+        self._waiters: Set["asyncio.Future[None]"] = set()
+        self._transport: Optional[asyncio.Transport] = None
+        self._expiry: Optional[asyncio.TimerHandle] = None
+        self._is_writable = True
+        self._fault: Optional[BaseException] = ConnectionError("the line isn't connected")
+
+    async def __aenter__(self) -> "AsyncLine":
+        return self
+
+    async def __aexit__(self, kind: Optional[Type[BaseException]], *_: object) -> None:
+        try:
+            if kind is None:
+                await self.flush()
+        finally:
+            self.close()
+
+    async def send(self, message: Bytes) -> int:
+        """Queues a message once the station runs and the window has room; returns its number."""
+        await self._until(lambda: not self._fault and self.station.room
+                          and self.station.state in _BEGUN)
+        number = self.station.send(message)
+        self._run()
+        return number
+
+    async def receive(self) -> bytes:
+        """Waits for the next received message, and returns it."""
+        await self._until(lambda: len(self._received) > 0)
+        message = self._received.popleft()
+        self._run()
+        return message
+
+    async def flush(self) -> None:
+        """Waits until each message is acknowledged and each frame is written."""
+        await self._until(lambda: not self.station.outgoing and self._is_writable)
+
+    async def __aiter__(self) -> AsyncIterator[bytes]:
+        """Yields received messages until the line ends."""
+        while True:
+            try:
+                message = await self.receive()
+            except EOFError:
+                return
+            yield message
+
+    def close(self) -> None:
+        """Closes the transport: what isn't acknowledged is lost."""
+        self.connection_lost(None)
+        if self._transport:
+            self._transport.close()
+
+    async def _until(self, is_done: Callable[[], bool]) -> None:
+        """Waits until something is done."""
+        while not is_done():
+            if self._fault:
+                raise self._fault
+            if self.station.state == State.HALTED:
+                raise ConnectionResetError("the station is halted")
+            waiter = asyncio.get_running_loop().create_future()
+            self._waiters.add(waiter)
+            try:
+                await waiter
+            finally:
+                self._waiters.remove(waiter)
+
+    def connection_made(self, transport: Any) -> None:
+        transport.set_write_buffer_limits(1, 0)  # with 0, one of TLS pauses for ever
+        self._transport, self._fault = transport, None
+        self._run()
+
+    def connection_lost(self, exc: Optional[BaseException]) -> None:
+        if not self._fault:
+            is_end = exc is None or isinstance(exc, BrokenPipeError)
+            self._fault = EOFError("the line has ended") if is_end else exc
+        if self._expiry:
+            self._expiry.cancel()
+        self._wake()
+
+    def eof_received(self) -> None:
+        self.connection_lost(None)  # the transport may wait for a peer that doesn't read
+
+    def pause_writing(self) -> None:
+        self._is_writable = False
+
+    def resume_writing(self) -> None:
+        self._is_writable = True
+        self._run()
+
+    def data_received(self, data: bytes) -> None:
+        self._run(data)
+
+    def _run(self, data: bytes = b"", is_late: bool = False) -> None:
+        """Feeds received bytes, and writes frames while the transport takes them."""
+        if self._fault or not self._transport:
+            return
+        try:
+            for at in range(0, len(data), 4096):
+                self._feed(data[at:at + 4096])
+            if is_late and self.station.timer_on:
+                self.station.expire()
+            self._write(self._transport)
+        except Exception as fault:
+            self.connection_lost(fault)
+            self._transport.abort()
+            raise
+        is_idle = not self.station.outgoing and self.station.state in _BEGUN
+        if len(self._received) < self._inbox or not is_idle:
+            self._transport.resume_reading()
+        else:
+            self._transport.pause_reading()
+        self._wake()
+
+    def _wake(self) -> None:
+        for it in self._waiters:
+            if not it.done():
+                it.set_result(None)
+
+    def _feed(self, piece: bytes) -> None:
+        while piece and not self._fault:
+            used, notice = self.station.feed(piece)
+            piece = piece[used:]
+            self._received += iter(self.station.take, None)
+            self._arm()
+            if notice and self.notice:
+                self.notice(notice)
+
+    def _write(self, transport: asyncio.Transport) -> None:
+        while self._is_writable and not transport.is_closing():
+            frame = self.station.poll()
+            self._arm()
+            if not frame:
+                return
+            transport.write(frame)
+
+    def _arm(self) -> None:
+        """Sets the deadline of the reply timer if it was started."""
+        if self.station.take_arm():
+            if self._expiry:
+                self._expiry.cancel()
+            loop = asyncio.get_running_loop()
+            self._expiry = loop.call_later(self.timer, self._run, b"", True)
 
 
 def serial_port(path: str, speed: int = 9600) -> io.FileIO:

@@ -66,7 +66,8 @@ def test_names(library):
     archive = f"{library}/libddcmp.a"
     defined = re.findall(r" [A-Z] (.*)$", printed("nm", "-g", "--defined-only", archive, text=True),
                          re.M)
-    declared = re.findall(r"^DDCMP_CALL .*(ddcmp_[a-z_]*)\(", text_of("include/ddcmp.h"), re.M)
+    declared = re.findall(r"^(?:DDCMP_CALL|extern) .*(ddcmp_[a-z_]*)\(",
+                          text_of("include/ddcmp.h"), re.M)
     assert sorted(defined) == sorted(declared) != []
     asked = re.findall(r"^ *U (.*)$", printed("nm", "-u", archive, text=True), re.M)
     assert sorted(asked) == ["free", "malloc", "memcpy", "memmove", "memset", "realloc"]

@@ -1,12 +1,14 @@
 """python/ddcmp.py: its numbers, texts, layouts and calls against include/ddcmp.h, its examples, two
 processes that exchange messages over sockets, a line that loses bytes and a pseudo-terminal,
 refusals, memory, and calls after a close."""
+import asyncio
 import contextlib
 import copy
 import ctypes
 import doctest
 import gc
 import os
+import pydoc
 import re
 import select
 import socket
@@ -19,7 +21,7 @@ import traceback
 
 import pytest
 
-from .process import TOP, text_of
+from .process import TOP, contents, text_of, version
 from .wire import drawn
 
 pytestmark = pytest.mark.limit(240)
@@ -115,10 +117,10 @@ def test_numbers_and_layouts(tmp_path):
 def test_calls():
     """Each call of the header, with the types of its result and its arguments."""
     wanted = {}
-    for result, name, arguments in re.findall(r"^DDCMP_CALL (\w+) ddcmp_(\w+)\(([^)]*)\);",
-                                              text_of("include/ddcmp.h"), re.M):
+    calls = r"^(?:DDCMP_CALL|extern) (\w+) ddcmp_(\w+)\(([^)]*)\);"
+    for result, name, arguments in re.findall(calls, text_of("include/ddcmp.h"), re.M):
         types = ["p" if "*" in it else LETTERS[it.split()[0]] for it in arguments.split(",")]
-        wanted[name] = LETTERS[result] + "".join(types)
+        wanted[name] = LETTERS[result] + "".join(types).replace("v", "")
     assert ddcmp._CALLS == wanted
 
 
@@ -155,6 +157,13 @@ def test_refused_sizes(name, values):
     for value in values:
         refused(ddcmp.Error, ddcmp.Code[name.upper()].text, ddcmp.Station,
                 ddcmp.Config(**{name: value}))
+
+
+def test_sizes_by_keyword():
+    assert ddcmp.Station(max=512, restart=True).config == ddcmp.Config(max=512, restart=True)
+    assert ddcmp.Station(ddcmp.Config(3, 4), inbox=5).config == ddcmp.Config(3, 5)
+    with pytest.raises(TypeError):
+        ddcmp.Station(size=3)
 
 
 def test_refused_readers():
@@ -473,6 +482,12 @@ def test_not_written(pair):
         refused(TimeoutError, "the line took too long", line.flush, 0.1)
 
 
+def over_library(**more):
+    """The environment of a program with the module of these sources."""
+    names = {"PYTHONPATH": f"{TOP}/python", "PYTHONDONTWRITEBYTECODE": "1"}
+    return {**os.environ, **names, **more}
+
+
 def echoes(listener):
     with started(listener.accept()[0]) as line:
         line.send(line.receive(SOON)[::-1], SOON)
@@ -480,20 +495,62 @@ def echoes(listener):
         refused(EOFError, "the line has ended", line.receive, SOON)
 
 
-def test_documented_example():
-    """The example of docs/LIBRARY.md, over a connection of this machine."""
+@pytest.mark.parametrize("number, notices", [(0, 1), (1, 0)])
+def test_documented_program(number, notices):
+    """The programs of docs/LIBRARY.md, over a connection of this machine."""
     section = text_of("docs/LIBRARY.md").split("\n## Python\n")[1]
-    text = re.search(r"^    import socket\n(?:(?:    .*)?\n)*", section, re.M)[0]
-    text = re.sub("^    ", "", text, flags=re.M)
-    names = {"PYTHONPATH": f"{TOP}/python", "PYTHONDONTWRITEBYTECODE": "1"}
+    programs = re.findall(r"^    import .*\n(?:(?:    .*)?\n)*", section, re.M)
+    assert len(programs) == 2
+    text = re.sub("^    ", "", programs[number], flags=re.M)
     with socket.create_server(("127.0.0.1", 0)) as listener:
         pid = child([], echoes, listener)
-        text = text.replace('("pdp11", 7000)', str(listener.getsockname()))
-        it = subprocess.run([sys.executable, "-c", text], env={**os.environ, **names},
+        text = text.replace('"pdp11", 7000', str(listener.getsockname())[1:-1])
+        it = subprocess.run([sys.executable, "-c", text], env=over_library(),
                             capture_output=True, text=True, check=False)
     assert [it.returncode, it.stderr] == [0, ""]
-    assert "b'olleH'" in it.stdout and it.stdout.count("Notice(kind=<NoticeKind.RUNNING") == 1
+    assert it.stdout.splitlines().count("b'olleH'") == 1
+    assert it.stdout.count("Notice(kind=<NoticeKind.RUNNING") == notices
     must_end_well(pid)
+
+
+def test_installed_by_pip(library, tmp_path):
+    """`pip install ./python` into a new environment, without a network: the module, with the library
+    that is named or built then."""
+    made, names = str(tmp_path / "made"), {**os.environ, "PIP_NO_INDEX": "1"}
+    subprocess.run([sys.executable, "-m", "venv", made], check=True)
+    words = [f"{made}/bin/pip", "install", "--disable-pip-version-check", "./python"]
+    subprocess.run(words, cwd=TOP, env=names, capture_output=True, check=True)
+    del names["DDCMP_LIBRARY"]
+    text = ("import ddcmp, importlib.metadata as known\n"
+            "print(ddcmp.__version__, known.version('ddcmp'), ddcmp._LIBRARY._name)\n")
+    found = subprocess.check_output([f"{made}/bin/python", "-I", "-c", text], env=names, text=True)
+    *versions, path = found.split()
+    assert versions == [version(), version()]
+    assert path.startswith(f"{made}/lib/") and path.endswith("/ddcmp.libs/libddcmp.so.0")
+    assert contents(path) == contents(f"{library}/libddcmp.so")
+
+
+def test_version():
+    """It is that of the header, and of the library."""
+    major, minor, patch = map(int, ddcmp.__version__.split("."))
+    assert ddcmp.__version__ == version()
+    assert ddcmp._call("version") == major * 10000 + minor * 100 + patch
+
+
+def test_no_library():
+    it = subprocess.run([sys.executable, "-c", "import ddcmp"], capture_output=True, text=True,
+                        env=over_library(DDCMP_LIBRARY="/nowhere"), check=False)
+    assert it.returncode == 1 and it.stderr.splitlines()[-1].startswith("ImportError: /nowhere: ")
+    assert it.stderr.endswith("; DDCMP_LIBRARY names the library\n")
+
+
+def test_help():
+    """It has no methods of numbers; as text a number is its name in words."""
+    text = pydoc.plain(pydoc.render_doc(ddcmp))
+    assert "bit_length" not in text and "PEER_RESTARTED" in text and "send(self, message" in text
+    words = [ddcmp.State.ISTART, ddcmp.Code.EMPTY, ddcmp.ItemKind.TOO_LONG, ddcmp.Fault.COUNT_ZERO]
+    assert [f"{it}" for it in words] == [str(it) for it in words] == [
+        "IStart", "the message is empty", "too long", "count zero"]
 
 
 def by_hand(there, other):
@@ -556,3 +613,329 @@ def test_last_words(pair):
         assert raised(lambda: line.send(b"x", SOON)) == 1
         assert raised(lambda: line.receive(SOON)) == b"last"
         refused(EOFError, "the line has ended", line.receive, SOON)
+
+
+# ---- lines that run by themselves: on a thread, and in a loop of asyncio
+
+class Awaited:
+    """An AsyncLine in a loop on a thread, with the calls of a ThreadLine."""
+
+    def __init__(self, transport, *words, **sizes):
+        self.loop, self.faults = asyncio.new_event_loop(), []
+        self.loop.set_exception_handler(lambda _, it: self.faults.append(it.get("exception")))
+        self.thread = threading.Thread(target=self.loop.run_forever, daemon=True)
+        self.thread.start()
+        self.line = self.wait(self.made(transport, sizes, words))
+
+    async def made(self, transport, sizes, words):
+        station = ddcmp.Station(**sizes)
+        station.start()
+        here = transport.dup()
+        loop = asyncio.get_running_loop()
+        return (await loop.create_connection(
+            lambda: ddcmp.AsyncLine(station, *words), sock=here))[1]
+
+    def wait(self, work, timeout=None):
+        work = asyncio.wait_for(work, timeout)
+        return asyncio.run_coroutine_threadsafe(work, self.loop).result()
+
+    def __enter__(self):
+        return self
+
+    def __exit__(self, kind, *_):
+        try:
+            if kind is None:
+                self.flush()
+        finally:
+            self.close()
+
+    def __iter__(self):
+        async def all_of_it():
+            return [it async for it in self.line]
+        return iter(self.wait(all_of_it()))
+
+    def send(self, message, timeout=None):
+        return self.wait(self.line.send(message), timeout)
+
+    def receive(self, timeout=None):
+        return self.wait(self.line.receive(), timeout)
+
+    def flush(self, timeout=None):
+        return self.wait(self.line.flush(), timeout)
+
+    def close(self):
+        self.loop.call_soon_threadsafe(self.line.close)
+        if threading.current_thread() is not self.thread:
+            self.wait(asyncio.sleep(0))
+
+
+@pytest.fixture(params=["ThreadLine", "AsyncLine"])
+def kind(request):
+    """How such a line is made: its transport, the reply timer, what is called, and sizes."""
+    if request.param == "AsyncLine":
+        return Awaited
+    return lambda transport, *words, **sizes: ddcmp.ThreadLine(
+        transport, ddcmp.Config(), *words, **sizes)
+
+
+def late(call, *arguments):
+    """A call times out."""
+    with pytest.raises((TimeoutError, asyncio.TimeoutError)):
+        call(*arguments, 0.2)
+
+
+def test_several_threads(kind, pair):
+    """Two stations in one program, one of them with several senders: each message arrives once,
+    those of a sender in their order."""
+    with kind(pair[0], 3, None, window=3) as one, kind(pair[1], 3, None, inbox=2) as other:
+        senders = [threading.Thread(target=lambda i=i: [
+            one.send(bytes([i, n]), SOON) for n in range(100)]) for i in range(3)]
+        for it in senders:
+            it.start()
+        found = [other.receive(SOON) for _ in range(300)]
+        one.flush(SOON)
+    for i in range(3):
+        assert [it[1] for it in found if it[0] == i] == list(range(100))
+
+
+def test_both_ways(kind):
+    mine, others = messages_of(300), messages_of(200)
+    here, there = socket.socketpair()
+    pid = child([here], lingers, there, others, mine, 5)
+    there.close()
+    with kind(here, 5) as line:
+        exchange(line, mine, others)
+    here.close()
+    must_end_well(pid)
+
+
+def test_lost_bytes_without_calls(kind):
+    """A line that loses chunks, and a program that makes no call until its peer has all."""
+    mine, others = messages_of(60), messages_of(60)
+    (here, near), (there, far), (told, tells) = (socket.socketpair() for _ in range(3))
+    pids = [child([here, there], lossy, near, far, 0.1),
+            child([here, near, far, told], lingers, there, others, mine, 0.05, tells)]
+    for it in (near, far, there):
+        it.close()
+    with kind(here, 0.05) as line:
+        exchange(line, mine, others)
+        assert select.select([told], [], [], SOON)[0]
+    here.close()
+    for pid in pids:
+        must_end_well(pid)
+
+
+def test_busy_program(kind, pair):
+    """A peer is acknowledged while the program does something else."""
+    with kind(pair[0]), started(pair[1], 0.5) as line:
+        for it in messages_of(8):
+            line.send(it, SOON)
+        line.flush(SOON)
+        assert line.station.counters.expiries == 0
+
+
+def test_nobody_receives(kind, pair):
+    """Reading pauses when the inbox is full, and goes on for the sake of what was sent."""
+    with kind(pair[0], 3, None, window=2) as one, kind(pair[1], 3, None, inbox=2) as other:
+        count = 0
+        with contextlib.suppress(TimeoutError, asyncio.TimeoutError):
+            while count < 1000:
+                one.send(bytes([count % 256]), 0.2)
+                count += 1
+        assert count < 20
+        other.send(b"back", SOON)
+        assert one.receive(SOON) == b"back"
+        other.flush(SOON)
+        assert [other.receive(SOON) for _ in range(count)] == [bytes([it]) for it in range(count)]
+        late(other.receive)
+
+
+@contextlib.contextmanager
+def running_by_hand(there, **sizes):
+    """A station that is run by hand, once it runs."""
+    there.setblocking(False)
+    with ddcmp.Station(**sizes) as other:
+        other.start()
+        until = time.monotonic() + SOON
+        while other.state != ddcmp.State.RUNNING and time.monotonic() < until:
+            by_hand(there, other)
+        yield other
+
+
+def test_peer_leaves(kind, pair):
+    """What the peer sent before is received, and then each call reports the end."""
+    line, there = kind(pair[0]), pair[1]
+    with running_by_hand(there) as other:
+        other.send(b"last")
+        by_hand(there, other)
+        there.shutdown(socket.SHUT_RDWR)
+    assert line.receive(SOON) == b"last"
+    refused(EOFError, "the line has ended", line.receive, SOON)
+    refused(EOFError, "the line has ended", line.send, b"x", SOON)
+    assert [line.flush(SOON), list(line)] == [None, []]
+    line.close()
+
+
+def test_peer_reads_nothing(kind, pair):
+    """A peer that has ended its side, and reads no more."""
+    sizes = {"window": 255, "max": 16383}
+    line = kind(pair[0], 60, None, **sizes)
+    with running_by_hand(pair[1], **sizes):
+        for _ in range(200):
+            line.send(bytes(16383), SOON)
+        late(line.flush)
+        pair[1].shutdown(socket.SHUT_WR)
+        for call in (line.receive, line.flush):
+            refused(EOFError, "the line has ended", call, SOON)
+    line.close()
+
+
+def test_unacknowledged(kind, pair):
+    """A peer that leaves what was sent unacknowledged."""
+    line = kind(pair[0])
+    with started(pair[1]) as other:
+        while other.station.state != ddcmp.State.RUNNING:
+            raised(lambda: other.receive(0.01))
+    line.send(b"x", SOON)
+    late(line.flush)
+    pair[1].shutdown(socket.SHUT_RDWR)
+    refused(EOFError, "the line has ended", line.flush, SOON)
+    line.close()
+
+
+def test_peer_restarts(kind, pair):
+    with kind(pair[0]) as line, started(pair[1]) as other:
+        other.send(b"first", SOON)
+        other.flush(SOON)
+        other.station.halt()
+        other.station.start()
+        raised(lambda: other.receive(0.1))
+        assert line.receive(SOON) == b"first"
+        for call in ([line.receive, SOON], [line.send, b"x", SOON]):
+            refused(ConnectionResetError, "the station is halted", *call)
+
+
+def test_closed_line(kind, pair):
+    """By another thread while a call waits, and twice; then each call reports the end."""
+    line = kind(pair[0])
+    closer = threading.Timer(0.2, line.close)
+    closer.start()
+    refused(EOFError, "the line has ended", line.receive, SOON)
+    closer.join()
+    line.close()
+    for call in ([line.receive, SOON], [line.send, b"x", SOON]):
+        refused(EOFError, "the line has ended", *call)
+    assert list(line) == []
+
+
+PRINTED = pytest.mark.filterwarnings("ignore::pytest.PytestUnhandledThreadExceptionWarning")
+
+
+@PRINTED
+@pytest.mark.parametrize("kind_of_fault", [ZeroDivisionError, EOFError, OSError, SystemExit])
+def test_fault_of_a_callback(kind, pair, kind_of_fault):
+    """What is raised by what is called for a notice ends the line, and is raised by its calls."""
+    def raises(_):
+        raise kind_of_fault("mine")
+    if kind is Awaited and kind_of_fault is SystemExit:
+        return  # it ends the loop, as in any callback
+    line = kind(pair[0], 3, raises)
+    with started(pair[1]) as other:
+        raised(lambda: other.receive(0.2))
+        refused(kind_of_fault, "mine", line.receive, SOON)
+        refused(kind_of_fault, "mine", line.send, b"x", SOON)
+    line.close()
+
+
+def test_callback_that_closes(kind, pair):
+    made = []
+
+    def closes(_):
+        made[0].close()
+    made.append(kind(pair[0], 3, closes))
+    with started(pair[1]) as other:
+        raised(lambda: other.receive(0.2))
+        refused(EOFError, "the line has ended", made[0].receive, SOON)
+
+
+def test_nothing_is_left(pair):
+    """Of a ThreadLine: no thread and no descriptor, whatever its end was."""
+    def counted():
+        return threading.active_count(), len(os.listdir("/proc/self/fd"))
+    before = counted()
+    for _ in range(50):
+        ddcmp.ThreadLine(pair[0]).close()
+        refused(ddcmp.Error, ddcmp.Code.MAX.text, lambda: ddcmp.ThreadLine(pair[0], max=0))
+        refused(ddcmp.Error, ddcmp.Code.SYN.text, ddcmp.ThreadLine, pair[0], ddcmp.Config(syn=17))
+        refused(OSError, "[Errno 9] Bad file descriptor", ddcmp.ThreadLine, 987654)
+    assert counted() == before
+
+
+@PRINTED
+def test_waits_on_its_own_thread(pair):
+    made = []
+    made.append(ddcmp.ThreadLine(pair[0], notice=lambda _: made[0].receive()))
+    with started(pair[1]) as other:
+        raised(lambda: other.receive(0.2))
+        refused(RuntimeError, "a line can't be waited for on its own thread", made[0].receive, SOON)
+
+
+def test_refused_messages(pair):
+    with ddcmp.ThreadLine(pair[0], max=3) as line:
+        refused(ddcmp.Error, "the message is empty", line.send, b"")
+        refused(ddcmp.Error, "the message is too long", line.send, b"abcd")
+        refused(TypeError, "memoryview: a bytes-like object is required, not 'str'", line.send, "a")
+
+
+ENDS = {
+    "at its end": ("", 0, ""),
+    "by an exception": ("raise KeyError(3)", 1, "KeyError: 3"),
+    "by an exit": ("sys.exit(5)", 5, ""),
+    "with a call at exit": ("atexit.register(line.close)", 0, ""),
+    "with a late close": ("class Late:\n    def __del__(self): line.close()\nkept = Late()\n"
+                          "sys.modules['kept'] = kept", 0, ""),
+    "in a thread": ("threading.Thread(target=lambda: line.receive(0.2)).start()", 0,
+                    "TimeoutError: the line took too long"),
+    "while messages come": ("for it in range(300): other.send(b'x')", 0, ""),
+}
+
+
+@pytest.mark.parametrize("ends, status, last", ENDS.values(), ids=ENDS)
+def test_interpreter_exits(ends, status, last):
+    """A program that ends while the threads of two lines run: at once, with no other word."""
+    text = ("import atexit, socket, sys, threading\nimport ddcmp\n"
+            "here, there = socket.socketpair()\n"
+            "line, other = ddcmp.ThreadLine(here, inbox=255), ddcmp.ThreadLine(there)\n"
+            f"line.send(b'x' * 1500)\n{ends}\n")
+    it = subprocess.run([sys.executable, "-c", text], env=over_library(), capture_output=True,
+                        text=True, timeout=SOON, check=False)
+    assert (it.returncode, it.stdout) == (status, "")
+    assert it.stderr.splitlines()[-1:] == [last] * bool(last), it.stderr
+
+
+def test_cancelled_calls(pair):
+    """A receive that was given up takes no message, and leaves nothing; a line that isn't connected
+    refuses; and so does one whose station was closed."""
+    line, there = Awaited(pair[0]), pair[1]
+    for _ in range(20):
+        with pytest.raises((TimeoutError, asyncio.TimeoutError)):
+            line.receive(0.001)
+    assert not line.line._waiters
+    with started(there) as other:
+        found = []
+        for i in range(100):
+            other.send(bytes([i]), SOON)
+            other.flush(SOON)
+            with contextlib.suppress(TimeoutError, asyncio.TimeoutError):
+                while True:
+                    found.append(line.receive(0.0001))
+        assert found == [bytes([i]) for i in range(100)]
+        line.loop.call_soon_threadsafe(line.line.station.close)
+        raised(lambda: other.send(b"x", SOON))
+        refused(ddcmp.Error, "the handle has no station or reader", line.receive, SOON)
+
+    async def alone():
+        with ddcmp.Station() as station:
+            station.start()
+            await ddcmp.AsyncLine(station).send(b"x")
+    refused(ConnectionError, "the line isn't connected", asyncio.run, alone())

@@ -453,12 +453,16 @@ static void texts(void) {
         { DDCMP_BAD_COUNT, "the data aren't as many as the header says" },
         { 20, "no code of DDCMP" }
     };
+    char version[16];
     size_t i;
     for (i = 0; i < sizeof errors / sizeof errors[0]; i++) {
         IS(errors[i].code == i);
         is(strcmp(ddcmp_strerror(errors[i].code), errors[i].text) == 0, errors[i].text);
     }
-    IS(strcmp(ddcmp_version(), DDCMP_VERSION) == 0);
+    IS(ddcmp_version() == DDCMP_VERSION_NUMBER);
+    sprintf(version, "%d.%d.%d", DDCMP_VERSION_NUMBER / 10000, DDCMP_VERSION_NUMBER / 100 % 100,
+            DDCMP_VERSION_NUMBER % 100);
+    IS(strcmp(version, DDCMP_VERSION) == 0);
 }
 
 int main(void) {

@@ -11,6 +11,7 @@ mod queries;
 mod reader;
 mod reader_handle;
 mod values;
+mod version;
 
 pub use handle::Handle;
 pub use reader_handle::ReaderHandle;
