@@ -106,6 +106,7 @@ pub mod Reading
 pub mod Ready
 pub mod RunLaws
 pub mod SessionSleeping
+pub mod SessionRecovering
 pub mod SessionWaking
 pub mod SessionStory
 pub mod SessionStreams

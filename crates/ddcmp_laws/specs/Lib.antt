@@ -44,6 +44,7 @@ pub mod Connections
 pub mod AnewStory
 pub mod SessionRuns
 pub mod SessionSleep
+pub mod SessionRecovery
 pub mod Connected
 pub mod Endings
 pub mod LastConnection

@@ -1,5 +1,5 @@
 -- Two sessions that sleep: nothing is left to do without a device, and no timer is on.
-use Rattle.std.specs.Prelude.{◌≡◌, ◌≢◌, true, List, [], ◌++◌, None}
+use Rattle.std.specs.Prelude.{◌≡◌, ◌≢◌, true, [], ◌++◌, None}
 use Rattle.ddcmp_core.specs.declared.state.State.TheVariants.{Halted, Running}
 use Rattle.ddcmp_station.specs.Linking.{wakes_at, fits}
 use Rattle.ddcmp_session.specs.Session.{SessionView, IsFilled}

@@ -1,5 +1,5 @@
-//! Two links over lines that lose nothing from some moment on.
-ghost use Rattle.std.specs.Prelude.{◌≡◌, ◌≤◌, ℕ, List, [], ◌∷◌, Some};
+//! Two links, and two sessions, over lines that lose nothing from some moment on.
+ghost use Rattle.std.specs.Prelude.{◌≡◌, ◌≤◌, ℕ, List, [], ◌∷◌, None, Some};
 ghost use Rattle.ddcmp_core.specs.declared.state.Timer.TheVariants.{On};
 ghost use Rattle.ddcmp_station.specs.Linking.{LinkView};
 ghost use Rattle.ddcmp_io.specs.declared.carrier.End.{End as EndValue};
@@ -10,6 +10,11 @@ ghost use Rattle.ddcmp_laws.specs.PairCalls.{Arm, Expire};
 ghost use Rattle.ddcmp_laws.specs.Links.{LinkStep, Wakes, station_calls, after_steps};
 ghost use Rattle.ddcmp_laws.specs.LinkSweeps.{LinksLoseNothing, run_on_links, events_of_steps};
 ghost use Rattle.ddcmp_laws.specs.LinkSweeps.{line_of, IsKeptUnderWay, LinksAreDone};
+ghost use Rattle.ddcmp_proto.specs.Config.{first_refusal};
+ghost use Rattle.ddcmp_session.specs.Calls.{SessionStep};
+ghost use Rattle.ddcmp_laws.specs.Pipe.{AreSessionCalls, Made, after_sessions, new_sessions};
+ghost use Rattle.ddcmp_laws.specs.SessionRecovery.{SessionsAreDone, SessionsAreUnderWay};
+ghost use Rattle.ddcmp_laws.specs.SessionRecovery.{SessionsRecover};
 
 /// Calls of two links over lines that lose nothing are events of their stations over a line that
 /// loses nothing, on which the bytes pending in an outbox are in flight, too: so a frame counts as
@@ -37,4 +42,18 @@ pub fn links_recover()
     ensures { IsKeptUnderWay (λ line l. (steps : List (EndValue × LinkStep))
         → LinksLoseNothing steps l → IsRecoveryBySweeps (events_of_steps steps l.links) line
         → LinksAreDone (after_steps steps l.links)) }
+{}
+
+/// Two sessions recover in the same way, if neither was connected twice: both run, and each has
+/// received all messages that were read from the other's input, also meanwhile.
+pub fn sessions_recover()
+    ensures { (first second : Made) (before steps : List (EndValue × SessionStep))
+        (to_a to_b : List ℕ) → first_refusal first.options.config ≡ None
+        → first_refusal second.options.config ≡ None
+        → AreSessionCalls before (new_sessions first second)
+        → AreSessionCalls steps (after_sessions before (new_sessions first second))
+        → SessionsAreUnderWay first second before to_a to_b
+        → SessionsRecover first second before steps to_a to_b
+        → SessionsAreDone first second
+        (after_sessions steps (after_sessions before (new_sessions first second))) }
 {}
