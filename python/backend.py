@@ -1,5 +1,5 @@
-"""Makes the wheel of ddcmp.py for `pip install`: a backend that needs nothing else. The library that
-DDCMP_LIBRARY names, or that c/build has made, goes in; a wheel without one finds it as ddcmp.py does."""
+"""Makes the wheel of ddcmp.py for `pip install ./python`, and needs nothing else. The library that
+DDCMP_LIBRARY names, or that c/build has made, goes into it, if there is one."""
 import base64
 import hashlib
 import os

@@ -446,8 +446,8 @@ class Station(_Handle):
     def __init__(self, config: Config = Config(), **sizes: int) -> None:
         config = Config(**{**config._asdict(), **sizes})
         window, inbox, longest = (_fit(it, 16) for it in config[:3])
-        sizes = _Config(window, inbox, longest, _fit(config.syn, 8), bool(config.restart))
-        super().__init__(ctypes.byref(sizes))
+        given = _Config(window, inbox, longest, _fit(config.syn, 8), bool(config.restart))
+        super().__init__(ctypes.byref(given))
         self._size = ctypes.c_size_t()
         self._frame = (ctypes.c_uint8 * self.frame_room)()
         self._message = (ctypes.c_uint8 * config.max)()
@@ -815,11 +815,11 @@ class ThreadLine:
             self.close()
 
     def send(self, message: Bytes, timeout: Optional[float] = None) -> None:
-        """Queues a message once fewer than the window are queued that the station didn't take."""
-        data = _bytes(message)
+        """Queues a message for the station once fewer than the window are queued."""
+        data, window = _bytes(message), self.config.window
         if not 0 < len(data) <= self.config.max:
             raise Error(Code.TOO_LONG if data else Code.EMPTY)
-        with self._once(lambda: not self._fault and len(self._queued) < self.config.window, timeout):
+        with self._once(lambda: not self._fault and len(self._queued) < window, timeout):
             self._queued.append(data)
             self._is_flushed = False
 

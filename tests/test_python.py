@@ -514,8 +514,8 @@ def test_documented_program(number, notices):
 
 
 def test_installed_by_pip(library, tmp_path):
-    """`pip install ./python` into a new environment, without a network: the module, with the library
-    that is named or built then."""
+    """`pip install ./python` into a new environment, without a network: the module, and the library
+    that is named or built."""
     made, names = str(tmp_path / "made"), {**os.environ, "PIP_NO_INDEX": "1"}
     subprocess.run([sys.executable, "-m", "venv", made], check=True)
     words = [f"{made}/bin/pip", "install", "--disable-pip-version-check", "./python"]
