@@ -699,10 +699,12 @@ class Line:
         """Waits for the line, the reply timer or the end; returns whether the end has come."""
         wanted = (0 if self._is_full() else select.POLLIN) | (select.POLLOUT if self._frame else 0)
         self._poller.register(self._descriptor, wanted)
+        if not wanted:  # an end would be reported at once
+            self._poller.unregister(self._descriptor)
         first = min(end, self._expiry if self.station.timer_on else math.inf)
         wait = max(0, math.ceil((first - time.monotonic()) * 1000)) if first < math.inf else None
-        for _, event in self._poller.poll(wait):
-            if event & ~select.POLLOUT:
+        for descriptor, event in self._poller.poll(wait):
+            if descriptor == self._descriptor and event & ~select.POLLOUT:
                 self._receive()
         return time.monotonic() >= end
 

@@ -7,6 +7,7 @@ import select
 import socket
 import subprocess
 import sys
+import termios
 import threading
 import time
 
@@ -187,6 +188,22 @@ def test_peer_leaves(kind, pair):
     line.close()
 
 
+def test_peer_leaves_a_full_inbox(pair):
+    """A ThreadLine sleeps meanwhile, and then receives what is still to be read."""
+    line, there = ddcmp.ThreadLine(pair[0], inbox=2), pair[1]
+    with running_by_hand(there) as other:
+        for i in range(7):
+            other.send(bytes([i]))
+        by_hand(there, other)
+        there.shutdown(socket.SHUT_RDWR)
+    time.sleep(0.1)
+    begun = time.process_time()
+    time.sleep(0.5)
+    assert time.process_time() - begun < 0.25
+    assert list(line) == [bytes([it]) for it in range(7)]
+    line.close()
+
+
 def test_peer_reads_nothing(kind, pair):
     """A peer that has ended its side, and reads no more."""
     sizes = {"window": 255, "max": 16383}
@@ -284,6 +301,21 @@ def test_waits_on_its_own_thread(pair):
     with started(pair[1]) as other:
         raised(lambda: other.receive(0.2))
         refused(RuntimeError, "a line can't be waited for on its own thread", made[0].receive, SOON)
+
+
+def test_port_that_never_waits():
+    """A serial port whose reads yield no bytes when there are none: that is no end of the line."""
+    control, device = os.openpty()
+    with ddcmp.serial_port(os.ttyname(device)) as port:
+        attributes = termios.tcgetattr(port)
+        attributes[6][termios.VMIN] = 0
+        termios.tcsetattr(port, termios.TCSANOW, attributes)
+        with ddcmp.ThreadLine(port) as one, ddcmp.ThreadLine(control) as other:
+            for it in messages_of(20):
+                one.send(it, SOON)
+                assert other.receive(SOON) == it
+    os.close(control)
+    os.close(device)
 
 
 def test_refused_messages(pair):
