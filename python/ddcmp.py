@@ -969,6 +969,7 @@ class AsyncLine(asyncio.Protocol):
                 await self.flush()
         finally:
             self.close()
+            await asyncio.sleep(0)  # the loop closes the connection meanwhile
 
     async def send(self, message: Bytes) -> int:
         """Queues a message once the station runs and the window has room; returns its number."""
