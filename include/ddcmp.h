@@ -12,8 +12,8 @@
 
    Only ddcmp_new and ddcmp_reader_new allocate.
 
-   What 0.x promises: the calls, numbers and structs of libddcmp.so.0 stay as they are. No struct
-   grows: what is added has calls, numbers and structs of its own, and raises the version. */
+   What 0.x promises: the calls, numbers and structs of libddcmp.so.0 stay as they are. Others are
+   added, with a higher version; but a struct that grows makes it libddcmp.so.1. */
 #ifndef DDCMP_H
 #define DDCMP_H
 

@@ -1,5 +1,5 @@
-"""Makes the wheel of ddcmp.py for `pip install`: a backend that needs nothing else. The library that
-DDCMP_LIBRARY names, or that c/build has made, goes in; a wheel without one finds it as ddcmp.py does."""
+"""Makes the wheel of ddcmp.py for `pip install ./python`, and needs nothing else. The library that
+DDCMP_LIBRARY names, or that c/build has made, goes into it, if there is one."""
 import base64
 import hashlib
 import os
@@ -23,20 +23,21 @@ Tag: py3-none-{}
 
 
 def read(path):
-    with open(os.path.join(HOME, path), "rb") as it:
+    with open(path, "rb") as it:
         return it.read()
 
 
 def build_wheel(wheel_directory, config_settings=None, metadata_directory=None):
-    module, kind = read("ddcmp.py"), "any"
+    module, kind = read(f"{HOME}/ddcmp.py"), "any"
     version = re.search('^__version__ = "(.*)"$', module.decode(), re.M)[1]
     info, files = f"ddcmp-{version}.dist-info", {"ddcmp.py": module}
-    library = os.environ.get("DDCMP_LIBRARY") or f"{HOME}/../c/out/libddcmp.so"
-    if os.path.exists(library):
-        files["ddcmp.libs/libddcmp.so.0"] = read(os.path.abspath(library))
+    built = f"{HOME}/../c/out/libddcmp.so"
+    library = os.environ.get("DDCMP_LIBRARY") or (os.path.exists(built) and built)
+    if library:
+        files["ddcmp.libs/libddcmp.so.0"] = read(library)
         kind = re.sub("[-.]", "_", sysconfig.get_platform())
     for it in ("LICENSE", "NOTICES"):
-        files[f"{info}/{it}"] = read(f"../{it}")
+        files[f"{info}/{it}"] = read(f"{HOME}/../{it}")
     files[f"{info}/METADATA"] = METADATA.format(version).encode()
     files[f"{info}/WHEEL"] = WHEEL.format(str(kind == "any").lower(), kind).encode()
     record = ""

@@ -446,8 +446,8 @@ class Station(_Handle):
     def __init__(self, config: Config = Config(), **sizes: int) -> None:
         config = Config(**{**config._asdict(), **sizes})
         window, inbox, longest = (_fit(it, 16) for it in config[:3])
-        sizes = _Config(window, inbox, longest, _fit(config.syn, 8), bool(config.restart))
-        super().__init__(ctypes.byref(sizes))
+        given = _Config(window, inbox, longest, _fit(config.syn, 8), bool(config.restart))
+        super().__init__(ctypes.byref(given))
         self._size = ctypes.c_size_t()
         self._frame = (ctypes.c_uint8 * self.frame_room)()
         self._message = (ctypes.c_uint8 * config.max)()
@@ -699,10 +699,12 @@ class Line:
         """Waits for the line, the reply timer or the end; returns whether the end has come."""
         wanted = (0 if self._is_full() else select.POLLIN) | (select.POLLOUT if self._frame else 0)
         self._poller.register(self._descriptor, wanted)
+        if not wanted:  # an end would be reported at once
+            self._poller.unregister(self._descriptor)
         first = min(end, self._expiry if self.station.timer_on else math.inf)
         wait = max(0, math.ceil((first - time.monotonic()) * 1000)) if first < math.inf else None
-        for _, event in self._poller.poll(wait):
-            if event & ~select.POLLOUT:
+        for descriptor, event in self._poller.poll(wait):
+            if descriptor == self._descriptor and event & ~select.POLLOUT:
                 self._receive()
         return time.monotonic() >= end
 
@@ -815,11 +817,11 @@ class ThreadLine:
             self.close()
 
     def send(self, message: Bytes, timeout: Optional[float] = None) -> None:
-        """Queues a message once fewer than the window are queued that the station didn't take."""
-        data = _bytes(message)
+        """Queues a message for the station once fewer than the window are queued."""
+        data, window = _bytes(message), self.config.window
         if not 0 < len(data) <= self.config.max:
             raise Error(Code.TOO_LONG if data else Code.EMPTY)
-        with self._once(lambda: not self._fault and len(self._queued) < self.config.window, timeout):
+        with self._once(lambda: not self._fault and len(self._queued) < window, timeout):
             self._queued.append(data)
             self._is_flushed = False
 
@@ -967,6 +969,7 @@ class AsyncLine(asyncio.Protocol):
                 await self.flush()
         finally:
             self.close()
+            await asyncio.sleep(0)  # the loop closes the connection meanwhile
 
     async def send(self, message: Bytes) -> int:
         """Queues a message once the station runs and the window has room; returns its number."""

@@ -18,7 +18,10 @@ fn main() {
         .ok()
         .or_else(|| Some(made.to_string()).filter(|it| Path::new(it).join("libddcmp.a").exists()))
         .or_else(found_by_pkg_config)
-        .expect("no libddcmp.a: make it by c/build, or DDCMP_LIB_DIR names its folder");
+        .unwrap_or_else(|| {
+            eprintln!("no libddcmp.a: c/build makes it, or DDCMP_LIB_DIR names its folder");
+            std::process::exit(1)
+        });
     println!("cargo:rerun-if-changed={folder}/libddcmp.a");
     println!("cargo:rustc-link-search=native={folder}");
     println!("cargo:rustc-link-lib=static=ddcmp");

@@ -103,5 +103,6 @@ def test_example(cargo):
     assert holds_within(20, lambda: is_listening(port))
     example = Process([f"{target}/debug/examples/tcp", f"127.0.0.1:{port}", "xyz"])
     assert (example.ended(20), example.errors()) == (0, [])
-    assert example.lines()[0] == "notice Running 0" and "mail abc" in example.lines()
+    assert any(re.fullmatch("notice .*Acknowledged 1", it) for it in example.lines()), example
+    assert "mail abc" in example.lines()
     assert station.ended(20) == 3 and "mail 78797a" in station.lines(), station
