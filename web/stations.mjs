@@ -17,6 +17,9 @@ function run(line) {
   const before = played(ddcmp, script.slice(0, -1).map((it) => `${it}\n`).join(''), {}).output.split('\n').length;
   const lines = played(ddcmp, text, {}).output.split('\n');
   $('reply').textContent = line ? lines.slice(before - 2, -2).join('\n') || 'nothing to report' : '';
+  for (const line of played(ddcmp, `${text}state A\nstate B\n`, {}).output.split('\n').slice(-4, -2)) {
+    $(`state-${line[0]}`).textContent = line.slice(2);
+  }
   $('made').textContent = text;
   $('made').scrollTop = $('made').scrollHeight;
   showPicture($('stations-picture'), played(ddcmp, text, { view: 'svg' }).output);
@@ -36,6 +39,7 @@ function station(end) {
   });
   const message = make('input', { id: `message-${end}`, value: end === 'A' ? 'hello' : 'yes', className: 'wide' });
   return make('section', { ariaLabel: `Station ${end}` }, make('h2', { textContent: `Station ${end}` }),
+    make('p', { className: 'state', id: `state-${end}` }),
     make('p', { className: 'row' }, make('label', { textContent: 'Message', htmlFor: message.id }), message),
     make('div', { className: 'buttons' }, ...buttons));
 }
