@@ -1,0 +1,68 @@
+//! A number for each result. Those below 32 are the numbers of the C library.
+ghost use Rattle.std.specs.Prelude.{◌≡◌, ◌≢◌, IsOk};
+
+use ddcmp_explain::{DetectedFault, NotDumped};
+use ddcmp_line::ScriptFault;
+use ddcmp_pair::{ConfigRefusal, PairRefusal};
+
+pub(crate) const OK: u32 = 0;
+
+/// The maximum length of data isn't 1 to 16383 bytes.
+pub(crate) const MAX: u32 = 3;
+
+/// An allocation failed.
+pub(crate) const MEMORY: u32 = 5;
+
+/// The output is longer than its room; its length is reported.
+pub(crate) const ROOM: u32 = 14;
+
+/// Nothing in memory fails to be read or written.
+const DEVICE: u32 = 38;
+
+/// Returns the code of the result for an input; sets `at` to the index of the byte, or to the
+/// number of the line, that isn't allowed.
+pub(crate) fn input_code(by: Result<(), DetectedFault>, at: &mut u64) -> u32
+    ensures { result ≡ OK → IsOk by }
+{
+    let (code, index) = match by {
+        Ok(()) => (OK, 0),
+        Err(DetectedFault::Odd) => (32, 0),
+        Err(DetectedFault::NotHex(index)) => (33, index),
+        Err(DetectedFault::Line(NotDumped::NotALine(line))) => (34, line),
+        Err(DetectedFault::Line(NotDumped::Star(line))) => (35, line),
+        Err(DetectedFault::Memory) => (MEMORY, 0),
+        Err(DetectedFault::Read | DetectedFault::Write) => (DEVICE, 0),
+    };
+    *at = index;
+    code
+}
+
+/// Returns the code of the result of a script; sets `at` to the number of a wrong line.
+pub(crate) fn script_code(by: Result<(), ScriptFault>, at: &mut u64) -> u32
+    ensures { result ≡ OK → IsOk by }
+{
+    let (code, line) = match by {
+        Ok(()) => (OK, 0),
+        Err(ScriptFault::Line(line)) => (36, line),
+        Err(ScriptFault::Hex(line)) => (37, line),
+        Err(ScriptFault::Memory) => (MEMORY, 0),
+        Err(ScriptFault::Read | ScriptFault::Write | ScriptFault::Carrier) => (DEVICE, 0),
+    };
+    *at = line;
+    code
+}
+
+/// Returns the code of a refusal of two stations.
+pub(crate) fn pair_code(refusal: PairRefusal) -> u32
+    ensures { result ≢ OK }
+{
+    match refusal {
+        PairRefusal::First(ConfigRefusal::Window) | PairRefusal::Second(ConfigRefusal::Window) => 1,
+        PairRefusal::First(ConfigRefusal::Inbox) | PairRefusal::Second(ConfigRefusal::Inbox) => 2,
+        PairRefusal::First(ConfigRefusal::Max) | PairRefusal::Second(ConfigRefusal::Max) => MAX,
+        PairRefusal::First(ConfigRefusal::Syn) | PairRefusal::Second(ConfigRefusal::Syn) => 4,
+        PairRefusal::First(ConfigRefusal::Memory) | PairRefusal::Second(ConfigRefusal::Memory) => {
+            MEMORY
+        }
+    }
+}

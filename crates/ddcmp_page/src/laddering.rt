@@ -1,0 +1,80 @@
+//! `explain --ladder`: two captured directions of one line.
+ghost use Rattle.std.specs.Prelude.{◌≡◌, ◌<◌, ◌≤◌, false};
+ghost use Rattle.ddcmp_frame.specs.Limits.{MAX_COUNT as MOST};
+
+use crate::codes::{MAX, MEMORY, OK, input_code};
+use crate::decoding::form_of;
+use crate::output::hand;
+use ddcmp_explain::DetectedFault;
+use ddcmp_frame::MAX_COUNT;
+use ddcmp_io::MemorySink;
+use ddcmp_io::failing::Pieces;
+use ddcmp_log::Side;
+use ddcmp_tap::{Capture, DrawFault, draw_captures};
+use std::alloc::Global;
+
+/// Draws two captures, up to a fault, and sets `of` to 1 if it is of the second.
+fn draw(
+    alloc: Global,
+    form: u8,
+    discarded: bool,
+    max: u16,
+    first: &[u8],
+    second: &[u8],
+    kept: &mut MemorySink,
+    of: &mut u8,
+) -> Result<(), DetectedFault>
+    requires max { (0 < max) × (max ≤ MOST) }
+    requires whole { kept.old.refused ≡ false }
+{
+    let form = form_of(form);
+    let Ok(mut one) =
+        Capture::new(alloc, Pieces::of(first), form, Side::Caller, discarded, max)
+    else {
+        return Err(DetectedFault::Memory);
+    };
+    let Ok(mut two) =
+        Capture::new(alloc, Pieces::of(second), form, Side::Called, discarded, max)
+    else {
+        return Err(DetectedFault::Memory);
+    };
+    match draw_captures(&mut one, &mut two, kept) {
+        Ok(()) => Ok(()),
+        Err(DrawFault::Write) => Err(DetectedFault::Memory),
+        Err(DrawFault::Capture(Side::Caller, fault)) => Err(fault),
+        Err(DrawFault::Capture(Side::Called, fault)) => {
+            *of = 1;
+            Err(fault)
+        }
+    }
+}
+
+/// Draws two captures as a ladder of text; the bytes of the first go to the right. A fault is that
+/// of the second if `of` is 1.
+#[unsafe(no_mangle)]
+pub extern "C" fn page_ladder(
+    alloc: Global,
+    form: u8,
+    discarded: bool,
+    max: u16,
+    first: &[u8],
+    second: &[u8],
+    out: &mut [u8],
+    written: &mut usize,
+    at: &mut u64,
+    of: &mut u8,
+) -> u32
+    ensures zero { max ≡ 0 → result ≡ MAX }
+    ensures above { MOST < max → result ≡ MAX }
+{
+    *written = 0;
+    *at = 0;
+    *of = 0;
+    if max == 0 || MAX_COUNT < max {
+        return MAX;
+    }
+    let mut kept = MemorySink::new(alloc);
+    let by = draw(alloc, form, discarded, max, first, second, &mut kept, of);
+    let code = input_code(by, at);
+    hand(&kept.bytes, code, out, written)
+}

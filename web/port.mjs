@@ -1,0 +1,135 @@
+// A port: a station on a serial port of this machine, by Web Serial. Its timer and its devices are here; what it does is not.
+import { $, bytesOfHex, hex, save, tell } from './fields.mjs';
+
+const SPEEDS = [300, 1200, 2400, 4800, 9600, 19200, 38400, 57600, 115200];
+const BUFFER = 65536;
+let ddcmp = null, it = null;
+
+function log(id, text) {
+  $(id).append(`${text}\n`);
+  $(id).scrollTop = $(id).scrollHeight;
+}
+
+function logFrames(text, arrow) {
+  for (const line of text.split('\n')) if (line && !/^items=/.test(line)) log('frames', arrow(line.replace(/^\d+ /, '')));
+}
+
+function show() {
+  const { station } = it, { r, n, a } = station.numbers;
+  $('port-state').textContent = `${station.state}, R=${r} N=${n} A=${a}, ${station.outgoing} messages not acknowledged`;
+  $('port-counters').textContent = JSON.stringify(station.counters, null, 1).replace(/[{}",]/g, '').replace(/\n\s*\n/g, '\n');
+  $('send').disabled = !station.room || station.state !== 'Running';
+}
+
+/** Writes the frames that the station has, one after the other, and sets its timer. */
+async function work(link) {
+  if (link.isWriting) return;
+  link.isWriting = true;
+  try {
+    for (let frame; it === link && (frame = link.station.poll());) {
+      logFrames(ddcmp.explain(frame, { form: 'raw' }), (line) => `──> ${line}`);
+      await link.writer.write(frame);
+    }
+  } finally {
+    link.isWriting = false;
+  }
+  if (it !== link) return;
+  if (link.station.takeArm()) {
+    clearTimeout(link.timer);
+    link.timer = setTimeout(() => expire(link), link.seconds * 1000);
+  }
+  show();
+}
+
+function expire(link) {
+  if (it !== link || !link.station.timerOn) return;
+  link.station.expire();
+  work(link).catch((fault) => disconnect(link, fault));
+}
+
+function takeMail({ station }) {
+  for (let mail; (mail = station.take());) log('mail', $('as-digits').checked ? hex(mail) : new TextDecoder().decode(mail));
+}
+
+function feed(link, bytes) {
+  logFrames(link.frames.push(bytes), (line) => `<── ${line}`);
+  for (let left = bytes; left.length;) {
+    const { used, notice } = link.station.feed(left);
+    left = left.subarray(used);
+    if (notice && !/^(Acknowledged|HandedUp)/.test(notice.kind)) log('frames', `    ${notice.kind}${notice.count ? ` ${notice.count}` : ''}`);
+    takeMail(link);
+  }
+}
+
+async function read(link) {
+  for (;;) {
+    const { value, done } = await link.reader.read();
+    if (done || it !== link) return;
+    feed(link, value);
+    await work(link);
+  }
+}
+
+async function connect() {
+  tell('port-fault', '');
+  let port;
+  try {
+    port = await navigator.serial.requestPort();
+    await port.open({ baudRate: Number($('speed').value), bufferSize: BUFFER });
+  } catch (fault) {
+    return tell('port-fault', fault.message);
+  }
+  const link = { port, station: new ddcmp.Station({ restart: true }), seconds: $('timer').valueAsNumber || 3, timer: 0, isWriting: false,
+    reader: port.readable.getReader(), writer: port.writable.getWriter(), frames: ddcmp.explainer() };
+  it = link;
+  $('connect').disabled = true;
+  $('disconnect').disabled = false;
+  link.station.start();
+  Promise.all([work(link), read(link)]).then(() => disconnect(link, new Error('the port was closed')), (fault) => disconnect(link, fault));
+}
+
+async function disconnect(link, fault) {
+  if (it !== link) return;
+  it = null;
+  clearTimeout(link.timer);
+  $('connect').disabled = false;
+  $('disconnect').disabled = $('send').disabled = true;
+  $('port-state').textContent = 'Not connected.';
+  if (fault) tell('port-fault', fault.message);
+  link.station.close();
+  try {
+    await link.reader.cancel();
+    link.reader.releaseLock();
+    link.writer.releaseLock();
+    await link.port.close();
+  } catch {
+    // a port that is gone can't be closed
+  }
+}
+
+function send() {
+  const text = $('message').value, digits = text.replace(/[\s:]/g, '');
+  if ($('as-digits').checked && !/^([0-9a-f]{2})+$/i.test(digits)) return tell('port-fault', 'pairs of hexadecimal digits are needed');
+  tell('port-fault', '');
+  try {
+    it.station.send($('as-digits').checked ? bytesOfHex(digits) : text);
+  } catch (fault) {
+    return tell('port-fault', fault.message);
+  }
+  $('message').value = '';
+  work(it).catch((fault) => disconnect(it, fault));
+}
+
+export function beginPort(module) {
+  ddcmp = module;
+  $('no-serial').hidden = 'serial' in navigator;
+  $('serial').hidden = !('serial' in navigator);
+  $('speed').append(...SPEEDS.map((speed) => new Option(speed, speed, speed === 9600, speed === 9600)));
+  $('connect').addEventListener('click', connect);
+  $('disconnect').addEventListener('click', () => disconnect(it));
+  $('send').addEventListener('click', send);
+  $('message').addEventListener('keydown', ({ key }) => {
+    if (key === 'Enter' && !$('send').disabled) send();
+  });
+  $('save-frames').addEventListener('click', () => save('frames.txt', new Blob([$('frames').textContent])));
+}
