@@ -2,6 +2,7 @@
 output of `explain`, `simulate` and usage errors, links between both kinds of machine over bad
 lines, the trials of the C library, and the package, with the C library of such a machine alone."""
 import contextlib
+import gzip
 import os
 import shutil
 import socket
@@ -10,7 +11,7 @@ import subprocess
 import pytest
 
 from . import test_c_library as c_library
-from .process import PROGRAM, TOP, Bridge, Link, call, exchange, free_port, version
+from .process import PROGRAM, TOP, Bridge, Link, call, contents, exchange, free_port, version
 from .test_pictures import drawn_script
 from .wire import ack, drawn, drawn_frames, messages_of
 
@@ -138,3 +139,23 @@ def test_package(tmp_path):
     with on_arm(QEMU[0], "-L", root, f"{root}/usr/bin/ddcmp"):
         assert call("--version") == (f"ddcmp {version()}\n".encode(), "", 0)
         assert call("explain", "--raw", given=ack(0))[0].endswith(b"items=1 bytes=8 open=0\n")
+
+
+def test_release(tmp_path):
+    """What is published: twice the same, with right sums; an archive has what its package has, and
+    the page is the one in web/."""
+    made = [f"{tmp_path}/{it}" for it in "ab"]
+    for it in made:
+        subprocess.run([f"{TOP}/tools/release", it], check=True, stdout=subprocess.DEVNULL)
+    subprocess.run(["diff", "-r", *made], check=True)
+    subprocess.run(["sha256sum", "--quiet", "-c", "SHA256SUMS"], cwd=made[0], check=True)
+    names = [f"ddcmp_{version()}_{it}" for it in ("amd64", "arm64")]
+    assert sorted(os.listdir(made[0])) == sorted([
+        "MADE-OF", "SHA256SUMS", "ddcmp.d.ts", "ddcmp.html", "ddcmp.mjs", "ddcmp.wasm",
+        *(f"{name}.{form}" for name in names for form in ("deb", "tar.gz"))])
+    for it in names:
+        tar = subprocess.check_output(["dpkg-deb", "--fsys-tarfile", f"{made[0]}/{it}.deb"])
+        assert gzip.decompress(contents(f"{made[0]}/{it}.tar.gz")) == tar
+    assert contents(f"{made[0]}/ddcmp.html") == contents(f"{TOP}/web/ddcmp.html")
+    assert subprocess.run([f"{TOP}/tools/release", made[0]], capture_output=True, text=True,
+                          check=False).stderr == f"release: {made[0]} isn't empty\n"
