@@ -295,12 +295,26 @@ def test_nothing_is_left(pair):
 
 
 @PRINTED
-def test_waits_on_its_own_thread(pair):
+def test_calls_on_its_own_thread(pair):
+    """A call for a notice may send, and receive what is there, but not wait."""
     made = []
-    made.append(ddcmp.ThreadLine(pair[0], notice=lambda _: made[0].receive()))
+
+    def calls(_):
+        made[0].send(b"x")
+        made[0].receive()
+    made.append(ddcmp.ThreadLine(pair[0], notice=calls))
     with started(pair[1]) as other:
         raised(lambda: other.receive(0.2))
         refused(RuntimeError, "a line can't be waited for on its own thread", made[0].receive, SOON)
+        refused(RuntimeError, "a line can't be waited for on its own thread", made[0].flush, SOON)
+
+
+def test_sends_for_a_notice(pair):
+    made = []
+    made.append(ddcmp.ThreadLine(pair[0], notice=lambda it: made[0].send(str(it.kind).encode())))
+    with started(pair[1]) as other:
+        assert other.receive(SOON) == b"Running"
+    made[0].close()
 
 
 def test_port_that_never_waits():
