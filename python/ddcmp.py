@@ -773,9 +773,9 @@ class ThreadLine:
 
     The calls are those of `Line`, for any thread. A call raises what ended the line: EOFError if
     the line has ended or was closed, ConnectionResetError if the station is halted, as when the
-    peer has restarted, or what `notice` has raised, which is called on the line's thread. Reading
-    pauses while as many messages as the inbox has are not received yet and all that was sent is
-    acknowledged.
+    peer has restarted, or what `notice` has raised. That is called on the line's thread, and can't
+    wait for the line. Reading pauses while as many messages as the inbox has are not received yet
+    and all that was sent is acknowledged.
 
     As a context manager it flushes on exit, unless an exception was raised, and closes. A program
     that ends without that doesn't wait for the thread.
@@ -852,10 +852,11 @@ class ThreadLine:
     @contextlib.contextmanager
     def _once(self, is_done: Callable[[], bool], timeout: Optional[float]) -> Iterator[None]:
         """Waits until something is done, and wakes the thread after what is done then."""
-        if threading.current_thread() is self._thread:
-            raise RuntimeError("a line can't be waited for on its own thread")
         with self._changed:
-            self._changed.wait_for(lambda: is_done() or self._fault, timeout)
+            if threading.current_thread() is not self._thread:
+                self._changed.wait_for(lambda: is_done() or self._fault, timeout)
+            elif not is_done():
+                raise RuntimeError("a line can't be waited for on its own thread")
             if not is_done():
                 raise self._fault or TimeoutError("the line took too long")
             yield

@@ -1,6 +1,6 @@
 """python/ddcmp.py: its numbers, texts, layouts and calls against include/ddcmp.h, its examples, two
 processes that exchange messages over sockets, a line that loses bytes and a pseudo-terminal,
-refusals, memory, and calls after a close."""
+refusals, memory, calls after a close, and what pip installs."""
 import contextlib
 import copy
 import ctypes

@@ -139,7 +139,7 @@ def test_lost_bytes_without_calls(kind):
 
 def test_busy_program(kind, pair):
     """A peer is acknowledged while the program does something else."""
-    with kind(pair[0]), started(pair[1], 0.5) as line:
+    with kind(pair[0]), started(pair[1], 5) as line:
         for it in messages_of(8):
             line.send(it, SOON)
         line.flush(SOON)
@@ -256,29 +256,40 @@ def test_closed_line(kind, pair):
     assert list(line) == []
 
 
+def called(there, does):
+    """What to call for a notice, and what runs the peer until that was called."""
+    was_called = threading.Event()
+
+    def calls(_):
+        was_called.set()
+        does()
+
+    def runs():
+        with started(there) as other:
+            while not was_called.is_set():
+                raised(lambda: other.receive(0.01))
+    return calls, runs
+
+
 @PRINTED
 @pytest.mark.parametrize("kind_of_fault", [ZeroDivisionError, EOFError, OSError])
 def test_fault_of_a_callback(kind, pair, kind_of_fault):
     """What is raised by what is called for a notice ends the line, and is raised by its calls."""
-    def raises(_):
+    def raises():
         raise kind_of_fault("mine")
-    line = kind(pair[0], 3, raises)
-    with started(pair[1]) as other:
-        raised(lambda: other.receive(0.2))
-        refused(kind_of_fault, "mine", line.receive, SOON)
-        refused(kind_of_fault, "mine", line.send, b"x", SOON)
+    calls, runs = called(pair[1], raises)
+    line = kind(pair[0], 3, calls)
+    runs()
+    refused(kind_of_fault, "mine", line.receive, SOON)
+    refused(kind_of_fault, "mine", line.send, b"x", SOON)
     line.close()
 
 
 def test_callback_that_closes(kind, pair):
-    made = []
-
-    def closes(_):
-        made[0].close()
-    made.append(kind(pair[0], 3, closes))
-    with started(pair[1]) as other:
-        raised(lambda: other.receive(0.2))
-        refused(EOFError, "the line has ended", made[0].receive, SOON)
+    calls, runs = called(pair[1], lambda: line.close())
+    line = kind(pair[0], 3, calls)
+    runs()
+    refused(EOFError, "the line has ended", line.receive, SOON)
 
 
 def test_nothing_is_left(pair):
@@ -295,12 +306,23 @@ def test_nothing_is_left(pair):
 
 
 @PRINTED
-def test_waits_on_its_own_thread(pair):
-    made = []
-    made.append(ddcmp.ThreadLine(pair[0], notice=lambda _: made[0].receive()))
+def test_calls_on_its_own_thread(pair):
+    """A call for a notice may send, but not wait."""
+    def both():
+        line.send(b"x")
+        line.receive()
+    calls, runs = called(pair[1], both)
+    line = ddcmp.ThreadLine(pair[0], notice=calls)
+    runs()
+    for call in (line.receive, line.flush):
+        refused(RuntimeError, "a line can't be waited for on its own thread", call, SOON)
+
+
+def test_sends_for_a_notice(pair):
+    line = ddcmp.ThreadLine(pair[0], notice=lambda it: line.send(str(it.kind).encode()))
     with started(pair[1]) as other:
-        raised(lambda: other.receive(0.2))
-        refused(RuntimeError, "a line can't be waited for on its own thread", made[0].receive, SOON)
+        assert other.receive(SOON) == b"Running"
+    line.close()
 
 
 def test_port_that_never_waits():
