@@ -181,6 +181,14 @@ impl Session {
         ensures used { result ≤ length bytes.now }
         ensures some { 0 < length bytes.now → 0 < countable self.old.state.link.station
             → wants_line self.old.state ≡ true → 0 < result }
+        // No byte before the last one used yielded a notice, and if that one didn't, all were used.
+        ensures first { wants_line self.old.state ≡ true → (text : List ℕ) (n : ℕ)
+            → StandsFor self.old.state.link.station.line text → n < result
+            → notices_of_piece text (take n bytes.now) self.old.state.link.station.core ≡ [] }
+        ensures whole { wants_line self.old.state ≡ true → (text : List ℕ)
+            → StandsFor self.old.state.link.station.line text
+            → notices_of_piece text (take result bytes.now) self.old.state.link.station.core ≡ []
+            → result ≡ min (length bytes.now) (countable self.old.state.link.station) }
         ensures none { wants_line self.old.state ≡ false → (result ≡ 0) × (self.new ≡ self.old) }
         ensures stands { (text : List ℕ) → StandsFor self.old.state.link.station.line text
             → StandsFor self.new.state.link.station.line (text ++ take result bytes.now) }
