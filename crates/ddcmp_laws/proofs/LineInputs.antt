@@ -86,12 +86,11 @@ given_first made t of returns is fit input = by t.is_over refl
   where
     by : (over : Bool) → t.is_over ≡ over
         → IsPrefixOf (messages_given made t) (map message_of of)
-    by true e =
-        (
-          [],
-          append-nil (messages_given made t)
-              ∙ given_lines made t of returns is fit (input.whole e),
-        )
+    by true e = (
+      [],
+      append-nil (messages_given made t)
+          ∙ given_lines made t of returns is fit (input.whole e),
+    )
     by false e =
         let max = made.options.config.max in
         let rest = input.begins.0 in

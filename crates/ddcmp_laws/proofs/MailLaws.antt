@@ -129,8 +129,7 @@ mails_more (x ∷ xs) ys =
 pub mails_first : (xs ys : List ℕ)
     → (rest : List (List ℕ)) × (mails_in xs ++ rest ≡ mails_in (xs ++ ys))
 mails_first xs ys =
-    let m = lines_more [] xs ys in
-    (
+    let m = lines_more [] xs ys in (
       mails_of (lines_from m.0 ys),
       sym (ap mails_of m.1 ∙ mails_more (lines_from [] xs) (lines_from m.0 ys)),
     )
