@@ -23,6 +23,7 @@ from .wire import STRT, Reader, ack, data, nak
 
 pytestmark = pytest.mark.limit(300)
 PAGE = f"{TOP}/web/ddcmp.html"
+FRAMES = STRT + b"\xff\xff" + data(b"Hello", 1) + nak(2, 1) + data(b"x" * 300, 2) + ack(2)[:5]
 FORMS = {"hex": [], "text": ["--from", "text"], "raw": ["--raw"], "dump": ["--from", "xxd"],
          "detect": ["--from", "auto"]}
 ARGUMENTS = {"send": "6162", "damage": "3 40", "cut": "5", "raw": "0501"}
@@ -45,10 +46,10 @@ window.wrote = () => wrote.splice(0);
 class Node:
     """web/ddcmp.mjs in node, a call at a time, over the module of the page."""
 
-    def __init__(self, module):
+    def __init__(self, module, *options):
         with open(PAGE, encoding="utf-8") as it, open(module, "wb") as made:
             made.write(base64.b64decode(re.search('id="module">([^<]*)<', it.read())[1]))
-        words = ["node", "--no-warnings", "--experimental-wasm-memory64",
+        words = ["node", "--no-warnings", "--experimental-wasm-memory64", *options,
                  f"{TOP}/tests/module.mjs", module]
         self.run = subprocess.Popen(words, stdin=subprocess.PIPE, stdout=subprocess.PIPE, text=True)
 
@@ -93,10 +94,14 @@ def is_same(reply, ran):
 @given(randoms)
 def test_explain_as_program(node, draw):
     form, (is_json, skipped) = draw.choice(list(FORMS)), draw.choices([True, False], k=2)
-    most, text = draw.choice([16383, 1, 40]), written(draw, capture(draw), form)
+    most, bytes_of = draw.choice([16383, 1, 40]), capture(draw)
+    text = written(draw, bytes_of, form)
     words = [*FORMS[form], *["--json"] * is_json, *["--discarded"] * skipped, f"--max={most}"]
     how = {"form": form, "json": is_json, "discarded": skipped, "max": most}
-    assert is_same(node("explain", text, how), call("explain", *words, given=text))
+    reply = node("explain", text, how)
+    assert is_same(reply, call("explain", *words, given=text))
+    if "is" in reply and form != "detect":
+        assert node("bytes", text, form)["is"] == bytes_of.hex()
 
 
 @tries(300)
@@ -151,6 +156,17 @@ def test_refusals(node):
     assert node("call", it, "close") == {"is": None}
     for name, how in (("start", "call"), ("poll", "call"), ("state", "of"), ("counters", "of")):
         assert node(how, it, name)["fault"] == "the handle has no station or reader"
+
+
+def test_memory(tmp_path):
+    """If the browser refuses memory, a call is refused, and a later one is right."""
+    node = Node(f"{tmp_path}/ddcmp.wasm", "--wasm-max-mem-pages=100")
+    given = [FRAMES * count for count in range(1, 5000, 250)]
+    replies = [node("explain", it, {"form": "raw"}) for it in given]
+    assert {it.get("fault") for it in replies} == {None, "memory"}
+    for text, reply in zip(given, replies):
+        assert "fault" in reply or is_same(reply, call("explain", "--raw", given=text))
+    assert node("explain", STRT.hex())["is"].endswith("items=1 bytes=8 open=0\n")
 
 
 def settle(node, *ends):
@@ -249,7 +265,6 @@ def page(tmp_path):
     assert not faults
 
 
-FRAMES = STRT + b"\xff\xff" + data(b"Hello", 1) + nak(2, 1) + data(b"x" * 300, 2) + ack(2)[:5]
 SKIPPED = ("explain", "--raw", "--discarded")
 
 

@@ -56,7 +56,11 @@ async function begin() {
   beginTabs();
   history.replaceState(null, '', address || '#decode');
   follow();
+  tell('broken', '');
   addEventListener('hashchange', follow);
 }
 
-begin().catch((fault) => tell('broken', `This page can't run here. ${fault.message}`));
+begin().catch((fault) => {
+  $('broken').className = 'fault';
+  tell('broken', `This page can't run here. ${fault.message}`);
+});
