@@ -34,10 +34,15 @@ const wrote = [], port = {
   open: async (how) => { window.opened = how; },
   close: async () => { window.opened = null; },
   writable: new WritableStream({ write: (piece) => { wrote.push(...piece); } }),
-  readable: new ReadableStream({
-    start: (it) => { window.arrive = (bytes) => it.enqueue(Uint8Array.from(bytes)); },
-  }),
 };
+// After an error, as of a frame of bits, there is another stream.
+const opens = () => {
+  port.readable = new ReadableStream({ start: (it) => {
+    window.arrive = (bytes) => it.enqueue(Uint8Array.from(bytes));
+    window.fails = () => { opens(); it.error(new DOMException('', 'FramingError')); };
+  } });
+};
+opens();
 Object.defineProperty(navigator, 'serial', { value: { requestPort: async () => port } });
 window.wrote = () => wrote.splice(0);
 """
@@ -194,6 +199,18 @@ def test_stations(node):
     assert node("call", a, "take")["is"] == b"yes".hex()
     assert node("of", a, "counters")["is"]["bytesSent"] == sum(map(len, sent))
     assert node("of", a, "numbers")["is"] == {"r": 1, "n": 2, "a": 2, "t": 3}
+
+
+def test_example(tmp_path):
+    """The example of docs/LIBRARY.md runs."""
+    Node(f"{tmp_path}/ddcmp.wasm")
+    text = text_of("docs/LIBRARY.md").split("## JavaScript")[1]
+    code = "".join(it[4:] for it in text.splitlines(True) if it.startswith("    "))
+    code = code.replace("./ddcmp.mjs", f"{TOP}/web/ddcmp.mjs")
+    (tmp_path / "example.mjs").write_text(f"{code}\nconsole.log(station.state);\n")
+    words = ["node", "--no-warnings", "--experimental-wasm-memory64", "example.mjs"]
+    ran = subprocess.run(words, cwd=tmp_path, capture_output=True, check=False)
+    assert (ran.stdout, ran.stderr) == (b"Halted\n", b"")
 
 
 def test_made_again(tmp_path):
@@ -398,6 +415,10 @@ def test_port(page):
     far.sends(data(b"yes", 1, 2))
     far.carries(lambda: page.text("mail") == f"{b'yes'.hex()}\n")
     assert far.lost and "──> REP" in page.text("frames") and "<── DATA" in page.text("frames")
+    page.js("window.fails()")
+    page.until(lambda: "FramingError" in page.text("frames"))
+    far.sends(data(b"again", 2, 2))
+    far.carries(lambda: page.text("mail").endswith(f"{b'again'.hex()}\n"))
     page.click("disconnect")
     page.until(lambda: page.js("return window.opened === null"))
     assert page.text("port-state") == "Not connected."

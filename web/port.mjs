@@ -69,13 +69,23 @@ function feed(link, bytes) {
   }
 }
 
+/** Reads the port. After an error of the line, as in a byte's form, it has another stream. */
 async function read(link) {
-  for (;;) {
-    const { value, done } = await link.reader.read();
-    if (done || it !== link) return;
-    feed(link, value);
-    await work(link);
+  for (let stream = null; it === link && link.port.readable !== stream;) {
+    stream = link.port.readable;
+    if (!stream) return;
+    link.reader = stream.getReader();
+    for (let got; (got = await link.reader.read().catch(tellError)) && it === link;) {
+      if (got.done) return;
+      feed(link, got.value);
+      await work(link);
+    }
+    link.reader.releaseLock();
   }
+}
+
+function tellError(fault) {
+  log('frames', `    ${fault.name}`);
 }
 
 async function connect() {
@@ -88,7 +98,7 @@ async function connect() {
     return tell('port-fault', fault.message);
   }
   const link = {
-    port, reader: port.readable.getReader(), writer: port.writable.getWriter(), isWriting: false,
+    port, reader: null, writer: port.writable.getWriter(), isWriting: false,
     station: new ddcmp.Station({ restart: true }), frames: ddcmp.explainer(),
     seconds: $('timer').valueAsNumber || 3, timer: 0,
   };
@@ -110,13 +120,16 @@ async function disconnect(link, fault) {
   $('port-state').textContent = 'Not connected.';
   if (fault) tell('port-fault', fault.message);
   link.station.close();
-  try {
-    await link.reader.cancel();
-    link.reader.releaseLock();
-    link.writer.releaseLock();
-    await link.port.close();
-  } catch {
-    // a port that is gone can't be closed
+  const steps = [
+    () => link.reader.cancel(), () => link.reader.releaseLock(), () => link.writer.releaseLock(),
+    () => link.port.close(),
+  ];
+  for (const step of steps) {
+    try {
+      await step();
+    } catch {
+      // what is gone can't be closed
+    }
   }
 }
 
