@@ -103,6 +103,13 @@ def test_link(kind, is_arm):
     assert kind == "udp" or bridge.ended() == 0
 
 
+def test_waits():
+    """A link without a peer takes next to no processor time."""
+    with on_arm():
+        link = Link("listen:127.0.0.1:0", "--seconds", "3")
+    assert link.ended() == 3 and link.used < 1, f"{link.used} s"
+
+
 class Cross(c_library.Compiler):
     """A compiler for ARM64; a program of it is a script that has qemu run it."""
 
