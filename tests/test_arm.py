@@ -90,7 +90,7 @@ def test_link(kind, is_arm):
     arrive both ways, in order."""
     names = lines_between(kind)
     with on_arm(*([] if is_arm else PROGRAM)):
-        bridge = Bridge(*names, "--lose", "5", "--damage", "5")
+        bridge = Bridge(*names, "--lose", "5", "--damage", "5", "--trace")
     if kind == "tcp":
         ends = [f"connect:127.0.0.1:{it}" for it in bridge.ports(2)]
     else:
@@ -100,8 +100,15 @@ def test_link(kind, is_arm):
     with on_arm():
         two = Link(ends[1], *options)
     exchange(kind, one, two, messages_of(300), messages_of(300))
-    if kind == "tcp":
-        assert bridge.ended() == 0 and all(it[3] and it[4] for it in bridge.counts())
+    assert {"> lost", "< lost"} <= {it for _, it in bridge.traces()}
+    assert kind == "udp" or bridge.ended() == 0
+
+
+def test_waits():
+    """A link without a peer takes next to no processor time."""
+    with on_arm():
+        link = Link("listen:127.0.0.1:0", "--seconds", "3")
+    assert link.ended() == 3 and link.used < 1, f"{link.used} s"
 
 
 class Cross(c_library.Compiler):
@@ -126,6 +133,22 @@ def test_c_library(trial, argument, tmp_path):
 
 def test_names():
     c_library.test_names(MADE)
+
+
+@pytest.mark.parametrize("text, other, is_right", [
+    ("EPIPE: i32 = 32", "EPIPE: i32 = 32", True), ("EPIPE: i32 = 32", "EPIPE: i32 = 31", False),
+    ("pub tv_nsec: i64", "pub tv_nsec: u32", False), ('"INT", "QUIT"', '"QUIT", "INT"', False)])
+def test_layout(text, other, is_right, tmp_path):
+    """It is compiled only if this machine has what the toolchain's crates declare."""
+    kit = os.path.dirname(os.path.dirname(os.path.realpath(shutil.which("rt"))))
+    for it in "libc/src/lib libc/src/net libc/src/types os/src/lib std/src/process/status".split():
+        path = f"{tmp_path}/rattle/{it}.rt"
+        os.makedirs(os.path.dirname(path), exist_ok=True)
+        with open(path, "w", encoding="utf-8") as copy:
+            copy.write(contents(f"{kit}/rattle/{it}.rt").decode().replace(text, other))
+    program = subprocess.check_output([f"{TOP}/c/arm64/layout", tmp_path])
+    words = [f"{GNU}-gcc", "-std=gnu11", "-fsyntax-only", "-x", "c", "-"]
+    assert (subprocess.run(words, input=program, check=False).returncode == 0) == is_right
 
 
 def test_package(tmp_path):
