@@ -1,4 +1,4 @@
-// Calls of web/ddcmp.mjs for tests/test_page.py, in a browser: a name with arguments, and the reply.
+// Calls of web/ddcmp.mjs for tests/test_page.py: a name with arguments, and the reply.
 const stations = [];
 const hex = (it) => [...it].map((byte) => byte.toString(16).padStart(2, '0')).join('');
 const shown = (it) => it instanceof Uint8Array ? hex(it) : it;
