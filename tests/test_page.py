@@ -46,6 +46,12 @@ window.wrote = () => wrote.splice(0);
 """
 
 
+# Drops files with these names and bytes.
+DROP = """
+const list = new DataTransfer();
+for (const [name, bytes] of arguments[0]) list.items.add(new File([Uint8Array.from(bytes)], name));
+document.getElementById('drop').dispatchEvent(new DragEvent('drop', { dataTransfer: list }));
+"""
 # Runs code over the module of the page, in a page without anything.
 SET_UP = """
 const [code, module, done] = arguments;
@@ -233,6 +239,21 @@ def test_example(module):
     assert module.runs(f"{code}\nreturn station.state;") == "Halted"
 
 
+@pytest.mark.parametrize("name, words, why", [
+    ("@llvm.trap", ["--target=x86_64-unknown-linux-gnu", "-O3"], ""),
+    ("@llvm.x86.sse2.pause", ["--target=x86_64-unknown-linux-gnu", "-O3"], "not known on Web"),
+    ("@elsewhere", ["--target=x86_64-unknown-linux-gnu", "-O3"], "not known on WebAssembly"),
+    ("@llvm.trap", ["--target=x86_64-unknown-linux-gnu", "-O2"], "an unknown call"),
+])
+def test_compiler(tmp_path, name, words, why):
+    """web/clang stops at a function, an intrinsic or a call that it doesn't know."""
+    text = f"declare void {name}()\ndefine void @f() {{ call void {name}() ret void }}\n"
+    (tmp_path / "module.bc").write_text(text)
+    ran = subprocess.run([f"{TOP}/web/clang", *words], cwd=tmp_path, capture_output=True, check=False)
+    assert ran.returncode == (2 if why else 0) and why in ran.stderr.decode()
+    assert (tmp_path / "module.o").exists() != bool(why)
+
+
 def test_made_again(tmp_path):
     """The page of the repository is what is made of the proved code now, byte for byte."""
     subprocess.run([f"{TOP}/web/build", tmp_path], check=True, stdout=subprocess.DEVNULL)
@@ -327,14 +348,13 @@ def test_decode(page):
 
 
 def test_files(page, tmp_path):
-    """Two files as a table and as a ladder; a long one; a capture of packets."""
+    """Two files, dropped, as a table and as a ladder; a long one; a capture of packets."""
     files = {"a": FRAMES, "b": STRT + ack(1) + data(b"yes", 1, 2), "long": FRAMES * 12000,
              "packets": bytes.fromhex("d4c3b2a1020004")}
     for name, text in files.items():
         (tmp_path / name).write_bytes(text)
     page.open("decode")
-    page("first").send_keys(f"{tmp_path}/a")
-    page("second").send_keys(f"{tmp_path}/b")
+    page.js(DROP, [[name, list(files[name])] for name in "ab"])
     page.until(lambda: f"{len(FRAMES + files['b'])} bytes" in page.text("totals"))
     page.choose("end", "B to A")
     assert [it[1] + it[3] for it in page.rows()] == ["BSTRT", "BACK", "BDATA"]
