@@ -1,37 +1,29 @@
-// Calls of web/ddcmp.mjs for tests/test_page.py: a line of JSON in for each, and one out.
-import { readFileSync } from 'node:fs';
-import { createInterface } from 'node:readline';
-import { load } from '../web/ddcmp.mjs';
-
-const ddcmp = await load(readFileSync(process.argv[2]));
+// Calls of web/ddcmp.mjs for tests/test_page.py: a name with arguments, and the reply.
 const stations = [];
-const bytes = (it) => it instanceof Uint8Array ? Buffer.from(it).toString('hex') : it;
-const given = (it) => it?.hex === undefined ? it : Buffer.from(it.hex, 'hex');
+const hex = (it) => [...it].map((byte) => byte.toString(16).padStart(2, '0')).join('');
+const shown = (it) => it instanceof Uint8Array ? hex(it) : it;
+const given = (it) => typeof it?.hex === 'string'
+  ? Uint8Array.from(it.hex.match(/../g) ?? [], (digits) => parseInt(digits, 16)) : it;
 
-function inPieces(input, sizes, how) {
-  const explainer = ddcmp.explainer(how);
-  let text = '';
-  for (let at = 0, i = 0; at < input.length; at += sizes[i++ % sizes.length]) {
-    text += explainer.push(input.subarray(at, at + sizes[i % sizes.length]));
-  }
-  return text + explainer.end();
-}
-
-const OWN = {
-  pieces: inPieces,
+const CALLS = {
+  pieces: (input, sizes, how) => {
+    const explainer = ddcmp.explainer(how);
+    let text = '';
+    for (let at = 0, i = 0; at < input.length; at += sizes[i++ % sizes.length]) {
+      text += explainer.push(input.subarray(at, at + sizes[i % sizes.length]));
+    }
+    return text + explainer.end();
+  },
   station: (sizes) => stations.push(new ddcmp.Station(sizes)) - 1,
   call: (i, name, ...more) => stations[i][name](...more),
   of: (i, name) => stations[i][name],
 };
 
-for await (const line of createInterface({ input: process.stdin })) {
-  const [name, ...more] = JSON.parse(line);
-  let reply;
+globalThis.answer = (name, ...more) => {
   try {
-    const call = OWN[name] ?? ((...it) => ddcmp[name](...it));
-    reply = { is: bytes(call(...more.map(given))) ?? null };
+    const call = CALLS[name] ?? ((...it) => ddcmp[name](...it));
+    return { is: shown(call(...more.map(given))) ?? null };
   } catch (fault) {
-    reply = { fault: fault.message, name: fault.name, output: bytes(fault.output), of: fault.of };
+    return { fault: fault.message, name: fault.name, output: shown(fault.output), of: fault.of };
   }
-  console.log(JSON.stringify(reply));
-}
+};

@@ -1,8 +1,6 @@
-"""The page web/ddcmp.html as a person uses it, in Chromium, and its module below web/ddcmp.mjs, in
-node: what they show of drawn captures and scripts is what the program prints."""
-import base64
+"""The page web/ddcmp.html as a person uses it, and its module by web/ddcmp.mjs, both in Chromium:
+what they show of drawn captures and scripts is what the program prints."""
 import glob
-import json
 import os
 import re
 import subprocess
@@ -48,26 +46,56 @@ window.wrote = () => wrote.splice(0);
 """
 
 
-class Node:
-    """web/ddcmp.mjs in node, a call at a time, over the module of the page."""
+# Drops files with these names and bytes.
+DROP = """
+const list = new DataTransfer();
+for (const [name, bytes] of arguments[0]) list.items.add(new File([Uint8Array.from(bytes)], name));
+document.getElementById('drop').dispatchEvent(new DragEvent('drop', { dataTransfer: list }));
+"""
+# Runs code over the module of the page, in a page without anything.
+SET_UP = """
+const [code, module, done] = arguments;
+const bytes = Uint8Array.from(atob(module), (it) => it.charCodeAt(0));
+new (async () => {}).constructor('bytes', code)(bytes).then(done, (fault) => done(fault.message));
+"""
 
-    def __init__(self, module, *options):
-        with open(PAGE, encoding="utf-8") as it, open(module, "wb") as made:
-            made.write(base64.b64decode(re.search('id="module">([^<]*)<', it.read())[1]))
-        words = ["node", "--no-warnings", "--experimental-wasm-memory64", *options,
-                 f"{TOP}/tests/module.mjs", module]
-        self.run = subprocess.Popen(words, stdin=subprocess.PIPE, stdout=subprocess.PIPE, text=True)
+
+def browser(*options, folder=None):
+    """Chromium, which saves into a folder."""
+    those = webdriver.ChromeOptions()
+    for it in ("headless=new", "no-sandbox", "disable-dev-shm-usage", "window-size=1280,900"):
+        those.add_argument(f"--{it}")
+    for it in options:
+        those.add_argument(it)
+    those.add_experimental_option("prefs", {"download.default_directory": str(folder)})
+    those.set_capability("goog:loggingPrefs", {"browser": "ALL"})
+    return webdriver.Chrome(options=those)
+
+
+class Module:
+    """web/ddcmp.mjs, a call at a time, over the module of the page."""
+
+    def __init__(self, *options):
+        self.driver = browser(*options)
+        code = "const ddcmp = await load(bytes);" + text_of("tests/module.mjs")
+        assert self.runs(code) is None
+
+    def runs(self, code):
+        """Runs code after that of web/ddcmp.mjs."""
+        parts = re.sub("^export ", "", text_of("web/ddcmp.mjs"), flags=re.M), code
+        module = re.search('id="module">([^<]*)<', text_of("web/ddcmp.html"))[1]
+        return self.driver.execute_async_script(SET_UP, "\n".join(parts), module)
 
     def __call__(self, name, *given):
         given = [{"hex": it.hex()} if isinstance(it, bytes) else it for it in given]
-        self.run.stdin.write(json.dumps([name, *given]) + "\n")
-        self.run.stdin.flush()
-        return json.loads(self.run.stdout.readline())
+        return self.driver.execute_script("return answer(...arguments)", name, *given)
 
 
 @pytest.fixture
-def node(tmp_path):
-    return Node(f"{tmp_path}/ddcmp.wasm")
+def module():
+    it = Module()
+    yield it
+    it.driver.quit()
 
 
 def capture(draw):
@@ -97,40 +125,40 @@ def is_same(reply, ran):
 
 @tries(1000)
 @given(randoms)
-def test_explain_as_program(node, draw):
+def test_explain_as_program(module, draw):
     form, (is_json, skipped) = draw.choice(list(FORMS)), draw.choices([True, False], k=2)
     most, bytes_of = draw.choice([16383, 1, 40]), capture(draw)
     text = written(draw, bytes_of, form)
     words = [*FORMS[form], *["--json"] * is_json, *["--discarded"] * skipped, f"--max={most}"]
     how = {"form": form, "json": is_json, "discarded": skipped, "max": most}
-    reply = node("explain", text, how)
+    reply = module("explain", text, how)
     assert is_same(reply, call("explain", *words, given=text))
     if "is" in reply and form != "detect":
-        assert node("bytes", text, form)["is"] == bytes_of.hex()
+        assert module("bytes", text, form)["is"] == bytes_of.hex()
 
 
 @tries(300)
 @given(randoms)
-def test_chunks_as_whole(node, draw):
+def test_chunks_as_whole(module, draw):
     text = capture(draw) + draw.randbytes(draw.choice([0, 0, 500]))
     how = {"json": bool(draw.randrange(2)), "discarded": bool(draw.randrange(2)), "max": 40}
     sizes = [draw.randrange(1, draw.choice([4, 40, 400])) for _ in range(5)]
-    assert node("pieces", text, sizes, how) == node("explain", text, {**how, "form": "raw"})
+    assert module("pieces", text, sizes, how) == module("explain", text, {**how, "form": "raw"})
 
 
 @tries(200)
 @given(randoms)
-def test_ladder_as_program(node, tmp_path, draw):
+def test_ladder_as_program(module, tmp_path, draw):
     both = {tmp_path / name: capture(draw) for name in "ab"}
     for path, text in both.items():
         path.write_bytes(text)
-    reply = node("ladder", *both.values(), {"form": "raw", "discarded": True})
+    reply = module("ladder", *both.values(), {"form": "raw", "discarded": True})
     assert is_same(reply, call("explain", "--raw", "--ladder", "--discarded", *map(str, both)))
 
 
 @tries(600)
 @given(randoms)
-def test_script_as_program(node, draw):
+def test_script_as_program(module, draw):
     lines = ["start A", "start B", "settle"] * draw.randrange(2)
     for word in draw.choices(WORDS[:-1] if draw.randrange(4) else WORDS, k=draw.randrange(25)):
         end = "" if word in ALONE else f" {draw.choice('AB')} {ARGUMENTS.get(word, '')}"
@@ -141,76 +169,89 @@ def test_script_as_program(node, draw):
     view, script = draw.choice(["text", "ladder", "svg"]), "".join(f"{it}\n" for it in lines)
     words = [*[f"--{view}"] * (view != "text"), *(f"--{it}={n}" for it, n in sizes.items()),
              *(f"--{it}" for it in flags if flags[it])]
-    reply = node("simulate", script, {"view": view, **sizes, **flags})
+    reply = module("simulate", script, {"view": view, **sizes, **flags})
     assert is_same(reply, call("simulate", *words, given=script.encode()))
 
 
-def test_refusals(node):
+def test_refusals(module):
     """Numbers that don't fit, what isn't bytes, and a station after it was freed."""
     for name, wrong, why in (("window", 65537, "the window isn't 1 to 255"),
                              ("inbox", -1, "the inbox isn't 1 to 255"),
                              ("max", 1.5, "the largest message isn't 1 to 16383"),
                              ("syn", "1", "the SYN fill is above 16")):
-        assert node("simulate", "", {name: wrong})["fault"] == why
-        assert node("station", {name: wrong})["fault"] == why
+        assert module("simulate", "", {name: wrong})["fault"] == why
+        assert module("station", {name: wrong})["fault"] == why
     why = "the largest message isn't 1 to 16383"
-    assert node("explain", "", {"max": 2**32 + 1})["fault"] == why
-    assert node("explain", 5)["name"] == node("bytes", "", "none")["name"] == "TypeError"
-    it = node("station", {"max": 5})["is"]
-    assert node("call", it, "send", "a")["fault"] == "the station doesn't run"
-    assert node("call", it, "close") == {"is": None}
+    assert module("explain", "", {"max": 2**32 + 1})["fault"] == why
+    assert module("explain", 5)["name"] == module("bytes", "", "none")["name"] == "TypeError"
+    it = module("station", {"max": 5})["is"]
+    assert module("call", it, "send", "a")["fault"] == "the station doesn't run"
+    assert module("call", it, "close") == {"is": None}
     for name, how in (("start", "call"), ("poll", "call"), ("state", "of"), ("counters", "of")):
-        assert node(how, it, name)["fault"] == "the handle has no station or reader"
+        assert module(how, it, name)["fault"] == "the handle has no station or reader"
 
 
-def test_memory(tmp_path):
+def test_memory():
     """If the browser refuses memory, a call is refused, and a later one is right."""
-    node = Node(f"{tmp_path}/ddcmp.wasm", "--wasm-max-mem-pages=100")
+    module = Module("--js-flags=--wasm-max-mem-pages=100")
     given = [FRAMES * count for count in range(1, 5000, 250)]
-    replies = [node("explain", it, {"form": "raw"}) for it in given]
+    replies = [module("explain", it, {"form": "raw"}) for it in given]
     assert {it.get("fault") for it in replies} == {None, "memory"}
     for text, reply in zip(given, replies):
         assert "fault" in reply or is_same(reply, call("explain", "--raw", given=text))
-    assert node("explain", STRT.hex())["is"].endswith("items=1 bytes=8 open=0\n")
+    assert module("explain", STRT.hex())["is"].endswith("items=1 bytes=8 open=0\n")
+    module.driver.quit()
 
 
-def settle(node, *ends):
+def settle(module, *ends):
     """Carries frames to and fro until neither station has one."""
-    while frames := [node("call", it, "poll")["is"] for it in ends]:
+    while frames := [module("call", it, "poll")["is"] for it in ends]:
         if not any(frames):
             return
         for to, frame in zip(reversed(ends), frames):
             left = bytes.fromhex(frame or "")
             while left:
-                left = left[node("call", to, "feed", left)["is"]["used"]:]
+                left = left[module("call", to, "feed", left)["is"]["used"]:]
 
 
-def test_stations(node):
+def test_stations(module):
     """Two stations exchange messages in both directions."""
-    a, b = (node("station", {"max": 9000, "window": 3})["is"] for _ in range(2))
-    assert [node("call", it, "start")["is"] for it in (a, b)] == [0, 0]
-    settle(node, a, b)
-    assert [node("of", it, "state")["is"] for it in (a, b)] == ["Running", "Running"]
+    a, b = (module("station", {"max": 9000, "window": 3})["is"] for _ in range(2))
+    assert [module("call", it, "start")["is"] for it in (a, b)] == [0, 0]
+    settle(module, a, b)
+    assert [module("of", it, "state")["is"] for it in (a, b)] == ["Running", "Running"]
     sent = [b"hello", bytes(range(256)) * 35]
-    assert [node("call", a, "send", it)["is"] for it in sent] == [1, 2]
-    assert node("call", b, "send", "yes")["is"] == 1
-    settle(node, a, b)
-    assert [node("call", b, "take")["is"] for _ in range(3)] == [*(it.hex() for it in sent), None]
-    assert node("call", a, "take")["is"] == b"yes".hex()
-    assert node("of", a, "counters")["is"]["bytesSent"] == sum(map(len, sent))
-    assert node("of", a, "numbers")["is"] == {"r": 1, "n": 2, "a": 2, "t": 3}
+    assert [module("call", a, "send", it)["is"] for it in sent] == [1, 2]
+    assert module("call", b, "send", "yes")["is"] == 1
+    settle(module, a, b)
+    assert [module("call", b, "take")["is"] for _ in range(3)] == [*(it.hex() for it in sent), None]
+    assert module("call", a, "take")["is"] == b"yes".hex()
+    assert module("of", a, "counters")["is"]["bytesSent"] == sum(map(len, sent))
+    assert module("of", a, "numbers")["is"] == {"r": 1, "n": 2, "a": 2, "t": 3}
 
 
-def test_example(tmp_path):
+def test_example(module):
     """The example of docs/LIBRARY.md runs."""
-    Node(f"{tmp_path}/ddcmp.wasm")
     text = text_of("docs/LIBRARY.md").split("## JavaScript")[1]
-    code = "".join(it[4:] for it in text.splitlines(True) if it.startswith("    "))
-    code = code.replace("./ddcmp.mjs", f"{TOP}/web/ddcmp.mjs")
-    (tmp_path / "example.mjs").write_text(f"{code}\nconsole.log(station.state);\n")
-    words = ["node", "--no-warnings", "--experimental-wasm-memory64", "example.mjs"]
-    ran = subprocess.run(words, cwd=tmp_path, capture_output=True, check=False)
-    assert (ran.stdout, ran.stderr) == (b"Halted\n", b"")
+    lines = [it[4:] for it in text.splitlines() if it.startswith("    ")]
+    code = "\n".join(it for it in lines if not it.startswith("import "))
+    code = code.replace("readFileSync('ddcmp.wasm')", "bytes")
+    assert module.runs(f"{code}\nreturn station.state;") == "Halted"
+
+
+@pytest.mark.parametrize("name, words, why", [
+    ("@llvm.trap", ["--target=x86_64-unknown-linux-gnu", "-O3"], ""),
+    ("@llvm.x86.sse2.pause", ["--target=x86_64-unknown-linux-gnu", "-O3"], "not known on Web"),
+    ("@elsewhere", ["--target=x86_64-unknown-linux-gnu", "-O3"], "not known on WebAssembly"),
+    ("@llvm.trap", ["--target=x86_64-unknown-linux-gnu", "-O2"], "an unknown call"),
+])
+def test_compiler(tmp_path, name, words, why):
+    """web/clang stops at a function, an intrinsic or a call that it doesn't know."""
+    text = f"declare void {name}()\ndefine void @f() {{ call void {name}() ret void }}\n"
+    (tmp_path / "module.bc").write_text(text)
+    ran = subprocess.run([f"{TOP}/web/clang", *words], cwd=tmp_path, capture_output=True, check=False)
+    assert ran.returncode == (2 if why else 0) and why in ran.stderr.decode()
+    assert (tmp_path / "module.o").exists() != bool(why)
 
 
 def test_made_again(tmp_path):
@@ -225,12 +266,7 @@ class Page:
     """The page in a browser, which saves into a folder."""
 
     def __init__(self, folder):
-        self.folder, options = folder, webdriver.ChromeOptions()
-        for it in ("headless=new", "no-sandbox", "disable-dev-shm-usage", "window-size=1280,900"):
-            options.add_argument(f"--{it}")
-        options.add_experimental_option("prefs", {"download.default_directory": str(folder)})
-        options.set_capability("goog:loggingPrefs", {"browser": "ALL"})
-        self.driver = webdriver.Chrome(options=options)
+        self.folder, self.driver = folder, browser(folder=folder)
         source = {"source": SERIAL}
         self.driver.execute_cdp_cmd("Page.addScriptToEvaluateOnNewDocument", source)
         self.js = self.driver.execute_script
@@ -312,14 +348,13 @@ def test_decode(page):
 
 
 def test_files(page, tmp_path):
-    """Two files as a table and as a ladder; a long one; a capture of packets."""
+    """Two files, dropped, as a table and as a ladder; a long one; a capture of packets."""
     files = {"a": FRAMES, "b": STRT + ack(1) + data(b"yes", 1, 2), "long": FRAMES * 12000,
              "packets": bytes.fromhex("d4c3b2a1020004")}
     for name, text in files.items():
         (tmp_path / name).write_bytes(text)
     page.open("decode")
-    page("first").send_keys(f"{tmp_path}/a")
-    page("second").send_keys(f"{tmp_path}/b")
+    page.js(DROP, [[name, list(files[name])] for name in "ab"])
     page.until(lambda: f"{len(FRAMES + files['b'])} bytes" in page.text("totals"))
     page.choose("end", "B to A")
     assert [it[1] + it[3] for it in page.rows()] == ["BSTRT", "BACK", "BDATA"]

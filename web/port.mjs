@@ -99,7 +99,8 @@ async function connect() {
   }
   const link = {
     port, reader: null, writer: port.writable.getWriter(), isWriting: false,
-    station: new ddcmp.Station({ restart: true }), frames: ddcmp.explainer(),
+    // Fill before each frame, as of `ddcmp link` at a device: the line may lose bytes.
+    station: new ddcmp.Station({ syn: 4, restart: true }), frames: ddcmp.explainer(),
     seconds: $('timer').valueAsNumber || 3, timer: 0,
   };
   it = link;

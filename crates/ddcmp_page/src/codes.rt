@@ -16,7 +16,7 @@ pub(crate) const MEMORY: u32 = 5;
 /// The output is longer than its room; its length is reported.
 pub(crate) const ROOM: u32 = 14;
 
-/// Nothing in memory fails to be read or written.
+/// Nothing in memory fails to be read, and what carries frames between two stations never does.
 const DEVICE: u32 = 38;
 
 /// Returns the code of the result for an input; sets `at` to the index of the byte, or to the
@@ -30,8 +30,9 @@ pub(crate) fn input_code(by: Result<(), DetectedFault>, at: &mut u64) -> u32
         Err(DetectedFault::NotHex(index)) => (33, index),
         Err(DetectedFault::Line(NotDumped::NotALine(line))) => (34, line),
         Err(DetectedFault::Line(NotDumped::Star(line))) => (35, line),
-        Err(DetectedFault::Memory) => (MEMORY, 0),
-        Err(DetectedFault::Read | DetectedFault::Write) => (DEVICE, 0),
+        // An output in memory fails if it can't grow.
+        Err(DetectedFault::Memory | DetectedFault::Write) => (MEMORY, 0),
+        Err(DetectedFault::Read) => (DEVICE, 0),
     };
     *at = index;
     code
@@ -45,8 +46,8 @@ pub(crate) fn script_code(by: Result<(), ScriptFault>, at: &mut u64) -> u32
         Ok(()) => (OK, 0),
         Err(ScriptFault::Line(line)) => (36, line),
         Err(ScriptFault::Hex(line)) => (37, line),
-        Err(ScriptFault::Memory) => (MEMORY, 0),
-        Err(ScriptFault::Read | ScriptFault::Write | ScriptFault::Carrier) => (DEVICE, 0),
+        Err(ScriptFault::Memory | ScriptFault::Write) => (MEMORY, 0),
+        Err(ScriptFault::Read | ScriptFault::Carrier) => (DEVICE, 0),
     };
     *at = line;
     code
