@@ -20,14 +20,16 @@ function inPieces(input, sizes, how) {
 const OWN = {
   pieces: inPieces,
   station: (sizes) => stations.push(new ddcmp.Station(sizes)) - 1,
-  of: (i, name, ...more) => typeof stations[i][name] === 'function' ? stations[i][name](...more) : stations[i][name],
+  call: (i, name, ...more) => stations[i][name](...more),
+  of: (i, name) => stations[i][name],
 };
 
 for await (const line of createInterface({ input: process.stdin })) {
   const [name, ...more] = JSON.parse(line);
   let reply;
   try {
-    reply = { is: bytes((OWN[name] ?? ((...it) => ddcmp[name](...it)))(...more.map(given))) ?? null };
+    const call = OWN[name] ?? ((...it) => ddcmp[name](...it));
+    reply = { is: bytes(call(...more.map(given))) ?? null };
   } catch (fault) {
     reply = { fault: fault.message, name: fault.name, output: bytes(fault.output), of: fault.of };
   }

@@ -1,7 +1,7 @@
-"""The page web/ddcmp.html as a person uses it, in Chromium, and its module under web/ddcmp.mjs, in node: what they show of drawn
-captures and scripts is what the program prints."""
+"""The page web/ddcmp.html as a person uses it, in Chromium, and its module below web/ddcmp.mjs, in
+node: what they show of drawn captures and scripts is what the program prints."""
 import base64
-import contextlib
+import glob
 import json
 import os
 import re
@@ -11,44 +11,51 @@ import time
 import pytest
 from hypothesis import given
 from selenium import webdriver
-from selenium.webdriver.chrome.options import Options
-from selenium.webdriver.chrome.service import Service
 from selenium.webdriver.common.by import By
 from selenium.webdriver.common.keys import Keys
 from selenium.webdriver.support.ui import Select, WebDriverWait
 
 from .captures import FAULTY, GOOD, randoms, tries
-from .process import LONG, TOP, call, holds_within
-from .test_pictures import WORDS
 from .peers import good
+from .process import LONG, TOP, call, contents, holds_within, text_of
+from .test_pictures import WORDS
 from .wire import STRT, Reader, ack, data, nak
 
-pytestmark = [pytest.mark.limit(300), pytest.mark.xdist_group("page")]
+pytestmark = pytest.mark.limit(300)
 PAGE = f"{TOP}/web/ddcmp.html"
-FORMS = {"hex": [], "text": ["--from", "text"], "raw": ["--raw"], "dump": ["--from", "xxd"], "detect": ["--from", "auto"]}
-# A serial port whose bytes the test carries: what the page wrote, and what it is to read.
+FRAMES = STRT + b"\xff\xff" + data(b"Hello", 1) + nak(2, 1) + data(b"x" * 300, 2) + ack(2)[:5]
+FORMS = {"hex": [], "text": ["--from", "text"], "raw": ["--raw"], "dump": ["--from", "xxd"],
+         "detect": ["--from", "auto"]}
+ARGUMENTS = {"send": "6162", "damage": "3 40", "cut": "5", "raw": "0501"}
+ALONE = ("clear", "settle", "recover", "other", "", "# words")  # lines that name no end
+# A serial port whose bytes the test carries.
 SERIAL = """
 const wrote = [], port = {
   open: async (how) => { window.opened = how; },
   close: async () => { window.opened = null; },
   writable: new WritableStream({ write: (piece) => { wrote.push(...piece); } }),
-  readable: new ReadableStream({ start: (it) => { window.arrive = (bytes) => it.enqueue(Uint8Array.from(bytes)); } }),
 };
+// After an error, as of a frame of bits, there is another stream.
+const opens = () => {
+  port.readable = new ReadableStream({ start: (it) => {
+    window.arrive = (bytes) => it.enqueue(Uint8Array.from(bytes));
+    window.fails = () => { opens(); it.error(new DOMException('', 'FramingError')); };
+  } });
+};
+opens();
 Object.defineProperty(navigator, 'serial', { value: { requestPort: async () => port } });
 window.wrote = () => wrote.splice(0);
 """
 
 
-def module_of_page():
-    with open(PAGE, encoding="utf-8") as it:
-        return base64.b64decode(re.search('id="module">([^<]*)<', it.read())[1])
-
-
 class Node:
-    """web/ddcmp.mjs in node, a call at a time."""
+    """web/ddcmp.mjs in node, a call at a time, over the module of the page."""
 
-    def __init__(self, module):
-        words = ["node", "--no-warnings", "--experimental-wasm-memory64", f"{TOP}/tests/module.mjs", module]
+    def __init__(self, module, *options):
+        with open(PAGE, encoding="utf-8") as it, open(module, "wb") as made:
+            made.write(base64.b64decode(re.search('id="module">([^<]*)<', it.read())[1]))
+        words = ["node", "--no-warnings", "--experimental-wasm-memory64", *options,
+                 f"{TOP}/tests/module.mjs", module]
         self.run = subprocess.Popen(words, stdin=subprocess.PIPE, stdout=subprocess.PIPE, text=True)
 
     def __call__(self, name, *given):
@@ -60,51 +67,52 @@ class Node:
 
 @pytest.fixture
 def node(tmp_path):
-    module = tmp_path / "ddcmp.wasm"
-    module.write_bytes(module_of_page())
-    it = Node(str(module))
-    yield it
-    it.run.stdin.close()
-    it.run.wait()
+    return Node(f"{tmp_path}/ddcmp.wasm")
 
 
-def junk_or_frames(draw):
-    parts = [draw.choice([*GOOD, *FAULTY])(draw)[1] if draw.randrange(8) else draw.randbytes(draw.randrange(30))
-             for _ in range(draw.randrange(30))]
+def capture(draw):
+    """Frames, faults and noise, at times without the end."""
+    parts = [draw.choice([*GOOD, *FAULTY])(draw)[1] if draw.randrange(8)
+             else draw.randbytes(draw.randrange(30)) for _ in range(draw.randrange(30))]
     return b"".join(parts)[:draw.choice([None, -1, -7])]
 
 
 def written(draw, text, form):
-    """An input of these bytes in a form, at times with a fault."""
-    fault = [b"", b"f", b" zz", b"\n*\n"][draw.choice([0, 0, 0, 1, 2, 3])]
+    """An input that encodes these bytes, at times with a fault."""
+    fault = draw.choice([b"", b"", b"", b"f", b" zz", b"\n*\n"])
     if form in ("hex", "text"):
         return (text.hex(" ") if draw.randrange(2) else text.hex()).encode() + fault
     if form == "dump" or form == "detect" and draw.randrange(2):
-        return subprocess.run(["xxd", "-g1"], input=text, stdout=subprocess.PIPE, check=True).stdout + fault
+        words = ["xxd", "-g1"]
+        return subprocess.run(words, input=text, stdout=subprocess.PIPE, check=True).stdout + fault
     return text
 
 
-def same(reply, ran):
-    """Whether the module's reply is what the program printed: its output, its fault."""
-    out, err, status = ran
-    assert reply.get("is", reply.get("output")) == out.decode(), reply
-    assert ("fault" in reply) == (status != 0)
-    assert "fault" not in reply or err == f"ddcmp: {reply['fault']}\n"
+def is_same(reply, ran):
+    """Whether a reply of the module is what the program printed: its output, its fault."""
+    out, err, _ = ran
+    fault = f"ddcmp: {reply['fault']}\n" if "fault" in reply else ""
+    return reply.get("is", reply.get("output")) == out.decode() and fault == err
 
 
 @tries(1000)
 @given(randoms)
 def test_explain_as_program(node, draw):
-    form, is_json, skipped, most = draw.choice(list(FORMS)), *draw.choices([True, False], k=2), draw.choice([16383, 1, 40])
-    text = written(draw, junk_or_frames(draw), form)
-    words = [*FORMS[form], *["--json"] * is_json, *["--discarded"] * skipped, "--max", str(most)]
-    same(node("explain", text, {"form": form, "json": is_json, "discarded": skipped, "max": most}), call("explain", *words, given=text))
+    form, (is_json, skipped) = draw.choice(list(FORMS)), draw.choices([True, False], k=2)
+    most, bytes_of = draw.choice([16383, 1, 40]), capture(draw)
+    text = written(draw, bytes_of, form)
+    words = [*FORMS[form], *["--json"] * is_json, *["--discarded"] * skipped, f"--max={most}"]
+    how = {"form": form, "json": is_json, "discarded": skipped, "max": most}
+    reply = node("explain", text, how)
+    assert is_same(reply, call("explain", *words, given=text))
+    if "is" in reply and form != "detect":
+        assert node("bytes", text, form)["is"] == bytes_of.hex()
 
 
 @tries(300)
 @given(randoms)
 def test_chunks_as_whole(node, draw):
-    text = junk_or_frames(draw) + draw.randbytes(draw.choice([0, 0, 500]))
+    text = capture(draw) + draw.randbytes(draw.choice([0, 0, 500]))
     how = {"json": bool(draw.randrange(2)), "discarded": bool(draw.randrange(2)), "max": 40}
     sizes = [draw.randrange(1, draw.choice([4, 40, 400])) for _ in range(5)]
     assert node("pieces", text, sizes, how) == node("explain", text, {**how, "form": "raw"})
@@ -113,92 +121,124 @@ def test_chunks_as_whole(node, draw):
 @tries(200)
 @given(randoms)
 def test_ladder_as_program(node, tmp_path, draw):
-    both = [junk_or_frames(draw) for _ in range(2)]
-    for name, text in zip("ab", both):
-        (tmp_path / name).write_bytes(text)
-    ran = call("explain", "--raw", "--ladder", "--discarded", str(tmp_path / "a"), str(tmp_path / "b"))
-    same(node("ladder", *both, {"form": "raw", "discarded": True}), ran)
+    both = {tmp_path / name: capture(draw) for name in "ab"}
+    for path, text in both.items():
+        path.write_bytes(text)
+    reply = node("ladder", *both.values(), {"form": "raw", "discarded": True})
+    assert is_same(reply, call("explain", "--raw", "--ladder", "--discarded", *map(str, both)))
 
 
 @tries(600)
 @given(randoms)
 def test_script_as_program(node, draw):
-    more = {"send": "6162", "damage": "3 40", "cut": "5", "raw": "0501"}
     lines = ["start A", "start B", "settle"] * draw.randrange(2)
-    for word in draw.choices([*WORDS[:-1], *WORDS[:-1], "other"] if draw.randrange(4) else WORDS[:-1], k=draw.randrange(25)):
-        is_whole = word in ("clear", "settle", "recover", "other", "", "# words")
-        lines.append(word if is_whole else f"{word} {draw.choice('AB')} {more.get(word, '')}".rstrip())
-    view, options = draw.choice(["text", "ladder", "svg"]), {"window": draw.randrange(1, 9), "inbox": draw.randrange(1, 9),
-                                                             "max": draw.randrange(1, 99), "syn": draw.randrange(17)}
+    for word in draw.choices(WORDS[:-1] if draw.randrange(4) else WORDS, k=draw.randrange(25)):
+        end = "" if word in ALONE else f" {draw.choice('AB')} {ARGUMENTS.get(word, '')}"
+        lines.append(f"{word}{end}".rstrip())
+    sizes = {"window": draw.randrange(1, 9), "inbox": draw.randrange(1, 9),
+             "max": draw.randrange(1, 99), "syn": draw.randrange(17)}
     flags = {it: bool(draw.randrange(2)) for it in ("restart", "begun", "counters")}
-    words = [*[f"--{view}"] * (view != "text"), *(f"--{name}={n}" for name, n in options.items()), *(f"--{it}" for it in flags if flags[it])]
-    script = "".join(f"{it}\n" for it in lines)
-    same(node("simulate", script, {"view": view, **options, **flags}), call("simulate", *words, given=script.encode()))
+    view, script = draw.choice(["text", "ladder", "svg"]), "".join(f"{it}\n" for it in lines)
+    words = [*[f"--{view}"] * (view != "text"), *(f"--{it}={n}" for it, n in sizes.items()),
+             *(f"--{it}" for it in flags if flags[it])]
+    reply = node("simulate", script, {"view": view, **sizes, **flags})
+    assert is_same(reply, call("simulate", *words, given=script.encode()))
 
 
 def test_refusals(node):
-    """Numbers that don't fit, and a station after it was freed."""
-    for name, wrong, why in (("window", 65537, "the window isn't 1 to 255"), ("inbox", -1, "the inbox isn't 1 to 255"),
-                             ("max", 1.5, "the largest message isn't 1 to 16383"), ("syn", "1", "the SYN fill is above 16")):
-        assert node("simulate", "", {name: wrong})["fault"] == node("station", {name: wrong})["fault"] == why
-    assert node("explain", "", {"max": 2**32 + 1})["fault"] == "the largest message isn't 1 to 16383"
-    assert node("explain", 5)["name"] == node("explain", "", {"form": "none"})["name"] == "TypeError"
+    """Numbers that don't fit, what isn't bytes, and a station after it was freed."""
+    for name, wrong, why in (("window", 65537, "the window isn't 1 to 255"),
+                             ("inbox", -1, "the inbox isn't 1 to 255"),
+                             ("max", 1.5, "the largest message isn't 1 to 16383"),
+                             ("syn", "1", "the SYN fill is above 16")):
+        assert node("simulate", "", {name: wrong})["fault"] == why
+        assert node("station", {name: wrong})["fault"] == why
+    why = "the largest message isn't 1 to 16383"
+    assert node("explain", "", {"max": 2**32 + 1})["fault"] == why
+    assert node("explain", 5)["name"] == node("bytes", "", "none")["name"] == "TypeError"
     it = node("station", {"max": 5})["is"]
-    assert node("of", it, "send", "a")["fault"] == "the station doesn't run"
-    assert node("of", it, "close") == {"is": None}
-    for name in ("start", "state", "poll", "take", "counters", "timerOn", "outgoing"):
-        assert node("of", it, name)["fault"] == "the handle has no station or reader"
+    assert node("call", it, "send", "a")["fault"] == "the station doesn't run"
+    assert node("call", it, "close") == {"is": None}
+    for name, how in (("start", "call"), ("poll", "call"), ("state", "of"), ("counters", "of")):
+        assert node(how, it, name)["fault"] == "the handle has no station or reader"
+
+
+def test_memory(tmp_path):
+    """If the browser refuses memory, a call is refused, and a later one is right."""
+    node = Node(f"{tmp_path}/ddcmp.wasm", "--wasm-max-mem-pages=100")
+    given = [FRAMES * count for count in range(1, 5000, 250)]
+    replies = [node("explain", it, {"form": "raw"}) for it in given]
+    assert {it.get("fault") for it in replies} == {None, "memory"}
+    for text, reply in zip(given, replies):
+        assert "fault" in reply or is_same(reply, call("explain", "--raw", given=text))
+    assert node("explain", STRT.hex())["is"].endswith("items=1 bytes=8 open=0\n")
+
+
+def settle(node, *ends):
+    """Carries frames to and fro until neither station has one."""
+    while frames := [node("call", it, "poll")["is"] for it in ends]:
+        if not any(frames):
+            return
+        for to, frame in zip(reversed(ends), frames):
+            left = bytes.fromhex(frame or "")
+            while left:
+                left = left[node("call", to, "feed", left)["is"]["used"]:]
 
 
 def test_stations(node):
     """Two stations exchange messages in both directions."""
     a, b = (node("station", {"max": 9000, "window": 3})["is"] for _ in range(2))
-
-    def settle():
-        for _ in range(20):
-            for one, other in ((a, b), (b, a)):
-                while frame := node("of", one, "poll")["is"]:
-                    left = bytes.fromhex(frame)
-                    while left:
-                        left = left[node("of", other, "feed", left)["is"]["used"]:]
-    assert [node("of", it, "start")["is"] for it in (a, b)] == [0, 0]
-    settle()
+    assert [node("call", it, "start")["is"] for it in (a, b)] == [0, 0]
+    settle(node, a, b)
     assert [node("of", it, "state")["is"] for it in (a, b)] == ["Running", "Running"]
-    long = bytes(range(256)) * 35
-    assert [node("of", a, "send", it)["is"] for it in (b"hello", long)] == [1, 2] and node("of", b, "send", "yes")["is"] == 1
-    settle()
-    assert [node("of", b, "take")["is"] for _ in range(3)] == [b"hello".hex(), long.hex(), None]
-    assert node("of", a, "take")["is"] == b"yes".hex() and node("of", a, "outgoing")["is"] == 0
-    assert node("of", a, "counters")["is"]["bytesSent"] == 5 + len(long)
+    sent = [b"hello", bytes(range(256)) * 35]
+    assert [node("call", a, "send", it)["is"] for it in sent] == [1, 2]
+    assert node("call", b, "send", "yes")["is"] == 1
+    settle(node, a, b)
+    assert [node("call", b, "take")["is"] for _ in range(3)] == [*(it.hex() for it in sent), None]
+    assert node("call", a, "take")["is"] == b"yes".hex()
+    assert node("of", a, "counters")["is"]["bytesSent"] == sum(map(len, sent))
     assert node("of", a, "numbers")["is"] == {"r": 1, "n": 2, "a": 2, "t": 3}
+
+
+def test_example(tmp_path):
+    """The example of docs/LIBRARY.md runs."""
+    Node(f"{tmp_path}/ddcmp.wasm")
+    text = text_of("docs/LIBRARY.md").split("## JavaScript")[1]
+    code = "".join(it[4:] for it in text.splitlines(True) if it.startswith("    "))
+    code = code.replace("./ddcmp.mjs", f"{TOP}/web/ddcmp.mjs")
+    (tmp_path / "example.mjs").write_text(f"{code}\nconsole.log(station.state);\n")
+    words = ["node", "--no-warnings", "--experimental-wasm-memory64", "example.mjs"]
+    ran = subprocess.run(words, cwd=tmp_path, capture_output=True, check=False)
+    assert (ran.stdout, ran.stderr) == (b"Halted\n", b"")
 
 
 def test_made_again(tmp_path):
     """The page of the repository is what is made of the proved code now, byte for byte."""
-    subprocess.run([f"{TOP}/web/build", str(tmp_path)], check=True, stdout=subprocess.DEVNULL)
-    with open(PAGE, "rb") as kept:
-        assert (tmp_path / "ddcmp.html").read_bytes() == kept.read()
+    subprocess.run([f"{TOP}/web/build", tmp_path], check=True, stdout=subprocess.DEVNULL)
+    assert (tmp_path / "ddcmp.html").read_bytes() == contents(PAGE)
 
 
 # ---- the page, in Chromium
 
 class Page:
-    """The page in a browser that downloads into a folder."""
+    """The page in a browser, which saves into a folder."""
 
-    def __init__(self, folder, narrow=False):
-        self.folder = folder
-        options = Options()
-        for it in ("headless=new", "no-sandbox", "disable-dev-shm-usage", f"window-size={'400,850' if narrow else '1280,900'}"):
+    def __init__(self, folder):
+        self.folder, options = folder, webdriver.ChromeOptions()
+        for it in ("headless=new", "no-sandbox", "disable-dev-shm-usage", "window-size=1280,900"):
             options.add_argument(f"--{it}")
         options.add_experimental_option("prefs", {"download.default_directory": str(folder)})
         options.set_capability("goog:loggingPrefs", {"browser": "ALL"})
-        self.driver = webdriver.Chrome(options=options, service=Service("/usr/bin/chromedriver"))
-        self.driver.execute_cdp_cmd("Page.addScriptToEvaluateOnNewDocument", {"source": SERIAL})
+        self.driver = webdriver.Chrome(options=options)
+        source = {"source": SERIAL}
+        self.driver.execute_cdp_cmd("Page.addScriptToEvaluateOnNewDocument", source)
+        self.js = self.driver.execute_script
 
-    def open(self, part):
+    def open(self, address):
         self.driver.get("about:blank")
-        self.driver.get(f"file://{PAGE}#{part}")
-        self.until(lambda: self(part.split("=")[0]).is_displayed())
+        self.driver.get(f"file://{PAGE}#{address}")
+        self.until(lambda: self(address.split("=")[0]).is_displayed())
 
     def __call__(self, name):
         return self.driver.find_element(By.ID, name)
@@ -214,18 +254,20 @@ class Page:
         self(name).clear()
         self(name).send_keys(text)
 
+    def choose(self, name, text):
+        Select(self(name)).select_by_visible_text(text)
+
     def text(self, name):
-        return self.driver.execute_script("return arguments[0].textContent", self(name))
+        return self.js("return arguments[0].textContent", self(name))
 
     def rows(self):
-        cells = "return [...document.querySelectorAll('#rows tr[id]')].map((it) => [...it.cells].map((cell) => cell.textContent))"
-        return self.driver.execute_script(cells)
+        return self.js("return [...document.querySelectorAll('#rows tr[id]')]"
+                       ".map((it) => [...it.cells].map((cell) => cell.textContent))")
 
     def saved(self, button, name):
         """What a button saves."""
         path = self.folder / name
-        with contextlib.suppress(FileNotFoundError):
-            path.unlink()
+        path.unlink(missing_ok=True)
         self.click(button)
         assert holds_within(LONG, path.exists), name
         return path.read_text()
@@ -240,29 +282,29 @@ def page(tmp_path):
     assert not faults
 
 
-FRAMES = STRT + b"\xff\xff" + data(b"Hello", 1) + nak(2, 1) + data(b"x" * 300, 2) + ack(2)[:5]
+SKIPPED = ("explain", "--raw", "--discarded")
 
 
 def test_decode(page):
-    """Digits that are typed: their items, the bytes of one, filters by mouse and keys, what is saved."""
+    """Digits that are typed: items, the bytes of one, filters by mouse and keys, what is saved."""
     page.open("decode")
     page.type("bytes", FRAMES.hex(" "))
-    page.until(lambda: "334 bytes" in page.text("totals") or f"{len(FRAMES)} bytes" in page.text("totals"))
-    assert [it[3] for it in page.rows()] == ["STRT", "discarded", "DATA", "NAK", "DATA", "unfinished"]
+    page.until(lambda: f"{len(FRAMES)} bytes" in page.text("totals"))
+    items = ["STRT", "discarded", "DATA", "NAK", "DATA", "unfinished"]
+    assert [it[3] for it in page.rows()] == items
     assert page.rows()[2][2:] == ["10", "DATA", "5", "0", "1", "", "1", "48656c6c6f  Hello"]
     page("rows").send_keys(Keys.HOME, Keys.DOWN, Keys.DOWN)
     page.until(lambda: page.text("item").startswith("DATA at 10"))
-    assert "81 0500" not in page.text("item") and "48 65 6c 6c 6f Hello" in page.text("item")
-    assert re.search(r"header CRC([0-9a-f]{2} ){2}right.*data CRC([0-9a-f]{2} ){2}right", page.text("item"))
-    Select(page("kind")).select_by_visible_text("NAK")
+    right = "CRC([0-9a-f]{2} ){2}right"
+    assert re.search(f"header {right}data48 65 6c 6c 6f Hellodata {right}$", page.text("item"))
+    page.choose("kind", "NAK")
     assert [it[3:] for it in page.rows()] == [["NAK", "", "1", "0", "", "1", "data check"]]
-    Select(page("kind")).select_by_visible_text("all items")
+    page.choose("kind", "all items")
     page.click("errors")
     assert [it[3] for it in page.rows()] == ["discarded", "unfinished"]
-    page.click("errors")
-    words = ["explain", "--raw", "--discarded"]
-    assert page.saved("save-text", "items.txt") == call(*words, given=FRAMES)[0].decode()
-    assert page.saved("save-json", "items.json") == call(*words, "--json", given=FRAMES)[0].decode()
+    for kind, more in (("txt", []), ("json", ["--json"])):
+        ran = call(*SKIPPED, *more, given=FRAMES)[0].decode()
+        assert page.saved(f"save-{'json' if more else 'text'}", f"items.{kind}") == ran
     page.type("bytes", "05 0z")
     page.until(lambda: page.text("decode-fault") == "not hexadecimal at 4")
     page.click("forget")
@@ -271,93 +313,112 @@ def test_decode(page):
 
 def test_files(page, tmp_path):
     """Two files as a table and as a ladder; a long one; a capture of packets."""
-    both = [FRAMES, STRT + ack(1) + data(b"yes", 1, 2)]
-    for name, text in zip("ab", both):
+    files = {"a": FRAMES, "b": STRT + ack(1) + data(b"yes", 1, 2), "long": FRAMES * 12000,
+             "packets": bytes.fromhex("d4c3b2a1020004")}
+    for name, text in files.items():
         (tmp_path / name).write_bytes(text)
     page.open("decode")
-    page("first").send_keys(str(tmp_path / "a"))
-    page("second").send_keys(str(tmp_path / "b"))
-    page.until(lambda: f"{len(both[0] + both[1])} bytes" in page.text("totals"))
-    Select(page("end")).select_by_visible_text("B to A")
+    page("first").send_keys(f"{tmp_path}/a")
+    page("second").send_keys(f"{tmp_path}/b")
+    page.until(lambda: f"{len(FRAMES + files['b'])} bytes" in page.text("totals"))
+    page.choose("end", "B to A")
     assert [it[1] + it[3] for it in page.rows()] == ["BSTRT", "BACK", "BDATA"]
     page.click("as-ladder")
-    ran = call("explain", "--raw", "--discarded", "--ladder", str(tmp_path / "a"), str(tmp_path / "b"))[0].decode()
+    ran = call(*SKIPPED, "--ladder", f"{tmp_path}/a", f"{tmp_path}/b")[0].decode()
     page.until(lambda: page.text("ladder") == ran)
     page.click("as-ladder")
-    long = FRAMES * 12000
-    (tmp_path / "long").write_bytes(long)
-    page.driver.execute_script("document.getElementById('second').value = ''")
-    page("first").send_keys(str(tmp_path / "long"))
-    page.until(lambda: f"{len(long)} bytes" in page.text("totals"))
-    assert page.saved("save-json", "items.json") == call("explain", "--raw", "--discarded", "--json", given=long)[0].decode()
-    (tmp_path / "pcap").write_bytes(bytes.fromhex("d4c3b2a1020004"))
-    page("first").send_keys(str(tmp_path / "pcap"))
+    page.js("document.getElementById('second').value = ''")
+    page("first").send_keys(f"{tmp_path}/long")
+    page.until(lambda: f"{len(files['long'])} bytes" in page.text("totals"))
+    ran = call(*SKIPPED, "--json", given=files["long"])[0].decode()
+    assert page.saved("save-json", "items.json") == ran
+    page("first").send_keys(f"{tmp_path}/packets")
     page.until(lambda: "pcap" in page.text("decode-fault"))
 
 
-@pytest.mark.parametrize("name", ["crossing", "damaged", "lost", "startup"])
-def test_pictures(page, name):
+@pytest.mark.parametrize("path", sorted(glob.glob("docs/pictures/*.txt", root_dir=TOP)),
+                         ids=os.path.basename)
+def test_picture(page, path):
     """A script that is typed shows the picture that is stored."""
-    with open(f"{TOP}/docs/pictures/{name}.txt", encoding="utf-8") as script, open(f"{TOP}/docs/pictures/{name}.svg", encoding="utf-8") as kept:
-        page.open("simulate")
-        page.type("script", script.read())
-        assert page.saved("save-picture", "script.svg") == kept.read()
-    assert page.driver.execute_script("const it = document.getElementById('picture'); return it.complete && it.naturalWidth") == 1000
+    page.open("simulate")
+    page.type("script", text_of(path))
+    assert page.saved("save-picture", "script.svg") == text_of(f"{path[:-4]}.svg")
+    page.until(lambda: page("picture").get_property("naturalWidth") == 1000)
 
 
 def test_simulate(page):
     """A wrong line is marked; a script is in the address, which opens it again."""
     page.open("simulate")
     page.type("script", "start A\nbogus\n# <img src=x onerror=alert(1)>\n")
-    assert page.text("script-fault") == "line 2: not a command" and page.driver.find_element(By.CSS_SELECTOR, "#gutter b").text == "2"
-    page.type("script", "start A\nstart B\nsettle\n")
+    assert page.text("script-fault") == "line 2: not a command"
+    assert page.driver.find_element(By.CSS_SELECTOR, "#gutter b").text == "2"
+    script = "start A\nstart B\nsettle\n"
+    page.type("script", script)
     assert not page("script-fault").is_displayed()
-    address = page.driver.current_url
+    address = page.driver.current_url.split("#")[1]
     page.click("begun", "counters")
-    Select(page("view")).select_by_visible_text("text")
-    ran = call("simulate", "--begun", "--counters", given=b"start A\nstart B\nsettle\n")[0].decode()
-    assert page.text("shown") == ran
-    page.open(address.split("#")[1])
-    assert page("script").get_property("value") == "start A\nstart B\nsettle\n"
+    page.choose("view", "text")
+    words = ["simulate", "--begun", "--counters"]
+    assert page.text("shown") == call(*words, given=script.encode())[0].decode()
+    page.open(address)
+    assert page("script").get_property("value") == script
 
 
 def test_two_stations(page):
     """Buttons make a script, whose replies are shown, and which Simulate takes over."""
     page.open("stations")
-    page.click("start-A", "start-B", "both-settle", "send-A", "poll-A", "lose-A", "expire-A", "both-settle", "take-B")
-    lines = ["start A", "start B", "settle", f"send A {b'hello'.hex()}", "poll A", "lose A", "expire A", "settle", "take B"]
+    page.click("start-A", "start-B", "both-settle", "send-A", "poll-A", "lose-A", "expire-A",
+               "both-settle", "take-B")
+    lines = ["start A", "start B", "settle", f"send A {b'hello'.hex()}", "poll A", "lose A",
+             "expire A", "settle", "take B"]
     assert page.text("made").splitlines() == lines and page.text("reply") == "B nothing"
+    assert page.text("state-A").startswith("Running R=0 N=1")
     page.click("undo", "take-over")
-    assert page("simulate").is_displayed() and page("script").get_property("value").splitlines() == lines[:-1]
+    page.until(lambda: page("simulate").is_displayed())
+    assert page("script").get_property("value").splitlines() == lines[:-1]
+
+
+class Far:
+    """A peer in Python at the other end of the serial port; it loses the first message."""
+
+    def __init__(self, page):
+        self.page, self.reader, self.taken, self.mail, self.lost = page, Reader(), 0, [], None
+
+    def sends(self, piece):
+        self.page.js("window.arrive(arguments[0])", list(piece))
+
+    def carries(self, holds):
+        """Answers what the page wrote until this holds."""
+        end = time.monotonic() + LONG
+        while not holds():
+            assert time.monotonic() < end
+            for frame in self.reader.push(bytes(self.page.js("return window.wrote()"))):
+                if frame.name == "DATA" and not self.lost:
+                    self.lost = frame
+                else:
+                    self.sends(good(self, frame))
 
 
 def test_port(page):
-    """A station on a serial port, against a peer in Python: messages in both directions, a lost frame."""
+    """A station on a serial port: messages in both directions, one of them lost at first."""
     page.open("port")
     page.type("timer", "0.4")
     page.click("connect")
-    reader, peer, lost = Reader(), type("Peer", (), {"taken": 0, "mail": []})(), []
-
-    def carries(holds):
-        end = time.monotonic() + LONG
-        while not holds() and time.monotonic() < end:
-            for frame in reader.push(bytes(page.driver.execute_script("return window.wrote()"))):
-                if frame.name == "DATA" and not lost:
-                    lost.append(frame)
-                else:
-                    arrives(good(peer, frame))
-        assert holds()
-
-    def arrives(piece):
-        page.driver.execute_script("window.arrive(arguments[0])", list(piece))
-    carries(lambda: page.text("port-state").startswith("Running"))
+    far = Far(page)
+    far.carries(lambda: page.text("port-state").startswith("Running"))
+    assert page.js("return window.opened.baudRate") == 9600
     page.type("message", "hello" + Keys.ENTER)
     page.click("as-digits")
     page.type("message", "00 ff" + Keys.ENTER)
-    carries(lambda: peer.mail == [b"hello", b"\0\xff"] and "0 messages not" in page.text("port-state"))
-    arrives(data(b"yes", 1, 2))
-    carries(lambda: page.text("mail") == f"{b'yes'.hex()}\n")
-    assert lost and "──> REP" in page.text("frames") and "<── NAK" in page.text("frames") + "<── NAK"
+    far.carries(lambda: " 0 messages not acknowledged" in page.text("port-state")
+                and far.mail == [b"hello", b"\0\xff"])
+    far.sends(data(b"yes", 1, 2))
+    far.carries(lambda: page.text("mail") == f"{b'yes'.hex()}\n")
+    assert far.lost and "──> REP" in page.text("frames") and "<── DATA" in page.text("frames")
+    page.js("window.fails()")
+    page.until(lambda: "FramingError" in page.text("frames"))
+    far.sends(data(b"again", 2, 2))
+    far.carries(lambda: page.text("mail").endswith(f"{b'again'.hex()}\n"))
     page.click("disconnect")
-    page.until(lambda: page.text("port-state") == "Not connected.")
-    page.until(lambda: page.driver.execute_script("return window.opened === null"))
+    page.until(lambda: page.js("return window.opened === null"))
+    assert page.text("port-state") == "Not connected."

@@ -30,6 +30,18 @@ export interface Notice {
   count: number;
 }
 
+export interface Counters {
+  nakSent: Record<string, number>;
+  nakReceived: Record<string, number>;
+  [name: string]: number | Record<string, number>;
+}
+
+export interface Script extends Sizes {
+  view?: 'text' | 'ladder' | 'svg';
+  counters?: boolean;
+  begun?: boolean;
+}
+
 export interface Station {
   start(): number;
   enterMaintenance(): number;
@@ -55,7 +67,7 @@ export interface Station {
   readonly held: number;
   readonly config: Required<Sizes>;
   readonly numbers: { r: number; n: number; a: number; t: number };
-  readonly counters: { nakSent: Record<string, number>; nakReceived: Record<string, number>; [name: string]: number | Record<string, number> };
+  readonly counters: Counters;
 }
 
 export interface Explainer {
@@ -67,9 +79,9 @@ export interface Ddcmp {
   readonly module: WebAssembly.Module;
   readonly Station: new (sizes?: Sizes) => Station;
   explain(input: Bytes, how?: Style & { form?: Form }): string;
-  ladder(first: Bytes, second: Bytes, how?: { form?: Form; discarded?: boolean; max?: number }): string;
+  ladder(first: Bytes, second: Bytes, how?: Omit<Style, 'json'> & { form?: Form }): string;
   bytes(input: Bytes, form?: Form): Uint8Array;
-  simulate(script: Bytes, how?: Sizes & { view?: 'text' | 'ladder' | 'svg'; counters?: boolean; begun?: boolean }): string;
+  simulate(script: Bytes, how?: Script): string;
   explainer(how?: Style): Explainer;
 }
 

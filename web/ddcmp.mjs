@@ -1,26 +1,48 @@
-// The proved code of ddcmp for browsers and node: `const ddcmp = await load(bytes)`. Pointers and lengths are BigInts, since the
-// memory of the module is addressed by 64 bits. Every number is checked here before it is narrowed: a size that doesn't fit
-// becomes the largest, which the module refuses.
+// The proved code of ddcmp for browsers and node: `const ddcmp = await load(bytes)`. Pointers and
+// lengths are BigInts, since the memory of the module is addressed by 64 bits. Every number is
+// checked here before it is narrowed: a size that doesn't fit becomes the largest, which the module
+// refuses.
 
 const TEXTS = {
-  1: "the window isn't 1 to 255", 2: "the inbox isn't 1 to 255", 3: "the largest message isn't 1 to 16383",
-  4: 'the SYN fill is above 16', 5: 'memory', 6: 'the handle has no station or reader', 8: "the station isn't halted",
-  9: "the inbox isn't empty", 10: "the station doesn't run", 11: 'the message is empty', 12: 'the message is too long',
-  13: 'the window is full', 15: 'the line has 2^64 bytes', 16: 'there is no such message', 32: 'odd number of digits',
-  33: 'not hexadecimal at {}', 34: 'line {}: not a line of a dump', 35: 'line {}: repeated lines left out (*): dump with -v',
-  36: 'line {}: not a command', 37: 'line {}: not hexadecimal',
+  1: "the window isn't 1 to 255",
+  2: "the inbox isn't 1 to 255",
+  3: "the largest message isn't 1 to 16383",
+  4: 'the SYN fill is above 16',
+  5: 'memory',
+  6: 'the handle has no station or reader',
+  8: "the station isn't halted",
+  9: "the inbox isn't empty",
+  10: "the station doesn't run",
+  11: 'the message is empty',
+  12: 'the message is too long',
+  13: 'the window is full',
+  15: 'the line has 2^64 bytes',
+  16: 'there is no such message',
+  32: 'odd number of digits',
+  33: 'not hexadecimal at {}',
+  34: 'line {}: not a line of a dump',
+  35: 'line {}: repeated lines left out (*): dump with -v',
+  36: 'line {}: not a command',
+  37: 'line {}: not hexadecimal',
 };
 const MEMORY = 5, CLOSED = 6, ROOM = 14;
 const FORMS = { detect: 0, hex: 1, text: 2, raw: 3, dump: 4 };
 const VIEWS = { text: 0, ladder: 1, svg: 2 };
 export const STATES = ['Halted', 'IStart', 'AStart', 'Running', 'Maintenance'];
-export const NOTICES = [, 'Running', 'RunningAndHandedUp', 'Acknowledged', 'HandedUp', 'HandedUpAndAcknowledged', 'PeerStarts',
-  'PeerRestarted', 'Restarted', 'MaintenanceSeen', 'MaintenanceHandedUp', 'MaintenanceDropped'];
-const NAKS = ['headerCheck', 'dataCheck', 'replyToRep', 'noBuffer', 'overrun', 'tooLong', 'format', 'other'];
-const COUNTERS = ['repSent', 'repReceived', 'messagesSent', 'bytesSent', 'messagesAgain', 'bytesAgain', 'messagesUp', 'bytesUp',
-  'expiries', 'headerChecks', 'dataChecks', 'tooLongs', 'formats'];
+export const NOTICES = [
+  '', 'Running', 'RunningAndHandedUp', 'Acknowledged', 'HandedUp', 'HandedUpAndAcknowledged',
+  'PeerStarts', 'PeerRestarted', 'Restarted', 'MaintenanceSeen', 'MaintenanceHandedUp',
+  'MaintenanceDropped',
+];
+const NAKS = [
+  'headerCheck', 'dataCheck', 'replyToRep', 'noBuffer', 'overrun', 'tooLong', 'format', 'other',
+];
+const COUNTERS = [
+  'repSent', 'repReceived', 'messagesSent', 'bytesSent', 'messagesAgain', 'bytesAgain',
+  'messagesUp', 'bytesUp', 'expiries', 'headerChecks', 'dataChecks', 'tooLongs', 'formats',
+];
 
-/** A call was refused, or an input has a fault: `code`, its place `at` if it has one, and the `output` before it. */
+/** A refused call, or a fault of an input: its `code`, its place `at`, the `output` before it. */
 export class DdcmpError extends Error {
   constructor(code, at = 0, output = '') {
     super((TEXTS[code] ?? `code ${code}`).replace('{}', at));
@@ -43,8 +65,18 @@ function fit(number, bits) {
   return Number.isInteger(number) && number >= 0 && number <= most ? number : most;
 }
 
+/** The sizes of a station as the module takes them, at the front of so many bytes. */
+function sizesOf(size, { window = 7, inbox = 8, max = 1500, syn = 0, restart = false } = {}) {
+  const bytes = new Uint8Array(size), fields = new DataView(bytes.buffer);
+  [window, inbox, max].forEach((it, i) => fields.setUint16(2 * i, fit(it, 16), true));
+  bytes.set([fit(syn, 8), restart ? 1 : 0], 6);
+  return bytes;
+}
+
 function chosen(names, name) {
-  if (!Object.hasOwn(names, name)) throw new TypeError(`${name} is none of ${Object.keys(names).join(', ')}`);
+  if (!Object.hasOwn(names, name)) {
+    throw new TypeError(`${name} is none of ${Object.keys(names).join(', ')}`);
+  }
   return names[name];
 }
 
@@ -129,10 +161,10 @@ class Ddcmp {
         const out = memory.hold(room);
         try {
           const code = call(given, [out, BigInt(room), told, told + 8n], told + 16n);
-          const view = memory.view(told, 24), written = Number(view.getBigUint64(0, true));
+          const view = memory.view(told, 24);
+          const [written, at] = [0, 8].map((it) => Number(view.getBigUint64(it, true)));
           if (code !== ROOM) {
-            const at = Number(view.getBigUint64(8, true));
-            return { code, at, of: view.getUint8(16), output: memory.bytes(out, code && !written ? 0 : written).slice() };
+            return { code, at, of: view.getUint8(16), output: memory.bytes(out, written).slice() };
           }
           room = written;
         } finally {
@@ -155,7 +187,7 @@ class Ddcmp {
       this.#calls.page_explain(number, json ? 1 : 0, discarded ? 1 : 0, most, ...given, ...out));
   }
 
-  /** What `ddcmp explain --ladder` prints of two directions of a line; `of` of a fault is 1 if it is of the second. */
+  /** What `ddcmp explain --ladder` prints; a fault of the second input has 1 as `of`. */
   ladder(first, second, { form = 'detect', discarded = false, max = 16383 } = {}) {
     const number = chosen(FORMS, form), most = fit(max, 16);
     return this.#text([bytesOf(first), bytesOf(second)], (given, out, of) =>
@@ -165,18 +197,19 @@ class Ddcmp {
   /** The bytes that an input encodes. The `output` of a fault has those before it. */
   bytes(input, form = 'detect') {
     const number = chosen(FORMS, form);
-    const { code, at, output } = this.#run([bytesOf(input)], (given, out) => this.#calls.page_bytes(number, ...given, ...out));
+    const { code, at, output } = this.#run([bytesOf(input)], (given, out) =>
+      this.#calls.page_bytes(number, ...given, ...out));
     if (code) throw new DdcmpError(code, at, output);
     return output;
   }
 
   /** What `ddcmp simulate` prints of a script. */
   simulate(script, how = {}) {
-    const { view = 'text', counters = false, begun = false, window = 7, inbox = 8, max = 1500, syn = 0, restart = false } = how;
-    const asked = new Uint8Array(12), fields = new DataView(asked.buffer);
-    [window, inbox, max].forEach((it, i) => fields.setUint16(2 * i, fit(it, 16), true));
-    [fit(syn, 8), !!restart, !!begun, !!counters, chosen(VIEWS, view)].forEach((it, i) => fields.setUint8(6 + i, it));
-    return this.#text([asked, bytesOf(script)], ([at, , ...given], out) => this.#calls.page_simulate(at, ...given, ...out));
+    const { view = 'text', counters = false, begun = false } = how;
+    const asked = sizesOf(12, how);
+    asked.set([begun ? 1 : 0, counters ? 1 : 0, chosen(VIEWS, view)], 8);
+    return this.#text([asked, bytesOf(script)], ([at, , ...given], out) =>
+      this.#calls.page_simulate(at, ...given, ...out));
   }
 
   /** Explains raw bytes in chunks. */
@@ -185,9 +218,13 @@ class Ddcmp {
   }
 }
 
-const GOOD = /^(?:\{"offset":)?(\d+)(?: |,"item":")(?:ACK|NAK|REP|STRT|STACK|(?:DATA|MAINT)"?[ ,]"?count"?[=:](\d+))/;
+// The line of a good frame: its offset, and its count if it has data. Lines that are no items.
+const CONTROL = 'ACK|NAK|REP|STRT|STACK', COUNTED = '(?:DATA|MAINT)"?[ ,]"?count"?[=:](\\d+)';
+const GOOD = new RegExp(`^(?:{"offset":)?(\\d+)(?: |,"item":")(?:${CONTROL}|${COUNTED})`);
+const NO_ITEM = /^(?:\{"offset":)?\d+(?:,"| )(?:discarded|unfinished)/;
+const TOTALS = /(items"?[=:])(\d+)(.*bytes"?[=:])(\d+)/;
 
-/** Explains raw bytes in chunks of any size: what `push` and `end` return, joined, is what `explain` returns of all. */
+/** Explains raw bytes in chunks: `push` and `end` return together what `explain` does of all. */
 class Explainer {
   #ddcmp;
   #how;
@@ -214,10 +251,11 @@ class Explainer {
   }
 
   #moved(line) {
-    return line.replace(/^(\{"offset":)?(\d+)/, (_, front = '', offset) => front + (Number(offset) + this.#base));
+    return line.replace(/^(\{"offset":)?(\d+)/, (_, front = '', offset) =>
+      front + (Number(offset) + this.#base));
   }
 
-  /** Takes a chunk. A good frame leaves nothing to its successor: what follows the last one is explained with the next chunk. */
+  /** Takes a chunk. What follows its last good frame, which leaves nothing open, is kept. */
   push(piece) {
     const bytes = bytesOf(piece);
     this.#pieces.push(bytes.slice());
@@ -231,9 +269,10 @@ class Explainer {
       this.#due = 2 * this.#size;
       return '';
     }
-    const end = Number(good[1]) + 8 + (good[2] ? Number(good[2]) + 2 : 0), done = lines.slice(0, last + 1);
+    const end = Number(good[1]) + 8 + (good[2] ? Number(good[2]) + 2 : 0);
+    const done = lines.slice(0, last + 1);
     const text = done.map((it) => `${this.#moved(it)}\n`).join('');
-    this.#items += done.filter((it) => !/^(?:\{"offset":)?\d+(?:,"| )(?:discarded|unfinished)/.test(it)).length;
+    this.#items += done.filter((it) => !NO_ITEM.test(it)).length;
     this.#found = true;
     this.#base += end;
     this.#pieces = [rest.slice(end)];
@@ -245,25 +284,25 @@ class Explainer {
   /** Returns the lines of what is left, and the totals. */
   end() {
     const lines = this.#ddcmp.explain(this.#rest(), this.#how).split('\n');
-    const totals = lines.splice(-2, 1)[0].replace(/(items"?[=:])(\d+)(.*bytes"?[=:])(\d+)/, (_, items, n, bytes, size) =>
+    const totals = lines.splice(-2, 1)[0].replace(TOTALS, (_, items, n, bytes, size) =>
       items + (Number(n) + this.#items) + bytes + (Number(size) + this.#base));
-    const kept = lines.slice(0, -1).filter((it) => !(this.#found && it === 'no good frame was found'));
+    const kept = lines.slice(0, -1)
+      .filter((it) => !(this.#found && it === 'no good frame was found'));
     return [...kept.map((it) => this.#moved(it)), totals, ''].join('\n');
   }
 }
 
-/** A station over a byte stream: `start`; then `poll` until it returns null, after each `feed`, `send` and `expire`. If `takeArm`
-    returns true, set a deadline for the reply timer; when it comes and `timerOn` is true, call `expire`. Don't feed while
-    `waiting` is as many as `config.inbox`. `close` frees it: every later call throws. */
+/** A station over a byte stream: `start`; then `poll` until it returns null, after each `feed`,
+    `send` and `expire`. If `takeArm` returns true, set a deadline for the reply timer; when it
+    comes and `timerOn` is true, call `expire`. Don't feed while `waiting` is as many as
+    `config.inbox`. `close` frees it: every later call throws. */
 class Station {
   #memory;
   #at;
   #told;
 
-  constructor(memory, { window = 7, inbox = 8, max = 1500, syn = 0, restart = false } = {}) {
-    const sizes = new Uint8Array(8), fields = new DataView(sizes.buffer);
-    [window, inbox, max].forEach((it, i) => fields.setUint16(2 * i, fit(it, 16), true));
-    [fit(syn, 8), restart ? 1 : 0].forEach((it, i) => fields.setUint8(6 + i, it));
+  constructor(memory, how) {
+    const sizes = sizesOf(8, how);
     this.#memory = memory;
     this.#at = memory.hold(8);
     memory.bytes(this.#at, 8).fill(0);
@@ -322,14 +361,18 @@ class Station {
 
   /** Queues a message; returns its number. */
   send(message) {
-    return this.#memory.lend([bytesOf(message)], (at, size) => this.#stored(1, 'send', at, size).getUint8(0));
+    return this.#memory.lend([bytesOf(message)], (at, size) =>
+      this.#stored(1, 'send', at, size).getUint8(0));
   }
 
-  sendMaintenance(message) { this.#memory.lend([bytesOf(message)], (at, size) => this.#must('send_maintenance', at, size)); }
+  sendMaintenance(message) {
+    this.#memory.lend([bytesOf(message)], (at, size) => this.#must('send_maintenance', at, size));
+  }
 
   /** Why `send` would refuse a message; null if it wouldn't. */
   sendRefusal(message) {
-    const code = this.#memory.lend([bytesOf(message)], (at, size) => this.#call('send_refusal', at, size));
+    const code = this.#memory.lend([bytesOf(message)], (at, size) =>
+      this.#call('send_refusal', at, size));
     return code ? new DdcmpError(code) : null;
   }
 
@@ -343,7 +386,8 @@ class Station {
     return this.#memory.lend([bytesOf(piece)], (at, size) => {
       this.#must('feed', at, size, this.#told, this.#told + 8n);
       const view = this.#memory.view(this.#told, 16), kind = view.getUint8(8);
-      return { used: Number(view.getBigUint64(0, true)), notice: kind ? { kind: NOTICES[kind], count: view.getUint8(9) } : null };
+      const notice = kind ? { kind: NOTICES[kind], count: view.getUint8(9) } : null;
+      return { used: Number(view.getBigUint64(0, true)), notice };
     });
   }
 
@@ -370,7 +414,8 @@ class Station {
 
   get counters() {
     const it = this.#stored(124, 'counters');
-    const named = (names, from) => Object.fromEntries(names.map((name, i) => [name, it.getUint32(from + 4 * i, true)]));
+    const named = (names, from) =>
+      Object.fromEntries(names.map((name, i) => [name, it.getUint32(from + 4 * i, true)]));
     return { nakSent: named(NAKS, 0), nakReceived: named(NAKS, 32), ...named(COUNTERS, 64) };
   }
 }

@@ -3,6 +3,7 @@ import { $, bytesOfHex, fieldsOf, hex, lengthOf, make, printable, save, tell } f
 
 const ROW = 26, AROUND = 15;  // the height of a row; rows drawn beyond those in sight
 const LADDER = 5000;  // lines of a ladder that are shown
+const HINT = 'Choose an item to see its bytes.';
 const KINDS = ['DATA', 'MAINT', 'ACK', 'NAK', 'REP', 'STRT', 'STACK'];
 const ERRORS = ['header check', 'data check', 'too long', 'format'];
 const REST = ['discarded', 'unfinished'];
@@ -13,7 +14,9 @@ ff ff  81 0c 00 00 01 01 ce 40  48 65 6c 6c 6f 2c 20 44 44 43 4d 50  bd 23
 # a message with a wrong bit, its NAK, and the message again; a REP of which the end is missing
 81 05 00 00 02 01 12 b1  6c 6f 73 74 3b  1b d6    05 02 02 01 00 01 e8 2d
 81 05 00 00 02 01 12 b1  6c 6f 73 74 3f  1b d6    05 01 00 02 00 01 5d 95  05 03 00 00 02`;
-const COLUMNS = ['#', 'end', 'offset', 'item', 'count', 'resp', 'num', 'flags', 'addr', 'data or why'];
+const COLUMNS = [
+  '#', 'end', 'offset', 'item', 'count', 'resp', 'num', 'flags', 'addr', 'data or why',
+];
 const NUMBERS = ['#', 'offset', 'count', 'resp', 'num', 'addr'];
 
 let worker = null, id = 0, rows = [], seen = [], raws = [], chosen = -1, drawn = 0, totals = [];
@@ -21,18 +24,33 @@ let worker = null, id = 0, rows = [], seen = [], raws = [], chosen = -1, drawn =
 const kindOf = (it) => it.item ?? (it.discarded === undefined ? 'unfinished' : 'discarded');
 const isError = (it) => ERRORS.includes(it.item) || it.item === undefined;
 
+const classOf = (column) => NUMBERS.includes(column) ? 'number' : '';
+
 function whyOf(it) {
   if (it.discarded !== undefined) return `${it.discarded} bytes`;
   if (it.unfinished) return `${it.unfinished}, ${it.have} of ${it.of}`;
   if (it.item === 'NAK') return it.reason;
   if (it.item === 'format') return it.type === undefined ? 'count=0' : `type=${it.type}`;
   if (it.of) return `of ${it.of}`;
-  return it.data === undefined ? '' : `${it.data}${it.count * 2 > it.data.length ? '…' : ''}  ${printable(bytesOfHex(it.data))}`;
+  if (it.data === undefined) return '';
+  const more = it.count * 2 > it.data.length ? '…' : '';
+  return `${it.data}${more}  ${printable(bytesOfHex(it.data))}`;
 }
 
 function cells(it, i) {
   const flags = it.q === undefined ? '' : `${it.q ? 'Q' : ''}${it.s ? 'S' : ''}`;
-  return [i + 1, 'AB'[it.end], it.offset, kindOf(it), it.count, it.resp, it.num, flags, it.addr, whyOf(it)];
+  const { offset, count, resp, num, addr } = it;
+  return [i + 1, 'AB'[it.end], offset, kindOf(it), count, resp, num, flags, addr, whyOf(it)];
+}
+
+function drawRow(it, index, place) {
+  const texts = cells(it, index).map((text, column) =>
+    make('td', { textContent: text ?? '', role: 'gridcell', className: classOf(COLUMNS[column]) }));
+  const row = make('tr', { id: `row-${place}`, className: isError(it) ? 'bad' : 'good' }, ...texts);
+  row.role = 'row';
+  row.ariaRowIndex = place + 2;
+  row.ariaSelected = place === chosen;
+  return row;
 }
 
 /** Draws the rows around those in sight; rows that are there already stay as they are. */
@@ -42,19 +60,12 @@ function draw(isNew = true) {
   const last = Math.min(seen.length, first + Math.ceil(box.clientHeight / ROW) + 3 * AROUND);
   if (!isNew && first === drawn) return;
   drawn = first;
-  const space = (count) => make('tr', { ariaHidden: 'true' }, Object.assign(make('td'), { style: `height:${count * ROW}px;padding:0` }));
-  const shown = seen.slice(first, last).map((index, i) => {
-    const row = make('tr', { id: `row-${first + i}`, className: isError(rows[index]) ? 'bad' : 'good' });
-    row.setAttribute('role', 'row');
-    row.setAttribute('aria-rowindex', first + i + 2);
-    row.setAttribute('aria-selected', first + i === chosen);
-    row.append(...cells(rows[index], index).map((text, column) => {
-      const cell = make('td', { textContent: text ?? '', className: NUMBERS.includes(COLUMNS[column]) ? 'number' : '' });
-      cell.setAttribute('role', 'gridcell');
-      return cell;
-    }));
-    return row;
-  });
+  const space = (count) => {
+    const cell = make('td');
+    cell.style.cssText = `height: ${count * ROW}px; padding: 0`;
+    return make('tr', { ariaHidden: 'true' }, cell);
+  };
+  const shown = seen.slice(first, last).map((index, i) => drawRow(rows[index], index, first + i));
   body.replaceChildren(space(first), ...shown, space(seen.length - last));
   box.setAttribute('aria-rowcount', seen.length + 1);
 }
@@ -63,7 +74,8 @@ function filter() {
   const kind = $('kind').value, end = $('end').value, errors = $('errors').checked;
   seen = [];
   rows.forEach((it, i) => {
-    if ((!kind || kindOf(it) === kind) && (!end || it.end === Number(end)) && (!errors || isError(it))) seen.push(i);
+    const isOne = (!kind || kindOf(it) === kind) && (!end || it.end === Number(end));
+    if (isOne && (!errors || isError(it))) seen.push(i);
   });
   chosen = -1;
   $('rows').scrollTop = 0;
@@ -84,28 +96,35 @@ function showTotals() {
   for (const it of ERRORS) if (count[it]) chips.push([`${count[it]} ${it}`, 'bad']);
   if (skipped) chips.push([`${skipped} bytes discarded`, 'bad']);
   if (sum('open')) chips.push([`${sum('open')} bytes unfinished`, 'bad']);
-  $('totals').replaceChildren(...chips.map(([textContent, className = '']) => make('span', { textContent, className })));
+  $('totals').replaceChildren(...chips.map(([textContent, className = '']) =>
+    make('span', { textContent, className })));
 }
 
 async function showItem() {
   const it = rows[seen[chosen]], raw = raws[it?.end];
   if (!raw) return;
-  const size = lengthOf(it), bytes = new Uint8Array(await raw.slice(it.offset, it.offset + size).arrayBuffer());
-  const lines = fieldsOf(it, bytes).map(([name, part, meaning]) => make('tr', {}, make('th', { textContent: name, scope: 'row' }),
-    make('td', { textContent: hex(part).replace(/../g, '$& ').replace(/(.{24})/g, '$1\n') }), make('td', { textContent: meaning })));
+  const part = raw.slice(it.offset, it.offset + lengthOf(it));
+  const bytes = new Uint8Array(await part.arrayBuffer());
+  const lines = fieldsOf(it, bytes).map(([name, field, meaning]) => {
+    const digits = hex(field).replace(/../g, '$& ').replace(/(.{24})/g, '$1\n');
+    return make('tr', {}, make('th', { textContent: name, scope: 'row' }),
+      make('td', { textContent: digits }), make('td', { textContent: meaning }));
+  });
+  const direction = raws.length > 1 ? `, ${it.end ? 'B to A' : 'A to B'}` : '';
   $('item').replaceChildren(make('h2', { textContent: `${kindOf(it)} at ${it.offset}` }),
-    make('p', { className: 'hint', textContent: `${bytes.length} bytes${raws.length > 1 ? `, ${it.end ? 'B to A' : 'A to B'}` : ''}` }),
+    make('p', { className: 'hint', textContent: `${bytes.length} bytes${direction}` }),
     make('table', {}, make('tbody', {}, ...lines)));
 }
 
 function choose(i) {
   if (!seen.length) return;
   chosen = Math.max(0, Math.min(seen.length - 1, i));
-  const box = $('rows'), top = chosen * ROW;
-  if (top < box.scrollTop) box.scrollTop = top;
-  if (top + 2 * ROW > box.scrollTop + box.clientHeight) box.scrollTop = top + 2 * ROW - box.clientHeight;
+  const box = $('rows'), top = chosen * ROW, least = top + 2 * ROW - box.clientHeight;
+  box.scrollTop = Math.max(Math.min(box.scrollTop, top), least);
   draw(false);
-  for (const row of box.querySelectorAll('tbody tr[id]')) row.setAttribute('aria-selected', row.id === `row-${chosen}`);
+  for (const row of box.querySelectorAll('tbody tr[id]')) {
+    row.ariaSelected = row.id === `row-${chosen}`;
+  }
   box.setAttribute('aria-activedescendant', `row-${chosen}`);
   showItem();
 }
@@ -120,7 +139,7 @@ function takeRows({ rows: more, end, part }) {
 
 function finish(found) {
   raws = found;
-  $('progress').hidden = true;
+  begins(false);
   $('found').hidden = false;
   $('of-end').hidden = raws.length < 2;
   $('rows').classList.toggle('one', raws.length < 2);
@@ -133,16 +152,26 @@ function ask(what) {
   worker.postMessage({ id: ++id, ...what });
 }
 
+/** Shows how far it is, and has nothing else asked meanwhile. */
+function begins(isBusy) {
+  $('progress').hidden = !isBusy;
+  $('progress').value = 0;
+  for (const it of ['save-text', 'save-json', 'as-ladder']) $(it).disabled = isBusy;
+}
+
 function decode(blobs) {
   [rows, totals, raws] = [[], [], []];
   tell('decode-fault', '');
   $('found').hidden = !blobs.length;
-  $('item').replaceChildren(make('p', { className: 'hint', textContent: 'Choose an item to see its bytes.' }));
-  if (!blobs.length) return void id++;
-  $('progress').hidden = false;
-  $('progress').value = 0;
+  $('item').replaceChildren(make('p', { className: 'hint', textContent: HINT }));
+  id++;
+  begins(false);
+  if (!blobs.length) return;
   const max = $('longest').valueAsNumber;
-  if (!(Number.isInteger(max) && max >= 1 && max <= 16383)) return tell('decode-fault', "the longest data aren't 1 to 16383 bytes");
+  if (!(Number.isInteger(max) && max >= 1 && max <= 16383)) {
+    return tell('decode-fault', "the longest data aren't 1 to 16383 bytes");
+  }
+  begins(true);
   ask({ blobs, form: $('form').value, max });
 }
 
@@ -168,11 +197,15 @@ function answered({ data }) {
   if (data.id !== id) return;
   if (data.rows) takeRows(data);
   if (data.raws) finish(data.raws);
-  if (data.fault) tell('decode-fault', data.fault);
+  if (data.fault) {
+    begins(false);
+    tell('decode-fault', data.fault);
+  }
   if (data.saved) save(data.name, data.saved);
   if (data.ladder !== undefined) {
     const lines = data.ladder.split('\n'), more = lines.length - LADDER;
-    $('ladder').textContent = more > 0 ? `${lines.slice(0, LADDER).join('\n')}\n… and ${more} lines: save the text` : data.ladder;
+    const shown = [...lines.slice(0, LADDER), `… and ${more} lines`].join('\n');
+    $('ladder').textContent = more > 0 ? shown : data.ladder;
   }
 }
 
@@ -182,7 +215,9 @@ function asLadder() {
   if ($('as-ladder').checked && raws.length) ask({ ladder: true });
 }
 
-const KEYS = { ArrowDown: 1, ArrowUp: -1, PageDown: 15, PageUp: -15, Home: -Infinity, End: Infinity };
+const KEYS = {
+  ArrowDown: 1, ArrowUp: -1, PageDown: 15, PageUp: -15, Home: -Infinity, End: Infinity,
+};
 
 export function beginDecode(ddcmp) {
   const text = $('worker').textContent;
@@ -191,10 +226,12 @@ export function beginDecode(ddcmp) {
   worker.onerror = (fault) => tell('decode-fault', fault.message);
   worker.postMessage({ id: 0, module: ddcmp.module, blobs: [], form: 'raw', max: 1 });
   $('rows').querySelector('thead tr').append(...COLUMNS.map((it) =>
-    make('th', { textContent: it, scope: 'col', className: NUMBERS.includes(it) ? 'number' : '' })));
-  $('kind').append(...[['', 'all items'], ...[...KINDS, ...ERRORS, ...REST].map((it) => [it, it])].map(([value, label]) =>
-    make('option', { value, textContent: label })));
-  for (const it of ['first', 'second', 'form', 'longest']) $(it).addEventListener('change', () => decode(inputs()));
+    make('th', { textContent: it, role: 'columnheader', className: classOf(it) })));
+  $('kind').append(new Option('all items', ''),
+    ...[...KINDS, ...ERRORS, ...REST].map((it) => new Option(it, it)));
+  for (const it of ['first', 'second', 'form', 'longest']) {
+    $(it).addEventListener('change', () => decode(inputs()));
+  }
   $('bytes').addEventListener('input', () => {
     $('first').value = $('second').value = '';
     decode(inputs());

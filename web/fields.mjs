@@ -15,8 +15,10 @@ export function tell(id, text) {
 }
 
 export const hex = (bytes) => [...bytes].map((it) => it.toString(16).padStart(2, '0')).join('');
-export const bytesOfHex = (digits) => Uint8Array.from(digits.match(/../g) ?? [], (it) => parseInt(it, 16));
-export const printable = (bytes) => [...bytes].map((it) => it >= 32 && it < 127 ? String.fromCharCode(it) : '·').join('');
+export const bytesOfHex = (digits) =>
+  Uint8Array.from(digits.match(/../g) ?? [], (it) => parseInt(it, 16));
+export const printable = (bytes) =>
+  [...bytes].map((it) => it >= 32 && it < 127 ? String.fromCharCode(it) : '·').join('');
 
 export function save(name, blob) {
   const link = make('a', { href: URL.createObjectURL(blob), download: name });
@@ -24,13 +26,16 @@ export function save(name, blob) {
   setTimeout(() => URL.revokeObjectURL(link.href), 60000);
 }
 
-const STARTS = { 0x81: 'SOH: a data message', 0x90: 'DLE: a maintenance message', 0x05: 'ENQ: a control message' };
+const STARTS = {
+  0x81: 'SOH: a data message', 0x90: 'DLE: a maintenance message', 0x05: 'ENQ: a control message',
+};
 const TYPES = { 1: 'ACK', 2: 'NAK', 3: 'REP', 6: 'STRT', 7: 'STACK' };
 const flags = (it) => `q=${it >> 6 & 1} s=${it >> 7}`;
 
 /** How many bytes an item has; of one that isn't a whole frame, those of its header. */
 export function lengthOf({ discarded, have, item, of, count }) {
-  return discarded ?? have ?? 8 + (['DATA', 'MAINT'].includes(item) || item === 'data check' ? count + 2 : 0);
+  const hasData = ['DATA', 'MAINT', 'data check'].includes(item);
+  return discarded ?? have ?? 8 + (hasData ? count + 2 : 0);
 }
 
 /** The fields of an item's bytes: the name of each, its bytes, what they mean. */
@@ -45,7 +50,8 @@ export function fieldsOf(row, bytes) {
   put('start', 1, ([it]) => STARTS[it] ?? 'no start byte');
   if (bytes[0] === 5) {
     put('type', 1, ([it]) => TYPES[it] ?? `${it}: no control message`);
-    put('sub, flags', 1, ([it]) => `sub=${it & 63}${row.reason ? ` (${row.reason})` : ''} ${flags(it)}`);
+    const reason = row.reason ? ` (${row.reason})` : '';
+    put('sub, flags', 1, ([it]) => `sub=${it & 63}${reason} ${flags(it)}`);
   } else {
     put('count', 1, ([it]) => `the low 8 bits: ${it}`);
     put('count, flags', 1, ([it]) => `count=${bytes[1] + 256 * (it & 63)} ${flags(it)}`);

@@ -1,6 +1,7 @@
-/* The heap of the module, in the place of the toolchain's own over malloc: rattle_alloc, rattle_realloc and rattle_dealloc,
-   and the same for the page. No proof covers it. A block has a payload of 2^k bytes after a header of 16; a freed block goes to
-   the list of its k. If the browser refuses memory, an allocation fails, as the proofs allow. */
+/* The heap of the module, in the place of the toolchain's own over malloc: rattle_alloc,
+   rattle_realloc and rattle_dealloc, and the same for the page. No proof covers it. A block has a
+   payload of 2^k bytes after a header of 16; a freed block goes to the list of its k. If the
+   browser refuses memory, an allocation fails, as the proofs allow. */
 typedef unsigned long long u64;
 typedef struct { u64 ok; void *at; } Tried;
 typedef struct block { u64 k; struct block *next; } block;

@@ -45,7 +45,8 @@ function beginTabs() {
 }
 
 async function begin() {
-  const ddcmp = await load(Uint8Array.from(atob($('module').textContent), (it) => it.charCodeAt(0)));
+  const digits = atob($('module').textContent);
+  const ddcmp = await load(Uint8Array.from(digits, (it) => it.charCodeAt(0)));
   const address = location.hash;
   beginDecode(ddcmp);
   simulated = beginSimulate(ddcmp);
@@ -55,7 +56,11 @@ async function begin() {
   beginTabs();
   history.replaceState(null, '', address || '#decode');
   follow();
+  tell('broken', '');
   addEventListener('hashchange', follow);
 }
 
-begin().catch((fault) => tell('broken', `This page can't run here. ${fault.message}`));
+begin().catch((fault) => {
+  $('broken').className = 'fault';
+  tell('broken', `This page can't run here. ${fault.message}`);
+});

@@ -1,4 +1,5 @@
-// A port: a station on a serial port of this machine, by Web Serial. Its timer and its devices are here; what it does is not.
+// A port: a station on a serial port of this machine, by Web Serial. Its timer and its devices are
+// here; what it does is not.
 import { $, bytesOfHex, hex, save, tell } from './fields.mjs';
 
 const SPEEDS = [300, 1200, 2400, 4800, 9600, 19200, 38400, 57600, 115200];
@@ -11,14 +12,18 @@ function log(id, text) {
 }
 
 function logFrames(text, arrow) {
-  for (const line of text.split('\n')) if (line && !/^items=/.test(line)) log('frames', arrow(line.replace(/^\d+ /, '')));
+  for (const line of text.split('\n')) {
+    if (line && !/^items=/.test(line)) log('frames', arrow(line.replace(/^\d+ /, '')));
+  }
 }
 
 function show() {
-  const { station } = it, { r, n, a } = station.numbers;
-  $('port-state').textContent = `${station.state}, R=${r} N=${n} A=${a}, ${station.outgoing} messages not acknowledged`;
-  $('port-counters').textContent = JSON.stringify(station.counters, null, 1).replace(/[{}",]/g, '').replace(/\n\s*\n/g, '\n');
-  $('send').disabled = !station.room || station.state !== 'Running';
+  const { station } = it, { state, outgoing, counters, numbers: { r, n, a } } = station;
+  const numbers = `R=${r} N=${n} A=${a}`;
+  $('port-state').textContent = `${state}, ${numbers}, ${outgoing} messages not acknowledged`;
+  $('port-counters').textContent = JSON.stringify(counters, null, 1).replace(/[{}",]/g, '')
+    .replace(/\n\s*\n/g, '\n');
+  $('send').disabled = !station.room || state !== 'Running';
 }
 
 /** Writes the frames that the station has, one after the other, and sets its timer. */
@@ -48,7 +53,8 @@ function expire(link) {
 }
 
 function takeMail({ station }) {
-  for (let mail; (mail = station.take());) log('mail', $('as-digits').checked ? hex(mail) : new TextDecoder().decode(mail));
+  const shown = $('as-digits').checked ? hex : (it) => new TextDecoder().decode(it);
+  for (let mail; (mail = station.take());) log('mail', shown(mail));
 }
 
 function feed(link, bytes) {
@@ -56,18 +62,30 @@ function feed(link, bytes) {
   for (let left = bytes; left.length;) {
     const { used, notice } = link.station.feed(left);
     left = left.subarray(used);
-    if (notice && !/^(Acknowledged|HandedUp)/.test(notice.kind)) log('frames', `    ${notice.kind}${notice.count ? ` ${notice.count}` : ''}`);
+    if (notice && !/^(Acknowledged|HandedUp)/.test(notice.kind)) {
+      log('frames', `    ${notice.kind} ${notice.count || ''}`);
+    }
     takeMail(link);
   }
 }
 
+/** Reads the port. After an error of the line, as in a byte's form, it has another stream. */
 async function read(link) {
-  for (;;) {
-    const { value, done } = await link.reader.read();
-    if (done || it !== link) return;
-    feed(link, value);
-    await work(link);
+  for (let stream = null; it === link && link.port.readable !== stream;) {
+    stream = link.port.readable;
+    if (!stream) return;
+    link.reader = stream.getReader();
+    for (let got; (got = await link.reader.read().catch(tellError)) && it === link;) {
+      if (got.done) return;
+      feed(link, got.value);
+      await work(link);
+    }
+    link.reader.releaseLock();
   }
+}
+
+function tellError(fault) {
+  log('frames', `    ${fault.name}`);
 }
 
 async function connect() {
@@ -79,13 +97,18 @@ async function connect() {
   } catch (fault) {
     return tell('port-fault', fault.message);
   }
-  const link = { port, station: new ddcmp.Station({ restart: true }), seconds: $('timer').valueAsNumber || 3, timer: 0, isWriting: false,
-    reader: port.readable.getReader(), writer: port.writable.getWriter(), frames: ddcmp.explainer() };
+  const link = {
+    port, reader: null, writer: port.writable.getWriter(), isWriting: false,
+    station: new ddcmp.Station({ restart: true }), frames: ddcmp.explainer(),
+    seconds: $('timer').valueAsNumber || 3, timer: 0,
+  };
   it = link;
   $('connect').disabled = true;
   $('disconnect').disabled = false;
   link.station.start();
-  Promise.all([work(link), read(link)]).then(() => disconnect(link, new Error('the port was closed')), (fault) => disconnect(link, fault));
+  Promise.all([work(link), read(link)]).then(() => {
+    throw new Error('the port was closed');
+  }).catch((fault) => disconnect(link, fault));
 }
 
 async function disconnect(link, fault) {
@@ -97,19 +120,24 @@ async function disconnect(link, fault) {
   $('port-state').textContent = 'Not connected.';
   if (fault) tell('port-fault', fault.message);
   link.station.close();
-  try {
-    await link.reader.cancel();
-    link.reader.releaseLock();
-    link.writer.releaseLock();
-    await link.port.close();
-  } catch {
-    // a port that is gone can't be closed
+  const steps = [
+    () => link.reader.cancel(), () => link.reader.releaseLock(), () => link.writer.releaseLock(),
+    () => link.port.close(),
+  ];
+  for (const step of steps) {
+    try {
+      await step();
+    } catch {
+      // what is gone can't be closed
+    }
   }
 }
 
 function send() {
   const text = $('message').value, digits = text.replace(/[\s:]/g, '');
-  if ($('as-digits').checked && !/^([0-9a-f]{2})+$/i.test(digits)) return tell('port-fault', 'pairs of hexadecimal digits are needed');
+  if ($('as-digits').checked && !/^([0-9a-f]{2})+$/i.test(digits)) {
+    return tell('port-fault', 'pairs of hexadecimal digits are needed');
+  }
   tell('port-fault', '');
   try {
     it.station.send($('as-digits').checked ? bytesOfHex(digits) : text);
@@ -124,12 +152,14 @@ export function beginPort(module) {
   ddcmp = module;
   $('no-serial').hidden = 'serial' in navigator;
   $('serial').hidden = !('serial' in navigator);
-  $('speed').append(...SPEEDS.map((speed) => new Option(speed, speed, speed === 9600, speed === 9600)));
+  $('speed').append(...SPEEDS.map((speed) => new Option(speed)));
+  $('speed').value = 9600;
   $('connect').addEventListener('click', connect);
   $('disconnect').addEventListener('click', () => disconnect(it));
   $('send').addEventListener('click', send);
   $('message').addEventListener('keydown', ({ key }) => {
     if (key === 'Enter' && !$('send').disabled) send();
   });
-  $('save-frames').addEventListener('click', () => save('frames.txt', new Blob([$('frames').textContent])));
+  $('save-frames').addEventListener('click', () =>
+    save('frames.txt', new Blob([$('frames').textContent])));
 }

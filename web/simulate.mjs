@@ -1,7 +1,10 @@
 // Simulate: a script beside its picture.
 import { $, make, save, tell } from './fields.mjs';
 
-const SIZES = [['window', 7, 1, 255], ['inbox', 8, 1, 255], ['max', 1500, 1, 16383], ['syn', 0, 0, 16]];
+const SIZES = [
+  ['window', 7, 1, 255], ['inbox', 8, 1, 255], ['max', 1500, 1, 16383], ['syn', 0, 0, 16],
+];
+const FLAGS = ['restart', 'begun', 'counters'];
 let ddcmp = null, address = '';
 
 /** Shows an SVG document as an image: what is in it can't run. */
@@ -21,13 +24,14 @@ export function played(ddcmp, script, how) {
 }
 
 function options() {
-  const sizes = Object.fromEntries(SIZES.map(([name]) => [name, $(`size-${name}`).valueAsNumber]));
-  return { ...sizes, restart: $('size-restart').checked, begun: $('begun').checked, counters: $('counters').checked };
+  const sizes = SIZES.map(([name]) => [name, $(`size-${name}`).valueAsNumber]);
+  return Object.fromEntries([...sizes, ...FLAGS.map((name) => [name, $(name).checked])]);
 }
 
 function markLine(line) {
   const count = $('script').value.split('\n').length;
-  $('gutter').replaceChildren(...Array.from({ length: count }, (_, i) => make(i + 1 === line ? 'b' : 'span', { textContent: `${i + 1}\n` })));
+  $('gutter').replaceChildren(...Array.from({ length: count }, (_, i) =>
+    make(i + 1 === line ? 'b' : 'span', { textContent: `${i + 1}\n` })));
   $('gutter').scrollTop = $('script').scrollTop;
 }
 
@@ -41,7 +45,8 @@ function run() {
   $('shown').hidden = view === 'svg';
   if (view === 'svg') {
     if (output) showPicture($('picture'), output);
-    $('picture').alt = `Time-sequence diagram: ${played(ddcmp, script, { ...options(), view: 'ladder' }).output}`;
+    const ladder = played(ddcmp, script, { ...options(), view: 'ladder' }).output;
+    $('picture').alt = `Time-sequence diagram: ${ladder}`;
   } else {
     $('shown').textContent = output;
   }
@@ -56,20 +61,24 @@ export function openScript(script) {
 }
 
 function sizeField([name, value, min, max]) {
-  return make('label', { textContent: `${name} ` }, make('input', { type: 'number', id: `size-${name}`, min, max, value }));
+  const input = make('input', { type: 'number', id: `size-${name}`, min, max, value });
+  return make('label', { textContent: `${name} ` }, input);
 }
 
 export function beginSimulate(module) {
   ddcmp = module;
-  $('sizes').append(...SIZES.map(sizeField), make('label', {}, make('input', { type: 'checkbox', id: 'size-restart' }), ' restart'));
+  $('sizes').append(...SIZES.map(sizeField),
+    make('label', {}, make('input', { type: 'checkbox', id: 'restart' }), ' restart'));
   const examples = JSON.parse($('examples').textContent);
-  $('example').append(...Object.keys(examples).map((it) => make('option', { value: it, textContent: it })));
+  $('example').append(...Object.keys(examples).map((it) => new Option(it)));
   $('example').addEventListener('change', ({ target }) => {
     if (target.value) openScript(examples[target.value]);
   });
   $('script').addEventListener('input', run);
-  $('script').addEventListener('scroll', () => { $('gutter').scrollTop = $('script').scrollTop; });
-  for (const it of ['view', 'begun', 'counters', 'size-restart']) $(it).addEventListener('change', run);
+  $('script').addEventListener('scroll', () => {
+    $('gutter').scrollTop = $('script').scrollTop;
+  });
+  for (const it of ['view', ...FLAGS]) $(it).addEventListener('change', run);
   for (const [name] of SIZES) $(`size-${name}`).addEventListener('input', run);
   $('copy-link').addEventListener('click', async () => {
     try {
@@ -80,8 +89,9 @@ export function beginSimulate(module) {
     }
   });
   $('save-picture').addEventListener('click', () => {
-    const isPicture = $('view').value === 'svg', { output } = played(ddcmp, $('script').value, { ...options(), view: $('view').value });
-    save(isPicture ? 'script.svg' : 'script.txt', new Blob([output], { type: isPicture ? 'image/svg+xml' : 'text/plain' }));
+    const view = $('view').value, how = { ...options(), view };
+    const { output } = played(ddcmp, $('script').value, how);
+    save(view === 'svg' ? 'script.svg' : 'script.txt', new Blob([output]));
   });
   return { example: examples.lost ?? '', address: () => address };
 }

@@ -1,8 +1,10 @@
-// Decodes in a worker, so that the page stays usable: files are read in chunks, and a newer request ends an older one.
+// Decodes in a worker, so that the page stays usable: files are read in chunks, and a newer request
+// ends an older one.
 import { DdcmpError, load } from './ddcmp.mjs';
 
 const CHUNK = 1 << 20, SHOWN = 48;  // bytes at once; digits of data in a row
-const MAGICS = ['d4c3b2a1', 'a1b2c3d4', '4d3cb2a1', 'a1b23c4d', '0a0d0d0a'];
+const MAGICS = [0xd4c3b2a1, 0xa1b2c3d4, 0x4d3cb2a1, 0xa1b23c4d, 0x0a0d0d0a];  // of pcap, pcapng
+const PACKETS = 'packets (pcap): take the bytes of each direction out of them first, as by tcpflow';
 let ddcmp = null, asked = 0, raws = [], how = {};
 
 const isText = (it) => it >= 32 && it < 127 || it === 9 || it === 10 || it === 13;
@@ -10,9 +12,9 @@ const readAt = async (blob, from, to) => new Uint8Array(await blob.slice(from, t
 
 /** The bytes of a line that an input encodes, and its fault. */
 async function rawOf(blob, form) {
-  const first = await readAt(blob, 0, 64), magic = [...first.subarray(0, 4)].map((it) => it.toString(16).padStart(2, '0')).join('');
-  if (MAGICS.includes(magic)) {
-    return { raw: new Blob(), fault: 'a capture of packets (pcap): take the bytes of each direction out of it first, as by tcpflow' };
+  const first = await readAt(blob, 0, 64);
+  if (first.length >= 4 && MAGICS.includes(new DataView(first.buffer).getUint32(0))) {
+    return { raw: new Blob(), fault: PACKETS };
   }
   if (form === 'raw' || form === 'detect' && !first.every(isText)) return { raw: blob };
   try {
@@ -23,7 +25,7 @@ async function rawOf(blob, form) {
   }
 }
 
-/** Explains bytes in chunks, and passes the text of each to `use`. Returns whether no newer request came. */
+/** Explains bytes in chunks, and passes the text of each to `use`; stops at a newer request. */
 async function explain(id, raw, options, use) {
   const explainer = ddcmp.explainer(options);
   for (let at = 0; at < raw.size; at += CHUNK) {
@@ -55,14 +57,19 @@ async function decode(id, { blobs, form, max }) {
 async function saved(id, json) {
   for (const [end, raw] of raws.entries()) {
     const parts = [];
-    if (!await explain(id, raw, { json, discarded: true, ...how }, (text) => parts.push(text))) return;
-    postMessage({ id, saved: new Blob(parts), name: `${raws.length > 1 ? 'AB'[end] : 'items'}.${json ? 'json' : 'txt'}` });
+    const style = { json, discarded: true, ...how }, ending = json ? 'json' : 'txt';
+    if (!await explain(id, raw, style, (text) => parts.push(text))) return;
+    const name = `${raws.length > 1 ? 'AB'[end] : 'items'}.${ending}`;
+    postMessage({ id, saved: new Blob(parts), name });
   }
 }
 
 async function ladder(id) {
-  const [first, second] = await Promise.all([0, 1].map((i) => raws[i] ? readAt(raws[i], 0, raws[i].size) : new Uint8Array()));
-  if (id === asked) postMessage({ id, ladder: ddcmp.ladder(first, second, { form: 'raw', discarded: true, ...how }) });
+  const [first, second] = await Promise.all([0, 1].map((i) =>
+    readAt(raws[i] ?? new Blob(), 0, raws[i]?.size)));
+  if (id !== asked) return;
+  const text = ddcmp.ladder(first, second, { form: 'raw', discarded: true, ...how });
+  postMessage({ id, ladder: text });
 }
 
 onmessage = async ({ data }) => {

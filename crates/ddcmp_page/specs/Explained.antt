@@ -21,9 +21,9 @@ explained_as Dump style max input = explained form.Hex style max (shown input)
 
 -- The output for an input in each form, by its number.
 pub record IsExplainedBy (number : ℕ) (style : Style) (max : ℕ) (input output : List ℕ) : Type 0
-    where
-  pub detects : number ≡ 0 → output ≡ explained_as (detected input) style max input
-  pub digits : number ≡ 1 → output ≡ explained form.Hex style max input
-  pub text : number ≡ 2 → output ≡ explained form.Text style max input
-  pub raw : number ≡ 3 → output ≡ explained form.Raw style max input
-  pub dump : number ≡ 4 → output ≡ explained_as Dump style max input
+  where
+    pub detects : number ≡ 0 → output ≡ explained_as (detected input) style max input
+    pub digits : number ≡ 1 → output ≡ explained form.Hex style max input
+    pub text : number ≡ 2 → output ≡ explained form.Text style max input
+    pub raw : number ≡ 3 → output ≡ explained form.Raw style max input
+    pub dump : number ≡ 4 → output ≡ explained_as Dump style max input

@@ -46,7 +46,10 @@ pub extern "C" fn page_bytes(
     at: &mut u64,
 ) -> u32 {
     let mut kept = Vec::new(alloc);
-    let by = decode(&mut InputBytes::new(Pieces::of(input), form_of(form)), &mut kept);
+    let by = decode(
+        &mut InputBytes::new(Pieces::of(input), form_of(form)),
+        &mut kept,
+    );
     let code = input_code(by, at);
     hand(&kept, code, out, written)
 }

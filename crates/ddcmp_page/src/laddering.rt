@@ -28,14 +28,18 @@ fn draw(
     requires whole { kept.old.refused ≡ false }
 {
     let form = form_of(form);
-    let Ok(mut one) =
-        Capture::new(alloc, Pieces::of(first), form, Side::Caller, discarded, max)
+    let Ok(mut one) = Capture::new(alloc, Pieces::of(first), form, Side::Caller, discarded, max)
     else {
         return Err(DetectedFault::Memory);
     };
-    let Ok(mut two) =
-        Capture::new(alloc, Pieces::of(second), form, Side::Called, discarded, max)
-    else {
+    let Ok(mut two) = Capture::new(
+        alloc,
+        Pieces::of(second),
+        form,
+        Side::Called,
+        discarded,
+        max,
+    ) else {
         return Err(DetectedFault::Memory);
     };
     match draw_captures(&mut one, &mut two, kept) {

@@ -79,7 +79,14 @@ fn tell(
     ensures { IsOk result → Finished counted script.now (around_by pair.old pair.new)
         (Appends (Some []) (Some kept.new.bytes.items)) }
 {
-    script_with(alloc, pair, &mut Pieces::of(script), kept, &mut Direct, counted)
+    script_with(
+        alloc,
+        pair,
+        &mut Pieces::of(script),
+        kept,
+        &mut Direct,
+        counted,
+    )
 }
 
 /// Runs a script, and draws it.
@@ -95,7 +102,15 @@ fn depict(
     ensures { IsOk result → Finished false script.now (around_by pair.old pair.new)
         (Appends None None) }
 {
-    draw(alloc, pair, &mut Pieces::of(script), kept, &mut Direct, picture, counted)
+    draw(
+        alloc,
+        pair,
+        &mut Pieces::of(script),
+        kept,
+        &mut Direct,
+        picture,
+        counted,
+    )
 }
 
 /// Runs a script, and shows it.

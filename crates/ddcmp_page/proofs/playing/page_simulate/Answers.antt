@@ -6,8 +6,7 @@ pub returns : goal.returns
 returns c = λ e.
     let well = c.hand.ensures.ok e in
     let output = c.play-by.new.kept.bytes.items in let after = c.play-by.new.pair in
-    let out = (c.hand.ensures.fits well.1).1 in
-    (
+    let out = (c.hand.ensures.fits well.1).1 in (
       output,
       after,
       out ∙ ap (λ l. l ++ drop c.hand.new.written c.args.out.now) c.deref.ensures.value,
