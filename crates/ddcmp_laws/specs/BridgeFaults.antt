@@ -5,7 +5,7 @@ use Rattle.ddcmp_bridge.specs.declared.faults.Faults.{Faults}
 use Rattle.ddcmp_bridge.specs.declared.faults.Fate.{Fate}
 use Rattle.ddcmp_bridge.specs.declared.faults.Fate.TheVariants.{Passed, Lost, Altered}
 
--- how many of `n` frames are lost whose first words are those from `first` on
+-- how many of `n` first words, those from `first` on, lose their frame
 unfoldable pub lost_among : Faults → ℕ → ℕ → (ℕ → ℕ) → ℕ → ℕ
 lost_among faults size first second zero = 0
 lost_among faults size first second (suc n) =

@@ -6,9 +6,9 @@ ghost use Rattle.ddcmp_bridge.specs.declared.faults.Faults.{Faults};
 ghost use Rattle.ddcmp_bridge.specs.declared.faults.Fate.TheVariants.{Passed};
 ghost use Rattle.ddcmp_laws.specs.BridgeFaults.{IsAltered, lost_among};
 
-/// Of the words that are drawn for frames, each hundred in a row loses as many frames as `lose`
-/// says, whatever else is drawn. If none is lost, all are damaged, or none, if `damage` says so.
-/// The two directions draw apart, and a frame is due as much later as it is to be delayed.
+/// Of the words 100k to 100k + 99 that may be drawn for a frame, as many lose it as `lose` says,
+/// whatever else is drawn. If none is lost, all are damaged, or none, if `damage` says so. Each
+/// direction has a generator of its own, and a frame is due as much later as it is to be delayed.
 pub fn faults_are_as_asked()
     ensures lost { (faults : Faults) (size k : ℕ) (second : ℕ → ℕ)
         → lost_among faults size (100 * k) second 100 ≡ min 100 faults.lose }
