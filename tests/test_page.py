@@ -249,7 +249,7 @@ def test_compiler(tmp_path, name, words, why):
     """web/clang stops at a function, an intrinsic or a call that it doesn't know."""
     text = f"declare void {name}()\ndefine void @f() {{ call void {name}() ret void }}\n"
     (tmp_path / "module.bc").write_text(text)
-    ran = subprocess.run([f"{TOP}/web/clang", *words], cwd=tmp_path, capture_output=True, check=False)
+    ran = subprocess.run([f"{TOP}/web/clang", *words], cwd=tmp_path, capture_output=True)
     assert ran.returncode == (2 if why else 0) and why in ran.stderr.decode()
     assert (tmp_path / "module.o").exists() != bool(why)
 
@@ -402,10 +402,11 @@ def test_simulate(page):
 def test_two_stations(page):
     """Buttons make a script, whose replies are shown, and which Simulate takes over."""
     page.open("stations")
-    page.click("start-A", "start-B", "both-settle", "send-A", "poll-A", "lose-A", "expire-A",
-               "both-settle", "take-B")
-    lines = ["start A", "start B", "settle", f"send A {b'hello'.hex()}", "poll A", "lose A",
-             "expire A", "settle", "take B"]
+    page.click("start-A", "poll-A", "damage-A", "start-B", "both-settle", "send-A", "poll-A",
+               "damage-A", "lose-A", "expire-A", "both-settle", "take-B")
+    lines = ["start A", "poll A", "damage A 6 01", "start B", "settle",
+             f"send A {b'hello'.hex()}", "poll A", "damage A 8 01", "lose A", "expire A", "settle",
+             "take B"]
     assert page.text("made").splitlines() == lines and page.text("reply") == "B nothing"
     assert page.text("state-A").startswith("Running R=0 N=1")
     page.click("undo", "take-over")

@@ -21,16 +21,18 @@ const OF_BOTH = {
 };
 let ddcmp = null, script = [];
 
+const textOf = (lines) => lines.map((it) => `${it}\n`).join('');
+
+/** The replies to some lines, without the last line of a run. */
+const repliesTo = (lines) => played(ddcmp, textOf(lines), {}).output.split('\n').slice(0, -2);
+
 function run(line) {
+  const before = repliesTo(script).length;
   if (line) script.push(line);
-  const textOf = (lines) => lines.map((it) => `${it}\n`).join('');
   const text = textOf(script);
-  // The replies to some lines, without the last line of a run.
-  const replies = (it) => played(ddcmp, it, {}).output.split('\n').slice(0, -2);
-  const before = replies(textOf(script.slice(0, -1))).length;
-  const reply = replies(text).slice(before).join('\n') || 'nothing to report';
+  const reply = repliesTo(script).slice(before).join('\n') || 'nothing to report';
   $('reply').textContent = line ? reply : '';
-  for (const state of replies(`${text}state A\nstate B\n`).slice(-2)) {
+  for (const state of repliesTo([...script, 'state A', 'state B']).slice(-2)) {
     $(`state-${state[0]}`).textContent = state.slice(2);
   }
   $('made').textContent = text;
@@ -40,7 +42,11 @@ function run(line) {
 }
 
 function lineOf(end, word) {
-  if (word === 'damage') return `damage ${end} 8 01`;
+  // A bit of the first byte of data, or of the CRC of a header.
+  if (word === 'damage') {
+    const line = `damage ${end} 8 01`, reply = repliesTo([...script, line]).at(-1);
+    return reply === `${end} no byte` ? `damage ${end} 6 01` : line;
+  }
   if (word !== 'send') return `${word} ${end}`;
   return `send ${end} ${hex(new TextEncoder().encode($(`message-${end}`).value || ' '))}`;
 }
