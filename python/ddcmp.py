@@ -70,6 +70,7 @@ import sys
 import termios
 import threading
 import time
+import types
 from typing import (
     Any, AsyncIterator, Callable, Deque, Dict, Iterator, List, NamedTuple, Optional, Protocol, Set,
     Tuple, Type, TypeVar, Union,
@@ -773,9 +774,9 @@ class ThreadLine:
 
     The calls are those of `Line`, for any thread. A call raises what ended the line: EOFError if
     the line has ended or was closed, ConnectionResetError if the station is halted, as when the
-    peer has restarted, or what `notice` has raised. That is called on the line's thread, and can't
-    wait for the line. Reading pauses while as many messages as the inbox has are not received yet
-    and all that was sent is acknowledged.
+    peer has restarted, an OSError of the transport, or what `notice` has raised. That is called on
+    the line's thread, and can't wait for the line. Reading pauses while as many messages as the
+    inbox has are not received yet and all that was sent is acknowledged.
 
     As a context manager it flushes on exit, unless an exception was raised, and closes. A program
     that ends without that doesn't wait for the thread.
@@ -797,6 +798,7 @@ class ThreadLine:
         self._received: Deque[bytes] = collections.deque()
         self._is_flushed, self._is_closing = True, False
         self._fault: Optional[BaseException] = None
+        self._trace: Optional[types.TracebackType] = None  # which grows whenever it is raised
         self._wakes, self._waker = socket.socketpair()
         self._wakes.setblocking(False)
         self._waker.setblocking(False)
@@ -858,7 +860,9 @@ class ThreadLine:
             elif not is_done():
                 raise RuntimeError("a line can't be waited for on its own thread")
             if not is_done():
-                raise self._fault or TimeoutError("the line took too long")
+                if not self._fault:
+                    raise TimeoutError("the line took too long")
+                raise self._fault.with_traceback(self._trace)
             yield
             self._wake()
 
@@ -880,7 +884,7 @@ class ThreadLine:
             raise
         finally:
             with self._changed:
-                self._fault = fault
+                self._fault, self._trace = fault, fault.__traceback__
                 self._changed.notify_all()
                 self._wakes.close()
                 self._waker.close()
@@ -924,9 +928,9 @@ class AsyncLine(asyncio.Protocol):
     """A station over a transport of asyncio, such as a connection; it runs while its loop does.
 
     Start the station first. A call raises what ended the line: EOFError if the line has ended or
-    was closed, ConnectionResetError if the station is halted, as when the peer has restarted, or
-    what `notice` has raised. Reading pauses while as many messages as the inbox has are not
-    received yet and all that was sent is acknowledged.
+    was closed, ConnectionResetError if the station is halted, as when the peer has restarted, an
+    OSError of the transport, or what `notice` has raised. Reading pauses while as many messages as
+    the inbox has are not received yet and all that was sent is acknowledged.
 
     As a context manager it flushes on exit, unless an exception was raised, and closes.
 
@@ -960,6 +964,7 @@ class AsyncLine(asyncio.Protocol):
         self._expiry: Optional[asyncio.TimerHandle] = None
         self._is_writable = True
         self._fault: Optional[BaseException] = ConnectionError("the line isn't connected")
+        self._trace: Optional[types.TracebackType] = None  # which grows whenever it is raised
 
     async def __aenter__(self) -> "AsyncLine":
         return self
@@ -1010,7 +1015,7 @@ class AsyncLine(asyncio.Protocol):
         """Waits until something is done."""
         while not is_done():
             if self._fault:
-                raise self._fault
+                raise self._fault.with_traceback(self._trace)
             if self.station.state == State.HALTED:
                 raise ConnectionResetError("the station is halted")
             waiter = asyncio.get_running_loop().create_future()
@@ -1029,6 +1034,7 @@ class AsyncLine(asyncio.Protocol):
         if not self._fault:
             is_end = exc is None or isinstance(exc, BrokenPipeError)
             self._fault = EOFError("the line has ended") if is_end else exc
+            self._trace = self._fault and self._fault.__traceback__
         if self._expiry:
             self._expiry.cancel()
         self._wake()

@@ -335,16 +335,21 @@ def test_decode(page):
     assert re.search(f"header {right}data48 65 6c 6c 6f Hellodata {right}$", page.text("item"))
     page.choose("kind", "NAK")
     assert [it[3:] for it in page.rows()] == [["NAK", "", "1", "0", "", "1", "data check"]]
+    page("rows").send_keys(Keys.HOME)
+    page.until(lambda: page.text("item").startswith("NAK at 25"))
     page.choose("kind", "all items")
     page.click("errors")
     assert [it[3] for it in page.rows()] == ["discarded", "unfinished"]
+    page.type("longest", f"40{Keys.ENTER}")
+    page.until(lambda: "1 too long" in page.text("totals"))
     for kind, more in (("txt", []), ("json", ["--json"])):
-        ran = call(*SKIPPED, *more, given=FRAMES)[0].decode()
+        ran = call(*SKIPPED, "--max=40", *more, given=FRAMES)[0].decode()
         assert page.saved(f"save-{'json' if more else 'text'}", f"items.{kind}") == ran
     page.type("bytes", "05 0z")
     page.until(lambda: page.text("decode-fault") == "not hexadecimal at 4")
     page.click("forget")
     page.until(lambda: not page("found").is_displayed())
+    assert not page("decode-fault").is_displayed()
 
 
 def test_files(page, tmp_path):
@@ -367,8 +372,10 @@ def test_files(page, tmp_path):
     page.until(lambda: f"{len(files['long'])} bytes" in page.text("totals"))
     ran = call(*SKIPPED, "--json", given=files["long"])[0].decode()
     assert page.saved("save-json", "items.json") == ran
-    page("first").send_keys(f"{tmp_path}/packets")
-    page.until(lambda: "pcap" in page.text("decode-fault"))
+    page("second").send_keys(f"{tmp_path}/packets")
+    page.until(lambda: page.text("decode-fault").startswith("B: packets (pcap)"))
+    page.type("bytes", "05 0z")
+    page.until(lambda: page.text("decode-fault") == "not hexadecimal at 4")
 
 
 @pytest.mark.parametrize("path", sorted(glob.glob("docs/pictures/*.txt", root_dir=TOP)),
@@ -387,14 +394,15 @@ def test_simulate(page):
     page.type("script", "start A\nbogus\n# <img src=x onerror=alert(1)>\n")
     assert page.text("script-fault") == "line 2: not a command"
     assert page.driver.find_element(By.CSS_SELECTOR, "#gutter b").text == "2"
-    script = "start A\nstart B\nsettle\n"
+    script = "start A\nstart B\nsettle\n# 50% = é #1 & +?\n"
     page.type("script", script)
     assert not page("script-fault").is_displayed()
     address = page.driver.current_url.split("#")[1]
     page.click("begun", "counters")
     page.choose("view", "text")
     words = ["simulate", "--begun", "--counters"]
-    assert page.text("shown") == call(*words, given=script.encode())[0].decode()
+    ran = call(*words, given=script.encode())[0].decode()
+    assert page.text("shown") == page.saved("save-picture", "script.txt") == ran
     page.open(address)
     assert page("script").get_property("value") == script
 
@@ -458,3 +466,4 @@ def test_port(page):
     page.click("disconnect")
     page.until(lambda: page.js("return window.opened === null"))
     assert page.text("port-state") == "Not connected."
+    assert page("connect").is_enabled() and not page("disconnect").is_enabled()

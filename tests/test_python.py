@@ -497,7 +497,7 @@ def echoes(listener):
 @pytest.mark.parametrize("number, notices", [(0, 1), (1, 0)])
 def test_documented_program(number, notices):
     """The programs of docs/LIBRARY.md, over a connection of this machine."""
-    section = text_of("docs/LIBRARY.md").split("\n## Python\n")[1]
+    section = text_of("docs/LIBRARY.md").split("\n## Python\n")[1].split("\n## ")[0]
     programs = re.findall(r"^    import .*\n(?:(?:    .*)?\n)*", section, re.M)
     assert len(programs) == 2
     text = re.sub("^    ", "", programs[number], flags=re.M)

@@ -243,8 +243,16 @@ def test_peer_restarts(kind, pair):
             refused(ConnectionResetError, "the station is halted", *call)
 
 
+def depth_of(call):
+    """How many places the traceback of a call's EOFError has."""
+    with pytest.raises(EOFError) as fault:
+        call()
+    return len(fault.traceback)
+
+
 def test_closed_line(kind, pair):
-    """By another thread while a call waits, and twice; then each call reports the end."""
+    """By another thread while a call waits, and twice; then each call reports the end, by no
+    longer traceback each time."""
     line = kind(pair[0])
     closer = threading.Timer(0.2, line.close)
     closer.start()
@@ -253,6 +261,8 @@ def test_closed_line(kind, pair):
     line.close()
     for call in ([line.receive, SOON], [line.send, b"x", SOON]):
         refused(EOFError, "the line has ended", *call)
+    depths = {depth_of(line.receive) for _ in range(3)}
+    assert len(depths) == 1
     assert list(line) == []
 
 
