@@ -231,6 +231,18 @@ def test_unacknowledged(kind, pair):
     line.close()
 
 
+def test_exception_in_a_block(pair):
+    """It doesn't wait until what was sent is acknowledged."""
+    line = Awaited(pair[0])
+
+    async def raises():
+        async with line.line:
+            raise ZeroDivisionError("mine")
+    with running_by_hand(pair[1]):
+        line.send(b"x", SOON)
+        refused(ZeroDivisionError, "mine", line.wait, raises(), SOON)
+
+
 def test_peer_restarts(kind, pair):
     with kind(pair[0]) as line, started(pair[1]) as other:
         other.send(b"first", SOON)
