@@ -363,6 +363,8 @@ def test_files(page, tmp_path):
     page.until(lambda: f"{len(FRAMES + files['b'])} bytes" in page.text("totals"))
     page.choose("end", "B to A")
     assert [it[1] + it[3] for it in page.rows()] == ["BSTRT", "BACK", "BDATA"]
+    page("rows").send_keys(Keys.HOME)
+    page.until(lambda: "B to A" in page.text("item"))
     page.click("as-ladder")
     ran = call(*SKIPPED, "--ladder", f"{tmp_path}/a", f"{tmp_path}/b")[0].decode()
     page.until(lambda: page.text("ladder") == ran)

@@ -2,6 +2,7 @@
 both ways, peers that leave, restart or don't read, callbacks, closes, and programs that end."""
 import asyncio
 import contextlib
+import fcntl
 import os
 import select
 import socket
@@ -14,9 +15,11 @@ import time
 import pytest
 
 from . import test_python
+from .process import holds_within
 from .test_python import (
     SOON, by_hand, child, exchange, lingers, lossy, messages_of, module, must_end_well,
     over_library, pair, raised, refused, started)
+from .wire import ack
 
 pytestmark = pytest.mark.limit(240)
 PRINTED = pytest.mark.filterwarnings("ignore::pytest.PytestUnhandledThreadExceptionWarning")
@@ -229,6 +232,41 @@ def test_unacknowledged(kind, pair):
     pair[1].shutdown(socket.SHUT_RDWR)
     refused(EOFError, "the line has ended", line.flush, SOON)
     line.close()
+
+
+def test_flush_writes(kind, pair):
+    """A flush waits for the rest of a frame that is acknowledged before all of it is written."""
+    line, there, is_late = kind(pair[0], 60, None, max=16383), pair[1], False
+
+    def unread():
+        return int.from_bytes(fcntl.ioctl(there, termios.FIONREAD, bytes(4)), sys.byteorder)
+    with running_by_hand(there, max=16383):
+        for i in range(1, 200):
+            before = unread()
+            line.send(bytes(16383), SOON)
+            holds_within(0.5, lambda: unread() > before)
+            there.sendall(ack(i))
+            try:
+                line.flush(0.5)
+            except (TimeoutError, asyncio.TimeoutError):
+                is_late = True
+                break
+            assert unread() == i * (16383 + 10)
+        assert is_late and len(there.recv(1 << 24)) > 0
+        line.flush(SOON)
+    line.close()
+
+
+def test_exception_in_a_block(pair):
+    """It doesn't wait until what was sent is acknowledged."""
+    line = Awaited(pair[0])
+
+    async def raises():
+        async with line.line:
+            raise ZeroDivisionError("mine")
+    with running_by_hand(pair[1]):
+        line.send(b"x", SOON)
+        refused(ZeroDivisionError, "mine", line.wait, raises(), SOON)
 
 
 def test_peer_restarts(kind, pair):
