@@ -1,2 +1,4 @@
+pub mod Codes
 pub mod Explained
+pub mod Handed
 pub mod Played

@@ -1,13 +1,16 @@
 -- What a page asks of a script, and what it sees of it.
-use Rattle.std.specs.Prelude.{◌≡◌, ◌⊎◌, ℕ, List, [], ◌∷◌, true, false, if◌then◌else◌, not, nat_eq}
-use Rattle.std.specs.Prelude.{None, Some}
+use Rattle.std.specs.Prelude.{◌≡◌, ◌⊎◌, ℕ, List, [], ◌∷◌, true, if◌then◌else◌, not, nat_eq}
+use Rattle.std.specs.Prelude.{None, Some, Result}
 use Rattle.std.specs.Io.KnownBytes.{Appends}
 use Rattle.ddcmp_io.specs.declared.carrier.End.TheVariants.{A, B}
 use Rattle.ddcmp_proto.specs.declared.config.Config.{Config}
 use Rattle.ddcmp_pair.specs.declared.event.Event.TheVariants as event
 use Rattle.ddcmp_pair.specs.Run.{PairState, new_pair, run}
 use Rattle.ddcmp_pair.specs.Settle.{settled}
-use Rattle.ddcmp_line.specs.ScriptEnds.{Around, around, Finished}
+use Rattle.ddcmp_io.specs.Written.{AppendsPart}
+use Rattle.ddcmp_line.specs.declared.script_fault.ScriptFault.{ScriptFault}
+use Rattle.ddcmp_line.specs.ScriptEnds.{Around, around, Plays}
+use Rattle.ddcmp_picture.specs.Drawn.{DrawsScript}
 use Rattle.ddcmp_page.specs.declared.playing.PageScript.{PageScript}
 
 abbrev pub sizes_by : PageScript → Config
@@ -33,10 +36,11 @@ pair_by it = begun_by it (new_pair (sizes_by it) (sizes_by it))
 abbrev pub around_by : PairState → PairState → Around
 around_by before after = around before after true None None
 
--- A script was run to its end: its text was written, or a picture, of which that isn't known.
-pub record IsFinished (asked : PageScript) (script : List ℕ) (before after : PairState)
-    (output : List ℕ) : Type 0 where
-  pub text : asked.shown ≡ 0 → Finished (not (nat_eq asked.counters 0)) script
+-- A script was run: its text was written, or it was drawn, of which the output isn't known.
+pub record IsRun (asked : PageScript) (script : List ℕ) (before after : PairState)
+    (output : List ℕ) (result : Result (Unit {0}) ScriptFault) : Type 0 where
+  pub text : asked.shown ≡ 0 → Plays (not (nat_eq asked.counters 0)) script
       (around_by before after) (Appends (Some []) (Some output))
-  pub drawn : (asked.shown ≡ 1) ⊎ (asked.shown ≡ 2) → Finished false script
-      (around_by before after) (Appends None None)
+      (AppendsPart (Some []) (Some output)) result
+  pub drawn : (asked.shown ≡ 1) ⊎ (asked.shown ≡ 2)
+      → DrawsScript script (around_by before after) result

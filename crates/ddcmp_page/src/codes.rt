@@ -1,5 +1,7 @@
 //! A number for each result. Those below 32 are the numbers of the C library.
-ghost use Rattle.std.specs.Prelude.{◌≡◌, ◌≢◌, IsOk};
+ghost use Rattle.std.specs.Prelude.{◌≡◌};
+ghost use Rattle.ddcmp_page.specs.Codes.{code_of_input, code_of_pair, code_of_script};
+ghost use Rattle.ddcmp_page.specs.Codes.{line_of_script, place_of_input};
 
 use ddcmp_explain::{DetectedFault, NotDumped};
 use ddcmp_line::ScriptFault;
@@ -22,7 +24,8 @@ const DEVICE: u32 = 38;
 /// Returns the code of the result for an input; sets `at` to the index of the byte, or to the
 /// number of the line, that isn't allowed.
 pub(crate) fn input_code(by: Result<(), DetectedFault>, at: &mut u64) -> u32
-    ensures { result ≡ OK → IsOk by }
+    ensures code { result ≡ code_of_input by }
+    ensures place { at.new ≡ place_of_input by }
 {
     let (code, index) = match by {
         Ok(()) => (OK, 0),
@@ -40,7 +43,8 @@ pub(crate) fn input_code(by: Result<(), DetectedFault>, at: &mut u64) -> u32
 
 /// Returns the code of the result of a script; sets `at` to the number of a wrong line.
 pub(crate) fn script_code(by: Result<(), ScriptFault>, at: &mut u64) -> u32
-    ensures { result ≡ OK → IsOk by }
+    ensures code { result ≡ code_of_script by }
+    ensures line { at.new ≡ line_of_script by }
 {
     let (code, line) = match by {
         Ok(()) => (OK, 0),
@@ -55,7 +59,7 @@ pub(crate) fn script_code(by: Result<(), ScriptFault>, at: &mut u64) -> u32
 
 /// Returns the code of a refusal of two stations.
 pub(crate) fn pair_code(refusal: PairRefusal) -> u32
-    ensures { result ≢ OK }
+    ensures { result ≡ code_of_pair refusal }
 {
     match refusal {
         PairRefusal::First(ConfigRefusal::Window) | PairRefusal::Second(ConfigRefusal::Window) => 1,

@@ -1,20 +1,41 @@
 //! `explain`, over memory.
-ghost use Rattle.std.specs.Prelude.{◌≡◌, ◌<◌, ◌≤◌, ◌++◌, [], List, ℕ, drop, false, IsOk};
-ghost use Rattle.ddcmp_explain.specs.declared.detection.Detected.TheVariants as detected_form;
-ghost use Rattle.ddcmp_explain.specs.Detection.{detected};
-ghost use Rattle.ddcmp_explain.specs.Explains.{explained};
-ghost use Rattle.ddcmp_page.specs.Explained.{explained_as, IsExplainedBy, style_of};
+ghost use Rattle.std.specs.Prelude.{◌≡◌, ◌<◌, ◌≤◌, [], List, ℕ, Result, false};
 ghost use Rattle.ddcmp_frame.specs.Limits.{MAX_COUNT as MOST};
+ghost use Rattle.ddcmp_explain.specs.declared.detected_fault.DetectedFault.{DetectedFault as Fault};
+ghost use Rattle.ddcmp_explain.specs.Detection.{digits_fault, dump_fault, result_by};
+ghost use Rattle.ddcmp_page.specs.Codes.{code_of_input, place_of_input};
+ghost use Rattle.ddcmp_page.specs.Explained.{ExplainsDumped, ExplainsForm, ExplainsFound};
+ghost use Rattle.ddcmp_page.specs.Explained.{IsExplainedBy, style_of};
+ghost use Rattle.ddcmp_page.specs.Handed.{Hands};
 
-use crate::codes::{MAX, OK, input_code};
+use crate::codes::{MAX, input_code};
 use crate::output::hand;
 use ddcmp_explain::{
-    DetectedFault, Form, Notation, Style, explain_detected, explain_dump, explain_with,
+    DetectedFault, DumpFault, ExplainFault, Form, Notation, Style, explain_detected, explain_dump,
+    explain_with,
 };
 use ddcmp_frame::MAX_COUNT;
 use ddcmp_io::MemorySink;
 use ddcmp_io::failing::Pieces;
 use std::alloc::Global;
+
+fn of_digits(by: Result<(), ExplainFault>) -> Result<(), DetectedFault>
+    ensures { result ≡ result_by digits_fault by }
+{
+    match by {
+        Ok(()) => Ok(()),
+        Err(fault) => Err(DetectedFault::from(fault)),
+    }
+}
+
+fn of_dump(by: Result<(), DumpFault>) -> Result<(), DetectedFault>
+    ensures { result ≡ result_by dump_fault by }
+{
+    match by {
+        Ok(()) => Ok(()),
+        Err(fault) => Err(DetectedFault::from(fault)),
+    }
+}
 
 /// Explains an input in one of the forms that a log or a program writes.
 fn explain_as(
@@ -28,12 +49,9 @@ fn explain_as(
     requires whole { writer.old.refused ≡ false }
     requires empty { writer.old.bytes.items ≡ [] }
     requires max { (0 < max) × (max ≤ MOST) }
-    ensures { IsOk result → writer.new.bytes.items ≡ explained form style max input.now }
+    ensures { ExplainsForm form style max input.now writer.new.bytes.items result }
 {
-    match explain_with(alloc, &mut Pieces::of(input), writer, form, style, max) {
-        Ok(()) => Ok(()),
-        Err(fault) => Err(DetectedFault::from(fault)),
-    }
+    of_digits(explain_with(alloc, &mut Pieces::of(input), writer, form, style, max))
 }
 
 /// Explains a dump.
@@ -47,13 +65,9 @@ fn explain_dumped(
     requires whole { writer.old.refused ≡ false }
     requires empty { writer.old.bytes.items ≡ [] }
     requires max { (0 < max) × (max ≤ MOST) }
-    ensures { IsOk result
-        → writer.new.bytes.items ≡ explained_as detected_form.Dump style max input.now }
+    ensures { ExplainsDumped style max input.now writer.new.bytes.items result }
 {
-    match explain_dump(alloc, &mut Pieces::of(input), writer, style, max) {
-        Ok(()) => Ok(()),
-        Err(fault) => Err(DetectedFault::from(fault)),
-    }
+    of_dump(explain_dump(alloc, &mut Pieces::of(input), writer, style, max))
 }
 
 /// Explains an input whose form is detected.
@@ -67,8 +81,7 @@ fn explain_found(
     requires whole { writer.old.refused ≡ false }
     requires empty { writer.old.bytes.items ≡ [] }
     requires max { (0 < max) × (max ≤ MOST) }
-    ensures { IsOk result
-        → writer.new.bytes.items ≡ explained_as (detected input.now) style max input.now }
+    ensures { ExplainsFound style max input.now writer.new.bytes.items result }
 {
     explain_detected(alloc, &mut Pieces::of(input), writer, style, max)
 }
@@ -85,8 +98,7 @@ fn explain_form(
     requires whole { writer.old.refused ≡ false }
     requires empty { writer.old.bytes.items ≡ [] }
     requires max { (0 < max) × (max ≤ MOST) }
-    ensures { IsOk result
-        → IsExplainedBy form style max input.now writer.new.bytes.items }
+    ensures { IsExplainedBy form style max input.now writer.new.bytes.items result }
 {
     match form {
         1 => explain_as(alloc, Form::Hex, input, writer, style, max),
@@ -113,8 +125,10 @@ pub extern "C" fn page_explain(
 ) -> u32
     ensures zero { max ≡ 0 → result ≡ MAX }
     ensures above { MOST < max → result ≡ MAX }
-    ensures lines { result ≡ OK → (lines : List ℕ) × (out.new ≡ lines ++ drop written.new out.old)
-        × IsExplainedBy form (style_of json discarded) max input.now lines }
+    ensures explains { 0 < max → max ≤ MOST → (by : Result (Unit {0}) Fault) × (output : List ℕ)
+        × IsExplainedBy form (style_of json discarded) max input.now output by
+        × (at.new ≡ place_of_input by)
+        × Hands output (code_of_input by) out.old out.new written.new result }
 {
     *written = 0;
     *at = 0;

@@ -1,16 +1,12 @@
 //! The output of a call, which goes to the page.
-ghost use Rattle.std.specs.Prelude.{◌≡◌, ◌≢◌, ◌<◌, ◌≤◌, ◌++◌, length, drop};
+ghost use Rattle.ddcmp_page.specs.Handed.{Hands};
 
-use crate::codes::{OK, ROOM};
+use crate::codes::ROOM;
 
 /// Copies an output to the front of `out`, if it fits; stores its length in both cases. Returns the
 /// code of the call, or that it doesn't fit.
 pub(crate) fn hand(kept: &[u8], code: u32, out: &mut [u8], written: &mut usize) -> u32
-    ensures written { written.new ≡ length kept.now }
-    ensures fits { length kept.now ≤ length out.old
-        → (result ≡ code) × (out.new ≡ kept.now ++ drop written.new out.old) }
-    ensures short { length out.old < length kept.now → (result ≡ ROOM) × (out.new ≡ out.old) }
-    ensures ok { result ≡ OK → (code ≡ OK) × (length kept.now ≤ length out.old) }
+    ensures { Hands kept.now code out.old out.new written.new result }
 {
     let end = kept.len();
     *written = end;

@@ -1,13 +1,19 @@
 //! The scripts of `simulate`, over memory.
-ghost use Rattle.std.specs.Prelude.{◌≡◌, ◌≢◌, ◌++◌, [], List, ℕ, drop, false, Some, None};
-ghost use Rattle.std.specs.Prelude.{IfErr, IfOk, IsOk};
+ghost use Rattle.std.specs.Prelude.{◌≡◌, ◌⊎◌, [], List, ℕ, Result, false, Some, None};
+ghost use Rattle.std.specs.Prelude.{Err, IfErr, IfOk, IsOk};
 ghost use Rattle.std.specs.Io.KnownBytes.{Appends};
-ghost use Rattle.ddcmp_line.specs.ScriptEnds.{Finished};
+ghost use Rattle.ddcmp_io.specs.Written.{AppendsPart};
+ghost use Rattle.ddcmp_line.specs.declared.script_fault.ScriptFault.{ScriptFault as Fault};
+ghost use Rattle.ddcmp_line.specs.ScriptEnds.{Plays};
 ghost use Rattle.ddcmp_pair.specs.Run.{PairState};
-ghost use Rattle.ddcmp_page.specs.Played.{IsFinished, around_by, begins, begun_by, pair_by};
-ghost use Rattle.ddcmp_page.specs.Played.{sizes_by};
+ghost use Rattle.ddcmp_picture.specs.Drawn.{DrawsScript};
+ghost use Rattle.ddcmp_proto.specs.declared.config.ConfigRefusal.{ConfigRefusal};
+ghost use Rattle.ddcmp_proto.specs.Config.{first_refusal};
+ghost use Rattle.ddcmp_page.specs.Codes.{code_of_config, code_of_script, line_of_script};
+ghost use Rattle.ddcmp_page.specs.Handed.{Hands};
+ghost use Rattle.ddcmp_page.specs.Played.{IsRun, around_by, begins, begun_by, pair_by, sizes_by};
 
-use crate::codes::{MEMORY, OK, pair_code, script_code};
+use crate::codes::{MEMORY, pair_code, script_code};
 use crate::output::hand;
 use ddcmp_io::MemorySink;
 use ddcmp_io::failing::Pieces;
@@ -76,8 +82,9 @@ fn tell(
 ) -> Result<(), ScriptFault>
     requires whole { kept.old.refused ≡ false }
     requires empty { kept.old.bytes.items ≡ [] }
-    ensures { IsOk result → Finished counted script.now (around_by pair.old pair.new)
-        (Appends (Some []) (Some kept.new.bytes.items)) }
+    ensures { Plays counted script.now (around_by pair.old pair.new)
+        (Appends (Some []) (Some kept.new.bytes.items))
+        (AppendsPart (Some []) (Some kept.new.bytes.items)) result }
 {
     script_with(
         alloc,
@@ -99,8 +106,7 @@ fn depict(
     counted: bool,
 ) -> Result<(), ScriptFault>
     requires whole { kept.old.refused ≡ false }
-    ensures { IsOk result → Finished false script.now (around_by pair.old pair.new)
-        (Appends None None) }
+    ensures { DrawsScript script.now (around_by pair.old pair.new) result }
 {
     draw(
         alloc,
@@ -123,7 +129,7 @@ fn play(
 ) -> Result<(), ScriptFault>
     requires whole { kept.old.refused ≡ false }
     requires empty { kept.old.bytes.items ≡ [] }
-    ensures { IsOk result → IsFinished asked.now script.now pair.old pair.new kept.new.bytes.items }
+    ensures { IsRun asked.now script.now pair.old pair.new kept.new.bytes.items result }
 {
     let counted = asked.counters != 0;
     match asked.shown {
@@ -136,7 +142,10 @@ fn play(
 /// Makes the pair that a script begins with.
 fn make(alloc: Global, asked: &PageScript) -> Result<Pair, u32>
     ensures made { IfOk result (λ pair. pair ≡ pair_by asked.now) }
-    ensures refused { IfErr result (λ code. code ≢ OK) }
+    ensures sizes { (refusal : ConfigRefusal) → first_refusal (sizes_by asked.now) ≡ Some refusal
+        → result ≡ Err (code_of_config refusal) }
+    ensures memory { first_refusal (sizes_by asked.now) ≡ None
+        → IfErr result (λ code. code ≡ MEMORY) }
 {
     let sizes = sizes_of(asked);
     let mut pair = match Pair::new(alloc, sizes, sizes) {
@@ -160,9 +169,13 @@ pub extern "C" fn page_simulate(
     written: &mut usize,
     at: &mut u64,
 ) -> u32
-    ensures { result ≡ OK → (output : List ℕ) × (after : PairState)
-        × (out.new ≡ output ++ drop written.new out.old)
-        × IsFinished asked.now script.now (pair_by asked.now) after output }
+    ensures sizes { (refusal : ConfigRefusal) → first_refusal (sizes_by asked.now) ≡ Some refusal
+        → result ≡ code_of_config refusal }
+    ensures runs { first_refusal (sizes_by asked.now) ≡ None → (result ≡ MEMORY)
+        ⊎ ((by : Result (Unit {0}) Fault) × (output : List ℕ) × (after : PairState)
+        × IsRun asked.now script.now (pair_by asked.now) after output by
+        × (at.new ≡ line_of_script by)
+        × Hands output (code_of_script by) out.old out.new written.new result) }
 {
     *written = 0;
     *at = 0;

@@ -1,0 +1,17 @@
+use Rattle.std.proofs.Common.{ap, subst, Some}
+use Rattle.ddcmp_explain.specs.Explains.{Explains}
+use Rattle.ddcmp_page.proofs.explaining.explain_as.Goals as goal
+
+pub returns : goal.returns
+returns c =
+    let input = c.args.input.now in let by = c.explain_with.result in
+    let kept = c.explain_with.new.writer.bytes.items in
+    let left = Some c.explain_with.new.reader.left in (
+      left,
+      by,
+      c.of_digits.ensures,
+      subst
+          (λ old. Explains c.args.form c.args.style c.args.max input left (Some old) (Some kept) by)
+          c.requires.empty
+          (c.explain_with.ensures.told input (ap (λ p. Some p.left) c.of.ensures)),
+    )
