@@ -369,6 +369,12 @@ def test_files(page, tmp_path):
     ran = call(*SKIPPED, "--ladder", f"{tmp_path}/a", f"{tmp_path}/b")[0].decode()
     page.until(lambda: page.text("ladder") == ran)
     page.click("as-ladder")
+    for kind, more, form in (("text", [], "{0} {1}"), ("json", ["--json"], '{{"from":"{0}",{2}')):
+        both = [(end.upper(), line) for end in "ab"
+                for line in call(*SKIPPED, *more, given=files[end])[0].decode().splitlines(True)]
+        name = f"items.{'json' if more else 'txt'}"
+        assert page.saved(f"save-{kind}", name) == "".join(
+            form.format(end, line, line[1:]) for end, line in both)
     page.js("document.getElementById('second').value = ''")
     page("first").send_keys(f"{tmp_path}/long")
     page.until(lambda: f"{len(files['long'])} bytes" in page.text("totals"))

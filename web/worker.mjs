@@ -54,14 +54,17 @@ async function decode(id, { blobs, form, max }) {
   postMessage({ id, raws });
 }
 
+/** All items in one file; those of two inputs say from which they are. */
 async function saved(id, json) {
+  const parts = [];
   for (const [end, raw] of raws.entries()) {
-    const parts = [];
-    const style = { json, discarded: true, ...how }, ending = json ? 'json' : 'txt';
-    if (!await explain(id, raw, style, (text) => parts.push(text))) return;
-    const name = `${raws.length > 1 ? 'AB'[end] : 'items'}.${ending}`;
-    postMessage({ id, saved: new Blob(parts), name });
+    const from = raws.length > 1 && 'AB'[end];
+    const marked = (text) => !from ? text
+      : json ? text.replace(/^\{/gm, `{"from":"${from}",`) : text.replace(/^(?=.)/gm, `${from} `);
+    const style = { json, discarded: true, ...how };
+    if (!await explain(id, raw, style, (text) => parts.push(marked(text)))) return;
   }
+  postMessage({ id, saved: new Blob(parts), name: `items.${json ? 'json' : 'txt'}` });
 }
 
 async function ladder(id) {
