@@ -50,7 +50,7 @@ window.wrote = () => wrote.splice(0);
 DROP = """
 const list = new DataTransfer();
 for (const [name, bytes] of arguments[0]) list.items.add(new File([Uint8Array.from(bytes)], name));
-document.getElementById('drop').dispatchEvent(new DragEvent('drop', { dataTransfer: list }));
+document.body.dispatchEvent(new DragEvent('drop', { dataTransfer: list, bubbles: true }));
 """
 # Runs code over the module of the page, in a page without anything.
 SET_UP = """
@@ -359,8 +359,11 @@ def test_files(page, tmp_path):
     for name, text in files.items():
         (tmp_path / name).write_bytes(text)
     page.open("decode")
-    page.js(DROP, [[name, list(files[name])] for name in "ab"])
-    page.until(lambda: f"{len(FRAMES + files['b'])} bytes" in page.text("totals"))
+    for names in "aab", "ab":
+        page.js(DROP, [[name, list(files[name])] for name in names])
+        held = sum(len(files[it]) for it in names[:2])
+        page.until(lambda held=held: f"{held} bytes" in page.text("totals"))
+        assert page("decode-fault").is_displayed() == (len(names) > 2)
     page.choose("end", "B to A")
     assert [it[1] + it[3] for it in page.rows()] == ["BSTRT", "BACK", "BDATA"]
     page("rows").send_keys(Keys.HOME)
@@ -368,6 +371,7 @@ def test_files(page, tmp_path):
     page.click("as-ladder")
     ran = call(*SKIPPED, "--ladder", f"{tmp_path}/a", f"{tmp_path}/b")[0].decode()
     page.until(lambda: page.text("ladder") == ran)
+    assert page.saved("save-text", "ladder.txt") == ran
     page.click("as-ladder")
     for kind, more, form in (("text", [], "{0} {1}"), ("json", ["--json"], '{{"from":"{0}",{2}')):
         both = [(end.upper(), line) for end in "ab"

@@ -1,6 +1,7 @@
 """Inputs and outputs of `ddcmp explain` by hand: in words and as JSON, of digits, bytes, dumps and
 logs, each input also in pieces of several sizes; two captures as a ladder; reads that fail, and
 writes that fail after each byte."""
+import contextlib
 import fcntl
 import os
 import resource
@@ -25,7 +26,7 @@ def trickle(pipe, text, most):
     """Writes pieces of at most this many bytes, each once nothing is left of the one before."""
     reader = select.poll()
     reader.register(pipe, 0)
-    with open(pipe, "wb", buffering=0) as it:
+    with open(pipe, "wb", buffering=0) as it, contextlib.suppress(BrokenPipeError):
         for at in range(0, len(text), most):
             if reader.poll(0):  # that nobody reads
                 break

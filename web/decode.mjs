@@ -20,6 +20,7 @@ const COLUMNS = [
 const NUMBERS = ['#', 'offset', 'count', 'resp', 'num', 'addr'];
 
 let worker = null, id = 0, rows = [], seen = [], raws = [], chosen = -1, drawn = 0, totals = [];
+let whole = '';  // the text of the ladder
 
 const kindOf = (it) => it.item ?? (it.discarded === undefined ? 'unfinished' : 'discarded');
 const isError = (it) => ERRORS.includes(it.item) || it.item === undefined;
@@ -160,7 +161,7 @@ function begins(isBusy) {
 }
 
 function decode(blobs) {
-  [rows, totals, raws] = [[], [], []];
+  [rows, totals, raws, whole] = [[], [], [], ''];
   tell('decode-fault', '');
   $('found').hidden = !blobs.length;
   $('item').replaceChildren(make('p', { className: 'hint', textContent: HINT }));
@@ -181,16 +182,19 @@ function inputs() {
   return $('bytes').value.trim() ? [new Blob([$('bytes').value])] : [];
 }
 
+/** Takes files that are dropped anywhere on the page, which would open them otherwise. */
 function drop(event) {
   event.preventDefault();
   $('drop').classList.remove('over');
-  const files = [...event.dataTransfer.files].slice(0, 2);
+  const files = [...event.dataTransfer.files];
+  if ($('decode').hidden || !files.length) return;
   for (const [i, name] of ['first', 'second'].entries()) {
     const list = new DataTransfer();
     if (files[i]) list.items.add(files[i]);
     $(name).files = list.files;
   }
   decode(inputs());
+  if (files.length > 2) tell('decode-fault', 'of more than two files these are the first two');
 }
 
 function answered({ data }) {
@@ -203,9 +207,10 @@ function answered({ data }) {
   }
   if (data.saved) save(data.name, data.saved);
   if (data.ladder !== undefined) {
-    const lines = data.ladder.split('\n'), more = lines.length - LADDER;
+    whole = data.ladder;
+    const lines = whole.split('\n'), more = lines.length - LADDER;
     const shown = [...lines.slice(0, LADDER), `… and ${more} lines`].join('\n');
-    $('ladder').textContent = more > 0 ? shown : data.ladder;
+    $('ladder').textContent = more > 0 ? shown : whole;
   }
 }
 
@@ -248,18 +253,21 @@ export function beginDecode(ddcmp) {
     event.preventDefault();
     choose(chosen + KEYS[event.key]);
   });
-  $('save-text').addEventListener('click', () => ask({ json: false }));
+  $('save-text').addEventListener('click', () => {
+    if ($('as-ladder').checked) save('ladder.txt', new Blob([whole]));
+    else ask({ json: false });
+  });
   $('save-json').addEventListener('click', () => ask({ json: true }));
   $('sample').addEventListener('click', () => fill(SAMPLE));
   $('forget').addEventListener('click', () => fill(''));
   for (const it of ['dragover', 'dragenter']) {
-    $('drop').addEventListener(it, (event) => {
+    addEventListener(it, (event) => {
       event.preventDefault();
       $('drop').classList.add('over');
     });
   }
-  $('drop').addEventListener('dragleave', () => $('drop').classList.remove('over'));
-  $('drop').addEventListener('drop', drop);
+  addEventListener('dragleave', () => $('drop').classList.remove('over'));
+  addEventListener('drop', drop);
 }
 
 function fill(text) {
