@@ -275,7 +275,7 @@ noise-lost d p c =
 
 naks-lost : (ms n : ℕ) (p : Progress) (c : Course) → (after_naks ms n p c).lost ≡ c.lost
 naks-lost ms n p c =
-    if-lost (goes_on p c.progress) _ _ c.lost refl
+    if-lost (not (is_at p c.progress)) _ _ c.lost refl
     (if-lost (n == c.naks || is_some c.nak_pause) c _ c.lost refl refl)
 
 acknowledged-lost : (n : ℕ) (c : Course) → (after_acknowledged n c).lost ≡ c.lost

@@ -16,7 +16,7 @@ use Rattle.ddcmp_session.specs.declared.course.progress.Progress.{Progress}
 use Rattle.ddcmp_session.specs.Course.{after_acknowledged, after_heard, after_looked, after_moment}
 use Rattle.ddcmp_session.specs.Course.{after_naks, after_notices, after_opening_failed}
 use Rattle.ddcmp_session.specs.Course.{after_pauses, after_refusal, after_unheard, after_writing}
-use Rattle.ddcmp_session.specs.Course.{expiry_counted, goes_on, lost_more, naks_of, next_pause}
+use Rattle.ddcmp_session.specs.Course.{expiry_counted, is_at, lost_more, naks_of, next_pause}
 use Rattle.ddcmp_session.specs.Course.{pause_at, progress_of, refusal_between, try_counted}
 use Rattle.ddcmp_session.specs.Session.{SessionView, after_connecting_in, after_entries}
 use Rattle.ddcmp_session.specs.Session.{after_input_end, after_telling, after_time, after_timeout}
@@ -67,7 +67,7 @@ refusal-keeps ms why n c = (pause why, moment why)
         one-moment)
 
 naks : (ms n : ℕ) (p : Progress) (c : Course) → NakGoes ms c (after_naks ms n p c)
-naks ms n p c = by (goes_on p c.progress)
+naks ms n p c = by (not (is_at p c.progress))
   where
     length : ℕ
     length = next_pause ms c.nak_pause_ms

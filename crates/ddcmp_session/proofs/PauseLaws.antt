@@ -211,10 +211,10 @@ looked ms before d c =
     goes-on ms one.moment _ c.pause one.pause _
     (refused ms why d.totals.acknowledged (after_heard c))
     (four.pause
-    ∙ either-pause (goes_on p one.progress) _ _ one.pause refl
+    ∙ either-pause (not (is_at p one.progress)) _ _ one.pause refl
     (either-pause (n == one.naks || is_some one.nak_pause) one _ one.pause refl refl))
     (four.moment
-    ∙ either-moment (goes_on p one.progress) _ _ one.moment refl
+    ∙ either-moment (not (is_at p one.progress)) _ _ one.moment refl
     (either-moment (n == one.naks || is_some one.nak_pause) one _ one.moment refl refl))
 
 noticed : (n : Notice) (c : Course) → Keeps c (after_notice n c)

@@ -210,10 +210,11 @@ goes_on p (Some before) = not (p.step == before.step && p.received == before.rec
 abbrev pub naks_of : NakCounts → ℕ
 naks_of n = n.header_check + n.data_check + n.too_long + n.format
 
--- Each such NAK holds the next one back for a while, unless a message was received meanwhile.
+-- Each such NAK holds the next one back for a while, unless there was progress meanwhile.
 abbrev pub after_naks : ℕ → ℕ → Progress → Course → Course
 after_naks timer_ms naks p c =
-    if goes_on p c.progress then record c { naks = naks; nak_pause = None; nak_pause_ms = 0 }
+    if not (is_at p c.progress)
+    then record c { naks = naks; nak_pause = None; nak_pause_ms = 0 }
     else if naks == c.naks || is_some c.nak_pause then c
     else
     (let ms = next_pause timer_ms c.nak_pause_ms in

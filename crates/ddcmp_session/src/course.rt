@@ -50,7 +50,7 @@ pub(crate) enum Wrong {
 /// REPs are sent at the pace of the reply timer anyway.
 ///
 /// NAKs that this end sends have such pauses, too: the first one of a frame that came damaged or
-/// too long repairs at once, and each further one is held back, until a message is received.
+/// too long repairs at once, and each further one is held back, until there is progress.
 #[derive(Clone, Copy)]
 pub(crate) struct Course {
     /// The last moment that was passed.
@@ -83,7 +83,7 @@ pub(crate) struct Course {
     pub(crate) naks: u64,
     /// Until when the next such NAK is held back, if it is.
     pub(crate) nak_pause: Option<u64>,
-    /// The last such pause since a message was received, in milliseconds; 0 if there was none.
+    /// The last such pause since there was progress, in milliseconds; 0 if there was none.
     pub(crate) nak_pause_ms: u64,
     /// Whether it was reported that the peer's messages are too long, and that frames come damaged.
     pub(crate) told_too_long: bool,

@@ -3,7 +3,7 @@ ghost use Rattle.std.specs.Prelude.{◌≡◌};
 ghost use Rattle.ddcmp_session.specs.Course.{naks_of, next_pause, pause_at, refusal_between};
 
 use crate::course::Course;
-use crate::course::progress::{Progress, goes_on};
+use crate::course::progress::{Progress, is_at};
 use ddcmp_frame::Nak;
 use ddcmp_station::NakCounts;
 
@@ -63,11 +63,11 @@ impl Course {
     }
 
     /// Holds the next NAK of a frame that came damaged or too long back, if one more was sent: for
-    /// 10 ms at first, then twice as long as the last time, until a message is received.
+    /// 10 ms at first, then twice as long as the last time, until there is progress.
     pub(super) fn note_naks(&mut self, naks: u64, progress: Progress, timer_ms: u32)
         ensures { self.new ≡ after_naks timer_ms naks progress self.old }
     {
-        if goes_on(progress, self.progress) {
+        if !is_at(progress, self.progress) {
             self.naks = naks;
             self.nak_pause = None;
             self.nak_pause_ms = 0;
