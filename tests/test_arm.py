@@ -90,8 +90,7 @@ def test_link(kind, is_arm):
     arrive both ways, in order."""
     names = lines_between(kind)
     with on_arm(*([] if is_arm else PROGRAM)):
-        # Datagrams are lost alone: after some damaged in a row an end says so, if its timer is short.
-        bridge = Bridge(*names, "--lose", "5", *["--damage", "5"] * (kind == "tcp"), "--trace")
+        bridge = Bridge(*names, "--lose", "5", "--damage", "5", "--trace")
     if kind == "tcp":
         ends = [f"connect:127.0.0.1:{it}" for it in bridge.ports(2)]
     else:

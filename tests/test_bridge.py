@@ -22,7 +22,7 @@ from .process import (
     LONG, PROGRAM, Bridge, Link, Process, bridged, commands_in, connected, contents, exchange,
     explained, free_port, holds_within, is_bound, must_end, omitted, port_of, receives,
     reset_at_close, sends, server, takes, terminals, times, udp_socket)
-from .wire import checked, control, data, drawn, drawn_frames, mail_in, messages_of
+from .wire import binary, checked, control, data, drawn, drawn_frames, mail_in, messages_of
 
 START = {0x05: 0, 0x81: 1, 0x90: 1}
 NOTHING = (0, 0, 0, 0, 0)
@@ -357,6 +357,19 @@ def test_over_faults():
              for it in bridge.ports(2)]
     counts = between("faults", bridge, *links)
     assert all(it[3] and it[4] for it in counts)
+
+
+def test_damaged_acks():
+    """An end that only sends hears some of its ACKs damaged, and doesn't say that all are."""
+    bridge = Bridge("listen:127.0.0.1:0", "listen:127.0.0.1:0", "--damage", "20")
+    one, two = (Link(f"connect:127.0.0.1:{it}", "--binary", "--timer-ms", "100")
+                for it in bridge.ports(2))
+    sent = messages_of(400)
+    one.give(binary(sent))
+    two.run.stdin.close()
+    for name, it in (("sender", one), ("receiver", two)):
+        must_end(name, it, 0)
+    assert two.out == binary(sent) and bridge.ended() == 0
 
 
 def test_tcp_to_tcp():
