@@ -13,9 +13,8 @@ import random
 import sys
 
 sys.path.insert(0, os.path.dirname(os.path.dirname(os.path.realpath(__file__))))
-from tests.wire import CONTROL, DATA, SYN, checked  # noqa: E402
+from tests.wire import KINDS, SYN, control, data  # noqa: E402
 
-ACK, NAK, REP = 1, 2, 3
 SIZES = [8, 64, 200, 576, 1500]
 DRAWN = 1_000_000
 
@@ -23,11 +22,9 @@ DRAWN = 1_000_000
 def frame(draw, number, has_data):
     kind = draw.random()
     if kind < 0.6 and has_data:
-        size = draw.choice(SIZES)
-        header = bytes([DATA, size & 255, size >> 8, number, (number + 3) % 256, 1])
-        return checked(header) + checked(draw.randbytes(size))
+        return data(draw.randbytes(draw.choice(SIZES)), number + 3, number)
     if kind < 0.9:
-        return checked(bytes([CONTROL, draw.choice([ACK, ACK, ACK, NAK, REP]), 0, number, 0, 1]))
+        return control(KINDS[draw.choice(["ACK", "ACK", "ACK", "NAK", "REP"])], resp=number)
     return bytes([SYN]) * 4
 
 

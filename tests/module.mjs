@@ -19,7 +19,7 @@ const CALLS = {
   of: (i, name) => stations[i][name],
 };
 
-globalThis.answer = (name, ...more) => {
+window.answer = (name, ...more) => {
   try {
     const call = CALLS[name] ?? ((...it) => ddcmp[name](...it));
     return { is: shown(call(...more.map(given))) ?? null };

@@ -1,10 +1,12 @@
 """A station in Python, the other end of a link: it keeps each byte and frame that it receives."""
 import contextlib
+import os
 import socket
 import threading
+import tty
 
 from .process import LONG, Link, free_port, holds_within, port_of, server, udp_socket
-from .wire import STACK, Reader, ack, nak
+from .wire import STACK, Reader, ack, digits, nak
 
 
 def good(peer, frame):
@@ -30,6 +32,10 @@ def no_ack(_peer, frame):
 
 def silent(_peer, _frame):
     return b""
+
+
+# what a link says of a peer that refuses a message for these reasons
+REFUSED = {16: "ddcmp: peer refuses: message too long", 8: "ddcmp: peer has no buffer"}
 
 
 class Refusing:
@@ -120,6 +126,21 @@ def called(*options, answer=good, **streams):
     """A link that connects to a peer, and that peer."""
     link, sock = linked(*options, **streams)
     return link, Peer(sock, answer)
+
+
+def at_a_full_device(*options):
+    """A link at a device whose other end is read no more after the startup handshake, with more
+    messages than find room; and that end."""
+    end, device = os.openpty()  # not by socat, whose own writes would block
+    tty.setraw(device)
+    link = Link(f"device:{os.ttyname(device)}", "--window", "100", "--max", "16383", *options)
+    reader = Reader()
+    while not any(it.name == "STRT" for it in reader.push(os.read(end, 4096))):
+        pass
+    os.write(end, STACK)
+    link.waits(lambda it: b"Running" in it.out, 10)
+    link.give(digits([bytes(16383)] * 20), close=False)
+    return link, end
 
 
 def joined(it, answer=good):

@@ -22,13 +22,15 @@ import sources  # noqa: E402, F401
 PROGRAM = [f"{TOP}/crates/ddcmp/out/ddcmp"]  # --program names another one
 LONG = 40  # seconds that nothing here may take
 times = pytest.mark.xdist_group("times")  # trials that measure time: one after the other
-EVENT = re.compile(r"(listening|connecting|connected) \S+$|line down: |retry in \d+ s$")
+EVENT = re.compile(r"(listening|connecting|connected|opened) \S+$|bound \S+, peer \S+$|line down: |"
+                   r"retry in \d+ s$")
 
 
-def free_port(kind=socket.SOCK_STREAM):
-    """A port that nothing uses, and that the system gives to no connection meanwhile."""
+def free_port(kind=socket.SOCK_STREAM, step=1):
+    """A port that nothing uses, and that the system gives to no connection meanwhile: a multiple
+    of this number."""
     while True:
-        port = random.SystemRandom().randrange(12000, 32000)
+        port = random.SystemRandom().randrange(12000, 32000, step)
         with contextlib.suppress(OSError), socket.socket(socket.AF_INET, kind) as it:
             if kind == socket.SOCK_STREAM:  # a process that starts may have it for a moment
                 it.setsockopt(socket.SOL_SOCKET, socket.SO_REUSEADDR, 1)
@@ -285,8 +287,41 @@ class Bridge(Link):
 
     def traces(self):
         """The moments and the rest of the lines of its trace."""
-        found = [re.match(r"(\d+) ([<>] .*)", it) for it in self.errors()]
+        found = [re.match(r"(\d+) ([<>] .*|\|.*)", it) for it in self.errors()]
         return [(int(it[1]), it[2]) for it in found if it]
+
+
+class Station(Process):
+    """A station that runs; if it connects, once its peer listens."""
+
+    ENDLESS = 4294967295  # turns
+
+    def __init__(self, role, port, turns, timer, *options):
+        if role == "connect":
+            holds_within(10, lambda: is_listening(port))
+        words = ["--role", role, "--addr", f"127.0.0.1:{port}", "--turns", str(turns)]
+        words += ["--timer-ms", str(timer), *options]
+        super().__init__([*PROGRAM, "station", *words])
+
+    def has(self, pattern):
+        return any(re.fullmatch(pattern, it) for it in self.lines())
+
+    def must_end(self, status, fault=""):
+        assert self.ended(120) == status, self
+        assert re.fullmatch(fault, self.err.decode().rstrip("\n")), self
+
+
+def into_pipe(made, *words, stream="stdout", **streams):
+    """What is made of these words with an output that nobody reads yet, and where to read it."""
+    reading, writing = os.pipe()
+    run = made(*words, **{stream: writing}, **streams)
+    os.close(writing)
+    return run, reading
+
+
+def rest_of(reading):
+    """What is left in a pipe, to its end."""
+    return b"".join(iter(lambda: os.read(reading, 1 << 16), b""))
 
 
 def bridged(*options, **streams):

@@ -179,6 +179,7 @@ def test_release(tmp_path):
     for it in names:
         tar = subprocess.check_output(["dpkg-deb", "--fsys-tarfile", f"{made[0]}/{it}.deb"])
         assert gzip.decompress(contents(f"{made[0]}/{it}.tar.gz")) == tar
-    assert contents(f"{made[0]}/ddcmp.html") == contents(f"{TOP}/web/ddcmp.html")
+    is_kept = contents(f"{made[0]}/ddcmp.html") == contents(f"{TOP}/web/ddcmp.html")
+    assert is_kept, "web/ddcmp.html is of other sources: web/build"
     assert subprocess.run([f"{TOP}/tools/release", made[0]], capture_output=True, text=True,
                           check=False).stderr == f"release: {made[0]} isn't empty\n"

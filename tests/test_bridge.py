@@ -5,6 +5,7 @@ import itertools
 import json
 import os
 import re
+import select
 import shutil
 import signal
 import socket
@@ -20,9 +21,11 @@ import pytest
 from .bad_lines import Draws
 from .process import (
     LONG, PROGRAM, Bridge, Link, Process, bridged, commands_in, connected, contents, exchange,
-    explained, free_port, holds_within, is_bound, must_end, omitted, port_of, receives,
-    reset_at_close, sends, server, takes, terminals, times, udp_socket)
-from .wire import binary, checked, control, data, drawn, drawn_frames, mail_in, messages_of
+    explained, free_port, holds_within, into_pipe, is_bound, must_end, omitted, port_of,
+    receives, reset_at_close, rest_of, sends, server, takes, terminals, times, udp_socket)
+from .test_tap import rung
+from .wire import (
+    KINDS, STARTS, binary, checked, control, data, drawn, drawn_frames, mail_in, messages_of)
 
 START = {0x05: 0, 0x81: 1, 0x90: 1}
 NOTHING = (0, 0, 0, 0, 0)
@@ -94,27 +97,29 @@ def test_bridged_junk(most):
     assert bridge.counts() == (counted(there), counted(back))
 
 
-def test_bridged_datagrams():
+def test_bridged_datagrams(tmp_path):
     """Each frame goes in a datagram of its own; none goes on in the next; those of others aren't
-    read."""
+    read. What is cut is counted and saved."""
     peers = [udp_socket() for _ in range(3)]
     for it in peers:
         it.settimeout(10)
     one, two, other = peers
     ports = [free_port(socket.SOCK_DGRAM) for _ in range(2)]
     words = [f"udp:127.0.0.1:{port},127.0.0.1:{port_of(it)}" for port, it in zip(ports, peers)]
-    bridge = Bridge(*words, "--seconds", "2")
+    bridge = Bridge(*words, "--seconds", "2", "--save-first", f"{tmp_path}/first")
     assert holds_within(10, lambda: all(map(is_bound, ports)))
     longest, short, cut = data(drawn.randbytes(16383), 1), control(1), data(b"abc", 2)
     other.sendto(short, ("127.0.0.1", ports[0]))
-    for it in (longest, b"\x96" + short + longest + b"junk", cut[:10], cut[10:] + short):
+    pieces = (longest, b"\x96" + short + longest + b"junk", cut[:10], cut[:9], cut[10:] + short)
+    for it in pieces:
         one.sendto(it, ("127.0.0.1", ports[0]))
     got = [two.recv(1 << 16) for _ in range(4)]
     assert got == [longest, short, longest, short], f"{[len(it) for it in got]}"
     two.sendto(cut, ("127.0.0.1", ports[1]))
     assert one.recv(1 << 16) == cut, "another frame came back"
     assert (bridge.ended(10) == 0
-            and bridge.counts() == ((4, 5 + len(cut), 0, 0, 0), (1, 0, 0, 0, 0)))
+            and bridge.counts() == ((4, 5 + len(cut) + 9, 0, 0, 0), (1, 0, 0, 0, 0)))
+    assert contents(f"{tmp_path}/first") == b"".join(pieces)
 
 
 @times
@@ -271,10 +276,11 @@ def test_delayed():
             and bridge.counts()[0][0] == 1 + 256 + 600 + 10 + 300)
 
 
-def test_traced():
-    """Each frame and fault that comes is printed in the words of explain, with what the bridge does
-    to it."""
-    bridge, *ends = bridged("--trace", "--lose", "20", "--damage", "20")
+@pytest.mark.parametrize("form", ["--trace", "--ladder"])
+def test_traced(form):
+    """Each frame and fault that comes is printed in the words of explain, or as an arrow, with what
+    the bridge does to it."""
+    bridge, *ends = bridged(form, "--lose", "20", "--damage", "20")
     wanted = {}
     for direction, (mark, end) in enumerate(zip("><", ends)):
         frames = [data(drawn.randbytes(drawn.randrange(1, 40)), it) for it in range(60)]
@@ -283,7 +289,8 @@ def test_traced():
         wanted[mark] = []
         for number, (frame, line) in enumerate(zip(frames, explained(text)[:-1])):
             left = frame if number == 30 else draws.left_of(frame)
-            wanted[mark].append(f"{mark} {line}")
+            wanted[mark].append(f"{mark} {line}" if form == "--trace"
+                                else rung(mark, line.split(" ", 1)[1]))
             if left != frame:
                 at = next((at for at, it in enumerate(left) if it != frame[at]), None)
                 wanted[mark].append(f"{mark} lost" if at is None else f"{mark} altered byte {at}")
@@ -292,9 +299,18 @@ def test_traced():
     ends[0].shutdown(socket.SHUT_WR)
     status, lines = bridge.ended(), bridge.traces()
     for mark, text in wanted.items():
-        got = [it[1] for it in lines if it[1].startswith(mark)]
+        got = [it[1] for it in lines if it[1].startswith((mark, {">": "|-- ", "<": "|<"}[mark]))]
         assert got == text
     assert status == 0 and [it[0] for it in lines] == sorted(it[0] for it in lines)
+
+
+def fate_of(frame, draws):
+    """What a bridge does to its next good frame, as an object; None if it passes it on."""
+    left = draws.left_of(frame)
+    if not left:
+        return {"item": "lost"}
+    return next(({"item": "altered", "byte": at} for at, it in enumerate(left) if it != frame[at]),
+                None)
 
 
 def test_saved(tmp_path):
@@ -309,11 +325,16 @@ def test_saved(tmp_path):
     ends[0].shutdown(socket.SHUT_WR)
     assert bridge.ended() == 0 and [contents(it) for it in files] == texts
     objects = [json.loads(it) for it in bridge.errors() if it.startswith("{")]
-    for mark, text, counts in zip("><", texts, bridge.counts()):
-        mine = [it for it in objects if it["from"] == mark]
-        fates = [it["item"] for it in mine if it["item"] in ("lost", "altered")]
+    assert all(isinstance(it.pop("ms"), int) for it in objects)
+    for direction, (mark, text, counts) in enumerate(zip("><", texts, bridge.counts())):
+        wanted, frames, draws = [], iter(good_frames(text)[0]), Draws(direction, 30, 30)
+        for it in map(json.loads, explained(text, "--json")[:-1]):
+            wanted.append({"from": mark, **it})
+            if it["item"] in (*KINDS, *STARTS) and (fate := fate_of(next(frames), draws)):
+                wanted.append({"from": mark, **fate})
+        assert [it for it in objects if it["from"] == mark] == wanted
+        fates = [it["item"] for it in wanted]
         assert (fates.count("lost"), fates.count("altered")) == counts[3:]
-        assert len(mine) - len(fates) == len(explained(text)[:-1])
 
 
 def test_not_saved(tmp_path):
@@ -326,18 +347,22 @@ def test_not_saved(tmp_path):
     for words, path, why in (
             (["--save-first", old], old, "file exists"),
             (["--save-first", new, "--save-second", new], new, "file exists"),
+            (["--save-first", new, "--save-second", old], old, "file exists"),
             (["--save-second", f"{new}/it"], f"{new}/it", "no such file")):
         must_end(why, Bridge(*lines, *words), 3, f"ddcmp: create {path}: {why}")
     closed = f"127.0.0.1:{free_port()}"
-    run = Bridge(f"connect:{closed}", lines[1], "--save-first", new)
+    run = Bridge(f"connect:{closed}", lines[1], "--save-first", new, "--save-second", f"{new}er")
     must_end("no line", run, 3, f"ddcmp: connect {closed}: connection refused")
-    assert contents(old) == b"old" and not os.path.exists(new)
+    assert contents(old) == b"old" and os.listdir(tmp_path) == ["old"]
     limits = ["sh", "-c", "trap '' XFSZ; ulimit -f 1; exec \"$@\"", "sh"]
-    run = Process([*limits, *PROGRAM, "bridge", *lines, "--save-first", new])
-    ends = first.accept()[0], second.accept()[0]
-    ends[0].sendall(data(bytes(3000), 1))
-    assert run.ended(20) == 3 and b"frames=1 " in run.out
-    assert f"write {new}: failed\nddcmp: ended\n" in run.err.decode()
+    for at in (0, 1):
+        files = [f"{tmp_path}/{name}-{at}" for name in ("first", "second")]
+        saves = "--save-first", files[0], "--save-second", files[1]
+        run = Process([*limits, *PROGRAM, "bridge", *lines, *saves])
+        ends = first.accept()[0], second.accept()[0]
+        ends[at].sendall(data(bytes(3000), 1))
+        assert run.ended(20) == 3 and b"<>"[1 - at:2 - at] + b" frames=1 " in run.out
+        assert run.errors()[4:] == [f"write {files[at]}: failed", "ddcmp: ended"]
 
 
 def between(name, bridge, one, two, most=1500):
@@ -460,18 +485,37 @@ def test_device_without_waiting():
 def test_unread_trace():
     """A trace that isn't read blocks nothing: all frames pass, the time ends the bridge, and lines
     without room are counted."""
-    reading, writing = os.pipe()
-    bridge, one, two = bridged("--trace", "--seconds", "10", stderr=writing)
-    os.close(writing)
+    (bridge, one, two), reading = into_pipe(bridged, "--trace", "--seconds", "10", stream="stderr")
     frames = b"".join(data(drawn.randbytes(1000), it % 256) for it in range(300))
     threading.Thread(target=one.sendall, args=(frames,), daemon=True).start()
     assert receives(two, len(frames)) == frames
-    told = b"".join(iter(lambda: os.read(reading, 1 << 16), b""))
+    told = rest_of(reading)
     status = bridge.ended(5)
     assert status == 0 and 9 < bridge.took < 12.5
     counted, notes = omitted(told.decode().split("\n"))
     shown = told.count(b" DATA ")
     assert notes and counted + shown == 300
+
+
+@pytest.mark.parametrize("at", [0, 1])
+def test_bridged_to_a_full_device(at):
+    """A device, at either line, that takes no more for a while gets the rest then."""
+    ours, theirs = os.openpty()
+    tty.setraw(theirs)
+    lines = [f"device:{os.ttyname(theirs)}"]
+    with server() as far:
+        lines.insert(1 - at, f"connect:127.0.0.1:{port_of(far)}")
+        bridge = Bridge(*lines)
+        peer = far.accept()[0]
+    frames, got = b"".join(data(drawn.randbytes(1000), it) for it in range(40)), b""
+    peer.sendall(frames)
+    time.sleep(0.3)
+    while len(got) < len(frames) and select.select([ours], [], [], 5)[0]:
+        got += os.read(ours, 1 << 16)
+    bridge.kill()
+    os.close(ours)
+    os.close(theirs)
+    assert got == frames
 
 
 def test_ends_of_a_bridge():
@@ -628,6 +672,7 @@ def test_bridged_later():
         two.sendall(control(2))
         assert (two.recv(8, socket.MSG_WAITALL) == control(1)
                 and one.recv(8, socket.MSG_WAITALL) == control(2))
+        reset_at_close(one)  # other lines follow, so that it failed is no fault of the end
         one.close()
         two.close()
         assert bridge.ended(15) == 0 and 11.9 < bridge.took < 13 and bridge.used <= 0.6
@@ -640,11 +685,9 @@ def test_bridged_later():
 def test_bridged_in_vain(options):
     """Lines over which no good frame comes aren't opened again without a pause, and a bridge whose
     standard error isn't read opens its lines again nevertheless."""
-    reading, writing = os.pipe()
     first, second = server(), server()
-    names = [f"connect:127.0.0.1:{port_of(it)}" for it in (first, second)]
-    bridge = Bridge(*names, "--again", stderr=writing if options else subprocess.PIPE, *options)
-    os.close(writing)
+    words = [*(f"connect:127.0.0.1:{port_of(it)}" for it in (first, second)), "--again", *options]
+    bridge = into_pipe(Bridge, *words, stream="stderr")[0] if options else Bridge(*words)
     ends = first.accept()[0], second.accept()[0]
     if options:
         ends[0].sendall(b"".join(data(bytes(1000), it % 256) for it in range(300)))

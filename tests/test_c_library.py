@@ -6,7 +6,7 @@ import subprocess
 
 import pytest
 
-from .process import PROGRAM, TOP, Process, call, free_port, holds_within, is_listening, text_of
+from .process import TOP, Station, call, free_port, holds_within, is_listening, text_of
 
 pytestmark = pytest.mark.limit(120)
 STRICT = ["-Wall", "-Wextra", "-Wpedantic", "-Werror", f"-I{TOP}/include"]
@@ -123,9 +123,7 @@ def test_explain(compiler, way):
 def test_tcp(compiler, way):
     """A station in C and one of `ddcmp station` over a connection: each has the other's message."""
     port = free_port()
-    words = ["--role", "listen", "--addr", f"127.0.0.1:{port}", "--turns", "4294967295"]
-    words += ["--timer-ms", "1000", "--send", "616263"]
-    station = Process([*PROGRAM, "station", *words])
+    station = Station("listen", port, Station.ENDLESS, 1000, "--send", "616263")
     program = compiler.made("examples/tcp.c", way)
     assert holds_within(20, lambda: is_listening(port))
     lines = printed(program, "connect", str(port), "xyz", text=True).splitlines()

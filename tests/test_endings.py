@@ -138,6 +138,27 @@ def test_too_many_words(command, words, usage):
     assert call(command, *words.split()) == (b"", text, 2)
 
 
+@pytest.mark.parametrize("words, option, unit", [
+    ("explain --max 2k", "--max", "in bytes, as 1500"),
+    ("station --role listen --addr x --turns 1 --timer-ms 3s", "--timer-ms",
+     "in milliseconds, as 300"),
+    ("link --line x --seconds 3s", "--seconds", "in seconds, as 3"),
+    ("link --line x --report 1.5", "--report", "in seconds, as 3"),
+    ("link --line x --linger-ms 1s", "--linger-ms", "in milliseconds, as 300"),
+    ("bridge x y --lose 10%", "--lose", "in percent, as 10"),
+    ("bridge x y --damage 10%", "--damage", "in percent, as 10"),
+    ("bridge x y --delay 20ms", "--delay", "in milliseconds, as 300"),
+    ("bridge x y --delay 0.5", "--delay", "in milliseconds, as 300"),
+    ("bridge x y --baud 9600bps", "--baud", "in bits per second, as 9600"),
+    ("simulate --window 7x", "--window", None), ("link --line x --seconds s", "--seconds", None),
+])
+def test_units(words, option, unit):
+    """A number with a unit after it is refused, and the unit that is meant is named."""
+    text = f"error: invalid value '{words.rsplit(' ', 1)[1]}' for '{option} <N>': "
+    text += "invalid digit found in string\n\n" + (f"  tip: N is {unit}\n\n" if unit else "")
+    assert call(*words.split()) == (b"", text + "For more information, try '--help'.\n", 2)
+
+
 @pytest.mark.parametrize("status, output, fault, given, words", [
     (0, NOTHING, "", "", ""),
     (0, NOTHING, "", "# two ends of other sizes", SIZES),

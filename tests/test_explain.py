@@ -8,8 +8,8 @@ import pytest
 from hypothesis import given
 
 from .captures import FAULTY, GOOD, MAX, explain, good_control, in_words, jq, randoms, tries
-from .process import commands_in
-from .wire import CONTROL, KINDS, NAMES, REASONS, STARTS, crc
+from .process import PROGRAM, Process, commands_in
+from .wire import CONTROL, KINDS, NAMES, REASONS, STARTS, ack, crc
 
 pytestmark = pytest.mark.limit(300)
 STARTED_BY = {code: name for name, code in STARTS.items()}
@@ -158,6 +158,13 @@ def test_each_byte_in_a_line(draw):
     assert explain(text, *options, "--discarded", "--json") == compact(lines)
     plain = [it for it in lines if not {"discarded", "unfinished"} & dict(it).keys()]
     assert explain(text, *options) == "".join(in_words(it) + "\n" for it in plain)
+
+
+def test_open_input():
+    """The line of a frame is printed while the input is open."""
+    run = Process([*PROGRAM, "explain", "--raw"])
+    run.give(ack(0), close=False)
+    assert run.waits(lambda it: it.out == b"0 ACK sub=0 q=0 s=0 resp=0 num=0 addr=1\n", 10)
 
 
 def test_example_without_a_frame():

@@ -4,7 +4,7 @@ import time
 
 import pytest
 
-from .peers import good, linked, running
+from .peers import REFUSED, Refusing, good, linked, running
 from .process import must_end, tcp_pair, times
 from .wire import data
 
@@ -89,6 +89,26 @@ def test_damaged_once():
     must_end("repaired", link, 0)
     assert (link.lines().count("mail 62") == 20
             and not any("peer" in it or "damaged" in it for it in link.errors()))
+
+
+def refusing(reason, *options):
+    """A link whose peer refuses its message for this reason, and that peer."""
+    link, peer = running("--timer-ms", "50", *options, answer=Refusing(reason))
+    link.give(b"61\n")
+    return link, peer
+
+
+@pytest.mark.parametrize("reason, line", [*REFUSED.items(), (2, None)])
+def test_refused_there(reason, line):
+    """That the peer refuses a message as too long, or has no buffer, is told at the first NAK,
+    once, and the message is delivered if it is taken later."""
+    link, peer = refusing(reason)
+    assert line is None or link.waits(lambda it: line in it.errors(), 2)
+    assert peer.waits(lambda it: len(it.named("DATA")) >= 8, 5)
+    peer.answer.takes = True
+    must_end(f"{reason}", link, 0, line)
+    assert peer.mail == [b"a"]
+    assert [it for it in link.errors() if "peer" in it] == ([line] if line else [])
 
 
 def at_an_echo(*options, given=b""):

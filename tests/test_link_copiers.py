@@ -7,7 +7,7 @@ import time
 
 import pytest
 
-from .process import Link, listening, times
+from .process import Link, into_pipe, listening, times
 from .wire import binary, digits, drawn, unpacked
 
 SIZE = 3_000_000  # bytes of messages: several times what all pipes and queues between them hold
@@ -98,9 +98,7 @@ def test_back_to_back():
 def test_sleeping_reader():
     """While a reader sleeps, its link's own messages are delivered; once it wakes it gets all of
     the others."""
-    reading, writing = os.pipe()
-    one = Link("listen:127.0.0.1:0", "--binary", "--stay", stdout=writing)
-    os.close(writing)
+    one, reading = into_pipe(Link, "listen:127.0.0.1:0", "--binary", "--stay")
     two = Link(f"connect:127.0.0.1:{listening(one)}", "--binary", "--stay")
     sent, own = messages_in_all(1_000_000), messages_in_all(200_000)
     two.give(binary(sent), close=False)

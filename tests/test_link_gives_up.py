@@ -10,8 +10,8 @@ import pytest
 from .bad_lines import Bad
 from .peers import Peer, Refusing, called, datagram_peer, good, joined, no_ack, running, silent
 from .process import (
-    Link, connected, listening, must_end, port_of, server, tcp_pair, times, udp_names,
-    unacknowledged)
+    Link, connected, into_pipe, listening, must_end, port_of, rest_of, server, tcp_pair, times,
+    udp_names, unacknowledged)
 from .wire import STACK, STRT, ack, binary, data, drawn, header, messages_of, rep, unpacked
 
 QUICK = ("--timer-ms", "50")
@@ -70,11 +70,16 @@ def test_gone(options, status, last):
 
 
 def test_absent():
-    """Over datagrams a peer that isn't there yet is waited for, and one that is gone isn't."""
+    """Over datagrams a peer that isn't there yet is waited for, but for as many tries as are asked
+    for, and one that is gone isn't."""
+    link, peer, _local = datagram_peer(answer=silent)
+    time.sleep(2)
+    assert link.is_running() and len(peer.named("STRT")) >= 9, "it doesn't wait"
+    link.kill()
     link, peer, _local = datagram_peer("--attempts", "3", answer=silent)
-    time.sleep(1.5)
-    assert link.is_running(), "it doesn't wait"
-    peer.answer = good
+    must_end("absent", link, 3, "ddcmp: ended", seconds=5)
+    assert LEFT in link.errors() and len(peer.named("STRT")) == 3
+    link, peer, _local = datagram_peer("--attempts", "3", answer=good)
     assert peer.runs(), "it doesn't start"
     peer.answer = silent
     link.give(b"61\n")
@@ -82,15 +87,13 @@ def test_absent():
 
 
 def test_absent_again():
-    """So it is over a second line, after a peer that ran and went."""
+    """So it is over each line, after a peer that ran and went, until it is back."""
     link, peer, _local = datagram_peer("--again", "--attempts", "3", answer=good)
     peer.runs()
     peer.answer = silent
     link.give(b"61\n", close=False)
-    link.waits(lambda it: "ddcmp: peer doesn't answer" in it.errors(), 5)
-    time.sleep(1.5)
-    assert link.errors().count("ddcmp: peer doesn't answer") == 1 and link.is_running(), (
-        "it doesn't wait")
+    link.waits(lambda it: it.errors().count(LEFT) == 2, 5)
+    assert link.errors().count(LEFT) == 2 and link.is_running(), "it doesn't wait"
     peer.answer = good
     link.give(b"6262\n")
     must_end("back", link, 3, unacknowledged(1), seconds=5)
@@ -102,7 +105,7 @@ def test_late_start():
     handshake."""
     link, peer = called("--timer-ms", "250", answer=silent)
     link.give(b"61\n")
-    time.sleep(1)
+    time.sleep(0.6)
     peer.answer = good
     peer.waits(lambda it: it.mail, 5)
     time.sleep(0.2)
@@ -118,7 +121,8 @@ def test_refused_then_silent():
     peer.waits(lambda it: len(it.named("DATA")) >= 3, 5)
     peer.answer = silent
     must_end("silent", link, 3, unacknowledged(1), seconds=5)
-    assert [it for it in link.errors() if "peer" in it] == ["ddcmp: peer doesn't answer"]
+    assert [it for it in link.errors() if "peer" in it] == [
+        "ddcmp: peer refuses: message too long", "ddcmp: peer doesn't answer"]
 
 
 @pytest.mark.parametrize("reason, words", [
@@ -174,17 +178,13 @@ def test_lingers_on_a_bad_line():
 
 def test_lingers_at_a_slow_reader():
     """A peer isn't heard out while the output holds the line back."""
-    reading, writing = os.pipe()
-    one = Link("listen:127.0.0.1:0", "--binary", stdout=writing)
-    os.close(writing)
+    one, reading = into_pipe(Link, "listen:127.0.0.1:0", "--binary")
     two = Link(f"connect:127.0.0.1:{listening(one)}", "--binary")
     sent = [drawn.randbytes(1500) for _ in range(600)]
     one.give(binary([b"a"]))
     two.give(binary(sent))
     time.sleep(2)
-    out = b""
-    while piece := os.read(reading, 1 << 16):
-        out += piece
+    out = rest_of(reading)
     os.close(reading)
     assert one.ended() == 0 and two.ended() == 0 and unpacked(out) == sent, (
         f"{one.errors()[-1:]} {two.errors()[-1:]}, {len(unpacked(out))} of {len(sent)}")

@@ -9,10 +9,10 @@ import time
 import pytest
 
 from .peers import (
-    Peer, Refusing, called, datagram_peer, dials, good, joined, no_ack, running, silent)
+    REFUSED, Peer, Refusing, called, datagram_peer, dials, good, joined, no_ack, running, silent)
 from .process import (
-    Link, exchange, free_port, listening, must_end, port_of, server, terminals, times, udp_names,
-    udp_socket, unacknowledged)
+    Bridge, Link, exchange, free_port, listening, must_end, port_of, server, terminals, times,
+    udp_names, udp_socket, unacknowledged)
 from .wire import STACK, STRT, data, header, messages_of, nak
 
 
@@ -347,6 +347,25 @@ def test_datagram_names():
         assert link.took >= 0.9 and link.used <= 0.6
 
 
+NO_HOST = "the host is missing, as in 0.0.0.0:7000"
+NO_PORT = "the port isn't a number up to 65535"
+
+
+@pytest.mark.parametrize("name, fault", [
+    ("listen:7000", f"listen 7000: {NO_HOST}"), ("listen::7000", f"listen :7000: {NO_HOST}"),
+    ("udp:127.0.0.1:0,7001", f"open 7001: {NO_HOST}"),
+    ("listen:nowhere", "listen nowhere: not an address"),
+    ("connect:127.0.0.1:99999", f"connect 127.0.0.1:99999: {NO_PORT}"),
+    ("connect:127.0.0.1:http", f"connect 127.0.0.1:http: {NO_PORT}"),
+    ("udp:127.0.0.1:,127.0.0.1:9", f"open 127.0.0.1:: {NO_PORT}"),
+])
+def test_misnamed(name, fault):
+    """What is wrong with an address is said: its host is missing, or its port isn't one."""
+    must_end(name, Link(name), 3, f"ddcmp: {fault}")
+    bridge = Bridge(name, "listen:127.0.0.1:0")
+    must_end(f"bridge {name}", bridge, 3, f"ddcmp: {fault}")
+
+
 def test_no_device():
     """device: takes a character device that nobody else has."""
     with tempfile.TemporaryDirectory() as folder:
@@ -402,7 +421,7 @@ def test_pace():
         assert 7 * least <= count <= 7 * most_windows(span, timer)
         assert link.processor_time() <= 0.6
         peer.answer.takes = True
-        must_end(f"NAK {reason}", link, 0, seconds=8)
+        must_end(f"NAK {reason}", link, 0, REFUSED.get(reason), seconds=8)
         assert peer.mail == [b"a"] * 7
 
 
@@ -430,7 +449,7 @@ def test_few_buffers():
     link.give(b"".join(b"%04x\n" % it for it in range(140)))
     assert peer.waits(lambda it: len(it.mail) == 140, 20)
     assert time.monotonic() - begun <= 3, f"{time.monotonic() - begun:.1f} s"
-    must_end("140 messages", link, 0, seconds=5)
+    must_end("140 messages", link, 0, REFUSED[8], seconds=5)
     assert peer.mail == [it.to_bytes(2, "big") for it in range(140)], "the messages are others"
 
 

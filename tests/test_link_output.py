@@ -9,24 +9,20 @@ import socket
 import subprocess
 import threading
 import time
-import tty
 
 import pytest
 
-from .peers import Peer, good, joined, linked, no_ack, running
+from .peers import Peer, at_a_full_device, good, joined, linked, no_ack, running
 from .process import (
-    PROGRAM, Link, connected, free_port, holds_within, is_listening, listening, omitted, port_of,
-    server, tcp_pair, times)
-from .wire import (
-    STACK, STRT, Reader, binary, data, digits, drawn, mail_in, messages_of, rep, unpacked)
+    PROGRAM, Link, connected, free_port, holds_within, into_pipe, is_listening, listening,
+    omitted, port_of, server, tcp_pair, times)
+from .wire import STRT, binary, data, drawn, mail_in, messages_of, rep, unpacked
 
 
 @times
 def test_slow_reader():
     """A reader of next to nothing: memory stays flat, and the line isn't filled with NAKs."""
-    reading, writing = os.pipe()
-    one = Link("listen:127.0.0.1:0", "--binary", stdout=writing)
-    os.close(writing)
+    one, reading = into_pipe(Link, "listen:127.0.0.1:0", "--binary")
     two = Link(f"connect:127.0.0.1:{listening(one)}", "--binary")
     sent = messages_of(2000)
     two.give(binary(sent))
@@ -54,13 +50,11 @@ def test_slow_reader():
 
 
 def test_closed_output():
-    reading, writing = os.pipe()
-    one = Link("listen:127.0.0.1:0", stdout=writing)
-    os.close(writing)
+    one, reading = into_pipe(Link, "listen:127.0.0.1:0")
     os.close(reading)
     two = Link(f"connect:127.0.0.1:{listening(one)}", "--stay")
     two.give(b"61\n", close=False)
-    assert one.ended(20) == 3 and one.err.endswith(b"ddcmp: write\n")
+    assert one.ended(20) == 3 and one.faults() == ["ddcmp: write"]
 
 
 @times
@@ -97,9 +91,7 @@ class Unread:
     """A link whose standard error isn't read, but for its first line if it listens."""
 
     def __init__(self, line, *options):
-        self.reading, writing = os.pipe()
-        self.link = Link(line, *options, stderr=writing)
-        os.close(writing)
+        self.link, self.reading = into_pipe(Link, line, *options, stream="stderr")
         self.err = b""
 
     def port(self):
@@ -107,14 +99,15 @@ class Unread:
             self.err += os.read(self.reading, 1)
         return int(self.err.rsplit(b":", 1)[1])
 
-    def read(self):
-        """Reads it from now on, to its end."""
-        self.thread = threading.Thread(target=self.work, daemon=True)
+    def read(self, pause=0):
+        """Reads it from now on, to its end, with these seconds after each of its pages."""
+        self.thread = threading.Thread(target=self.work, args=(pause,), daemon=True)
         self.thread.start()
 
-    def work(self):
-        while piece := os.read(self.reading, 1 << 16):
+    def work(self, pause):
+        while piece := os.read(self.reading, 4096):
             self.err += piece
+            time.sleep(pause)
 
     def lines(self):
         self.thread.join(10)
@@ -148,7 +141,8 @@ def test_errors_unread(options, is_read):
 
 
 def test_errors_read_at_last():
-    """The last line has room on a standard error that was full until the end."""
+    """The last line has room on a standard error that was full until the end, and is read slowly
+    then."""
     one = Unread("listen:127.0.0.1:0", "--binary", "--stay", "--inbox", "127", "--counters")
     two = Unread(f"connect:127.0.0.1:{one.port()}", "--binary", "--window", "127")
     one.link.give(b"")
@@ -157,8 +151,8 @@ def test_errors_read_at_last():
     two.read()
     two.link.ended(5)
     time.sleep(0.3)
-    one.read()
-    one.link.ended(4)
+    one.read(0.1)
+    one.link.ended(8)
     assert ([it.split("=")[0] for it in one.lines()[-2:]] == ["counters nak_sent_header_check",
                                                               "state"] and omitted(one.lines())[0])
 
@@ -243,16 +237,7 @@ def test_stopped_terminal():
 
 def test_stopped_device():
     """A serial line that nobody reads: a message that comes is handed out meanwhile."""
-    end, device = os.openpty()  # not by socat, whose own writes would block
-    tty.setraw(device)
-    link = Link(f"device:{os.ttyname(device)}", "--window", "100", "--max", "16383", "--syn", "0",
-                "--timer-ms", "500")
-    reader = Reader()
-    while not any(it.name == "STRT" for it in reader.push(os.read(end, 4096))):
-        pass
-    os.write(end, STACK)
-    link.waits(lambda it: b"Running" in it.out, 10)
-    link.give(digits([bytes(16383)] * 60), close=False)
+    link, end = at_a_full_device("--syn", "0", "--timer-ms", "500")
     time.sleep(1)
     os.write(end, data(b"abc", 1))
     assert link.waits(lambda it: b"mail 616263" in it.out, 5), "the message isn't handed out"
@@ -262,12 +247,10 @@ def test_stopped_device():
 def test_full_output(options):
     """Longest messages that were acknowledged, an output of a page, and the peer ends while one of
     them waits in the inbox: all are written."""
-    reading, writing = os.pipe()
-    fcntl.fcntl(writing, fcntl.F_SETPIPE_SZ, 4096)
     it = server()
     name = it.getsockname()
-    link = Link(f"connect:127.0.0.1:{name[1]}", "--max", "16383", *options, stdout=writing)
-    os.close(writing)
+    link, reading = into_pipe(Link, f"connect:127.0.0.1:{name[1]}", "--max", "16383", *options)
+    fcntl.fcntl(reading, fcntl.F_SETPIPE_SZ, 4096)
     peer = joined(it, good)
     sent = [b"x"] + [drawn.randbytes(16383) for _ in range(4)]  # the last has no room in the queue
     for number, message in enumerate(sent, 1):
@@ -289,19 +272,11 @@ def test_full_output(options):
     link.kill()
 
 
-def into_a_pipe(*options, **streams):
-    """A link and its peer that run, and the reading end of the link's output."""
-    reading, writing = os.pipe()
-    link, peer = running(*options, stdout=writing, **streams)
-    os.close(writing)
-    return link, peer, reading
-
-
 @times
 @pytest.mark.parametrize("options", [(), ("--again",)])
 def test_seconds_unread(options):
     """--seconds ends a link whose output nobody reads, says so, and isn't a success."""
-    link, peer, _ = into_a_pipe("--stay", "--seconds", "2", *options)
+    (link, peer), _ = into_pipe(running, "--stay", "--seconds", "2", *options)
     with contextlib.suppress(OSError):  # a link that has ended
         for number in range(1, 60):
             peer.send(data(b"x" * 1500, number))
@@ -335,14 +310,14 @@ def sixty_messages(peer):
 
 def test_seconds_slow():
     """--seconds drops nothing of an output that is read slowly."""
-    link, peer, reading = into_a_pipe("--stay", "--seconds", "2", stdin=subprocess.DEVNULL)
+    (link, peer), reading = into_pipe(running, "--stay", "--seconds", "2", stdin=subprocess.DEVNULL)
     read_slowly(sixty_messages(peer), reading)
     assert link.ended(5) == 0
 
 
 def test_seconds_flooded():
     """A standard input that is written all the time doesn't end the patience with a slow output."""
-    link, peer, reading = into_a_pipe("--stay", "--seconds", "2")
+    (link, peer), reading = into_pipe(running, "--stay", "--seconds", "2")
     sent = sixty_messages(peer)
 
     def flood():

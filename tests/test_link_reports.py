@@ -17,6 +17,13 @@ from .wire import binary, data
 
 STAMP = re.compile(r"\d{4}-\d\d-\d\dT\d\d:\d\d:\d\d\.\d{3}Z ")
 REPORT = re.compile(r"report state=\w+( [a-z]+=\d+)+ counters( [a-z_]+=\d+)+$")
+NAKS = [f"nak_{way}_{why}" for way in ("sent", "received") for why in (
+    "header_check", "data_check", "reply_to_rep", "no_buffer", "overrun", "too_long", "format",
+    "other")]
+NUMBERS = """read written sent acknowledged handed lost {} rep_sent rep_received messages_sent
+bytes_sent messages_again bytes_again messages_up bytes_up expiries header_checks data_checks
+too_longs formats""".format(" ".join(NAKS)).split()
+MEMBERS = [("event", str), ("state", str), *((it, int) for it in NUMBERS)]
 
 
 def reports_of(lines):
@@ -26,6 +33,9 @@ def reports_of(lines):
         if line.startswith("{"):
             found.append(json.loads(line))
             assert json.dumps(found[-1], separators=(",", ":")) == line
+            time_of_day = [("time", str)] * ("time" in found[-1])
+            types = [(name, type(it)) for name, it in found[-1].items()]
+            assert types == time_of_day + MEMBERS, line
         elif REPORT.match(line):
             found.append(dict(it.split("=") for it in line.split() if "=" in it))
     return found

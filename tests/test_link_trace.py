@@ -11,24 +11,22 @@ import pytest
 
 from .peers import called, dials, good, joined, linked, running, silent
 from .process import (
-    EVENT, PROGRAM, Link, explained, holds_within, omitted, port_of, tcp_pair, terminals,
-    times)
-from .wire import STACK, checked, data, digits, drawn
+    EVENT, Link, explained, holds_within, into_pipe, omitted, rest_of, sends, tcp_pair,
+    terminals, times)
+from .wire import STACK, ack, data, digits, drawn
 
 
 def test_traced():
     """The frames of both ways with --trace, a NAK with its reason in words, and expiries."""
-    server = socket.create_server(("127.0.0.1", 0))
-    one = Link(f"connect:127.0.0.1:{port_of(server)}", "--trace", "--timer-ms", "150")
-    with server.accept()[0] as peer:
+    one, peer = linked("--trace", "--timer-ms", "150")
+    with peer:
         one.waits(lambda it: it.err.count(b"STRT") >= 2, 10)
-        peer.sendall(checked(bytes.fromhex("0507c0000001")))
+        peer.sendall(STACK)
         one.waits(lambda it: b"< 0 STACK" in it.err, 10)
         peer.sendall(bytes.fromhex("8103000000010000"))
         one.waits(lambda it: b"NAK" in it.err, 10)
-        peer.sendall(checked(bytes.fromhex("810300000101")) + checked(b"abc"))
+        peer.sendall(data(b"abc", 1))
         one.waits(lambda it: b"616263" in it.err, 10)
-    server.close()
     one.ended()
     lines = one.err.decode().split("\n")[:-1]
     told = [it for it in lines if not it.startswith("ddcmp") and not EVENT.match(it)]
@@ -44,13 +42,12 @@ def test_traced():
 
 def drawn_line():
     """Frames of a peer that runs, good and damaged, with fill and junk between them."""
-    line = checked(bytes.fromhex("0507c0000001"))
+    line = STACK
     for _ in range(200):
-        data = drawn.randbytes(drawn.randint(1, 40))
-        header = checked(bytes([0x81, len(data), 0, 0, drawn.randrange(256), 1]))
-        frame = drawn.choice([header + checked(data), header + data + b"..",
-                              checked(bytes.fromhex("050100000001")),
-                              header[:-1] + bytes([header[-1] ^ 1]) + checked(data), header[:7]])
+        message = drawn.randbytes(drawn.randint(1, 40))
+        whole = data(message, drawn.randrange(256))
+        frame = drawn.choice([whole, whole[:-2] + b"..", ack(0), whole[:7],
+                              whole[:7] + bytes([whole[7] ^ 1]) + whole[8:]])
         junk = drawn.choice([b"", b"\x96" * drawn.randint(1, 9),
                              drawn.randbytes(drawn.randint(1, 60))])
         line += junk + frame
@@ -60,26 +57,18 @@ def drawn_line():
 def test_trace_discarded():
     """What --trace tells of a line is what `explain --discarded` tells of its bytes, but for SYN
     bytes alone."""
-    server = socket.create_server(("127.0.0.1", 0))
-    one = Link(f"connect:127.0.0.1:{port_of(server)}", "--trace", "--timer-ms", "60000")
+    one, peer = linked("--trace", "--timer-ms", "60000")
     line = drawn_line()
-    with server.accept()[0] as peer:
-        at = 0
-        while at < len(line):
-            n = drawn.randint(1, 300)
-            peer.sendall(line[at:at + n])
-            at += n
+    with peer:
+        sends(peer, line, 300)
         one.waits(lambda it: it.err.count(b"<") > 300, 1)
-    server.close()
     one.ended()
     told = [it.split(" < ")[1] for it in one.err.decode().split("\n") if " < " in it]
-    words = [PROGRAM[0], "explain", "--raw", "--discarded", "--max", "1500"]
-    explained = subprocess.run(words, input=line, stdout=subprocess.PIPE,
-                               check=True).stdout.decode().split("\n")[:-2]
+    items = explained(line, "--discarded", "--max", "1500")[:-1]
     discarded = re.compile(r"(\d+) discarded (\d+)")
-    fill = {it for it in explained if (found := discarded.fullmatch(it))
+    fill = {it for it in items if (found := discarded.fullmatch(it))
             and not line[int(found[1]):int(found[1]) + int(found[2])].strip(b"\x96")}
-    wanted = [it for it in explained if it not in fill and " unfinished " not in it]
+    wanted = [it for it in items if it not in fill and " unfinished " not in it]
     assert len(fill) >= 5 and sum(" discarded " in it for it in wanted) >= 20
     assert told == wanted
 
@@ -202,10 +191,8 @@ def test_trace_of_device():
 def test_trace_unread():
     """A standard error that is read, not read and read again: what was left out is counted, and
     with the lines that are there it is the whole."""
-    reading, writing = os.pipe()
-    link, peer = running("--trace", "--timer-ms", "60000", "--inbox", "127", "--stay",
-                         stdin=subprocess.DEVNULL, stderr=writing)
-    os.close(writing)
+    words = ["--trace", "--timer-ms", "60000", "--inbox", "127", "--stay"]
+    (link, peer), reading = into_pipe(running, *words, stream="stderr", stdin=subprocess.DEVNULL)
     told, number = b"", 0
     os.set_blocking(reading, False)
     for _ in range(2):
@@ -224,8 +211,7 @@ def test_trace_unread():
     peer.sock.shutdown(socket.SHUT_WR)
     link.ended(10)
     os.set_blocking(reading, True)
-    while piece := os.read(reading, 1 << 16):
-        told += piece
+    told += rest_of(reading)
     lines = [it for it in told.decode().split("\n")[:-1] if not EVENT.match(it)]
     count, gaps = omitted(lines)
     seen = sum(bool(re.match(r"\d+ [<>] ", it)) for it in lines)

@@ -18,7 +18,7 @@ from .peers import Peer, good, no_ack, silent
 from .process import (
     PROGRAM, Bridge, Link, Process, call, commands_in, connected, contents, free_port, holds_within,
     is_bound, port_of, server, takes, udp_socket)
-from .wire import STRT, binary, checked, data, digits
+from .wire import STRT, ack, binary, data, digits
 
 # What a run may take, and for how long what an option shows is waited for: a busy machine is slow.
 SECONDS = 20
@@ -58,7 +58,7 @@ def refused(command, chosen, ran, pairs):
 
 # ---- explain
 
-FRAMES = checked(bytes([5, 1, 0, 0, 0, 1])) + data(b"abc", 1) + b"\xff\xff\x81\x03"
+FRAMES = ack(0) + data(b"abc", 1) + b"\xff\xff\x81\x03"
 EXPLAIN = {
     "--raw": (["--raw"], lambda it: it["form"] == "raw" and "ACK" in it["said"]),
     "--from": (["--from", "hexdump"], lambda it: it["form"] == "dump" and "ACK" in it["said"]),

@@ -1,5 +1,6 @@
-"""The page web/ddcmp.html as a person uses it, and its module by web/ddcmp.mjs, both in Chromium:
-what they show of drawn captures and scripts is what the program prints."""
+"""The page web/ddcmp.html as a person uses it, and its module by web/ddcmp.mjs, in Chromium and
+Firefox: what they show of drawn captures and scripts is what the program prints."""
+import base64
 import glob
 import os
 import re
@@ -8,11 +9,11 @@ import time
 
 import pytest
 from hypothesis import given
-from selenium import webdriver
 from selenium.webdriver.common.by import By
 from selenium.webdriver.common.keys import Keys
 from selenium.webdriver.support.ui import Select, WebDriverWait
 
+from .browsers import Chromium, Firefox
 from .captures import FAULTY, GOOD, randoms, tries
 from .peers import good
 from .process import LONG, TOP, call, contents, holds_within, text_of
@@ -43,6 +44,15 @@ const opens = () => {
 opens();
 Object.defineProperty(navigator, 'serial', { value: { requestPort: async () => port } });
 window.wrote = () => wrote.splice(0);
+// How many timers are set, at most.
+const set = setTimeout, clear = clearTimeout, timers = new Set();
+window.mostTimers = 0;
+window.setTimeout = (run, ms) => {
+  const it = set(() => { timers.delete(it); run(); }, ms);
+  window.mostTimers = Math.max(window.mostTimers, timers.add(it).size);
+  return it;
+};
+window.clearTimeout = (it) => { timers.delete(it); clear(it); };
 """
 
 
@@ -60,40 +70,38 @@ new (async () => {}).constructor('bytes', code)(bytes).then(done, (fault) => don
 """
 
 
-def browser(*options, folder=None):
-    """Chromium, which saves into a folder."""
-    those = webdriver.ChromeOptions()
-    for it in ("headless=new", "no-sandbox", "disable-dev-shm-usage", "window-size=1280,900"):
-        those.add_argument(f"--{it}")
-    for it in options:
-        those.add_argument(it)
-    those.add_experimental_option("prefs", {"download.default_directory": str(folder)})
-    those.set_capability("goog:loggingPrefs", {"browser": "ALL"})
-    return webdriver.Chrome(options=those)
+def module_text():
+    """The module of the page, in base64."""
+    return re.search('id="module">([^<]*)<', text_of("web/ddcmp.html"))[1]
+
+
+def example():
+    """The example of docs/LIBRARY.md."""
+    text = text_of("docs/LIBRARY.md").split("## JavaScript")[1]
+    return "".join(it[4:] for it in text.splitlines(True) if it.startswith("    "))
 
 
 class Module:
     """web/ddcmp.mjs, a call at a time, over the module of the page."""
 
-    def __init__(self, *options):
-        self.driver = browser(*options)
+    def __init__(self, driver):
+        self.driver = driver
         code = "const ddcmp = await load(bytes);" + text_of("tests/module.mjs")
         assert self.runs(code) is None
 
     def runs(self, code):
         """Runs code after that of web/ddcmp.mjs."""
         parts = re.sub("^export ", "", text_of("web/ddcmp.mjs"), flags=re.M), code
-        module = re.search('id="module">([^<]*)<', text_of("web/ddcmp.html"))[1]
-        return self.driver.execute_async_script(SET_UP, "\n".join(parts), module)
+        return self.driver.execute_async_script(SET_UP, "\n".join(parts), module_text())
 
     def __call__(self, name, *given):
         given = [{"hex": it.hex()} if isinstance(it, bytes) else it for it in given]
         return self.driver.execute_script("return answer(...arguments)", name, *given)
 
 
-@pytest.fixture
-def module():
-    it = Module()
+@pytest.fixture(params=[Chromium, Firefox])
+def module(request, tmp_path):
+    it = Module(request.param(tmp_path))
     yield it
     it.driver.quit()
 
@@ -149,11 +157,17 @@ def test_chunks_as_whole(module, draw):
 @tries(200)
 @given(randoms)
 def test_ladder_as_program(module, tmp_path, draw):
-    both = {tmp_path / name: capture(draw) for name in "ab"}
+    form, most = draw.choice(["raw", "hex"]), draw.choice([16383, 40])
+    both = {f"{tmp_path}/{name}": written(draw, capture(draw), form) for name in "ab"}
     for path, text in both.items():
-        path.write_bytes(text)
-    reply = module("ladder", *both.values(), {"form": "raw", "discarded": True})
-    assert is_same(reply, call("explain", "--raw", "--ladder", "--discarded", *map(str, both)))
+        with open(path, "wb") as it:
+            it.write(text)
+    words = [*FORMS[form], "--ladder", "--discarded", f"--max={most}", *both]
+    out, err, status = call("explain", *words)
+    reply = module("ladder", *both.values(), {"form": form, "discarded": True, "max": most})
+    faulty = next((of for of, path in enumerate(both) if path in err), 0)
+    assert is_same(reply, (out, err.replace(f"{list(both)[faulty]}: ", ""), status))
+    assert reply.get("of", 0) == faulty
 
 
 @tries(600)
@@ -191,9 +205,9 @@ def test_refusals(module):
         assert module(how, it, name)["fault"] == "the handle has no station or reader"
 
 
-def test_memory():
+def test_memory(tmp_path):
     """If the browser refuses memory, a call is refused, and a later one is right."""
-    module = Module("--js-flags=--wasm-max-mem-pages=100")
+    module = Module(Chromium(tmp_path, "--js-flags=--wasm-max-mem-pages=100"))
     given = [FRAMES * count for count in range(1, 5000, 250)]
     replies = [module("explain", it, {"form": "raw"}) for it in given]
     assert {it.get("fault") for it in replies} == {None, "memory"}
@@ -231,12 +245,24 @@ def test_stations(module):
 
 
 def test_example(module):
-    """The example of docs/LIBRARY.md runs."""
-    text = text_of("docs/LIBRARY.md").split("## JavaScript")[1]
-    lines = [it[4:] for it in text.splitlines() if it.startswith("    ")]
-    code = "\n".join(it for it in lines if not it.startswith("import "))
+    """The example of docs/LIBRARY.md runs in a browser."""
+    code = re.sub("^import .*", "", example(), flags=re.M)
     code = code.replace("readFileSync('ddcmp.wasm')", "bytes")
     assert module.runs(f"{code}\nreturn station.state;") == "Halted"
+
+
+def test_node(tmp_path):
+    """It runs by node; one before 20 is told what it lacks."""
+    for name, text in (("ddcmp.mjs", contents(f"{TOP}/web/ddcmp.mjs")),
+                       ("ddcmp.wasm", base64.b64decode(module_text())),
+                       ("example.mjs", f"{example()}console.log(station.state);\n".encode())):
+        (tmp_path / name).write_bytes(text)
+    version = subprocess.run(["node", "--version"], stdout=subprocess.PIPE, check=True).stdout
+    knows = int(version[1:].split(b".")[0]) >= 20
+    words = ["node", *["--experimental-wasm-memory64"] * knows, "example.mjs"]
+    ran = subprocess.run(words, cwd=tmp_path, capture_output=True)
+    assert ran.stdout == b"Halted\n" * knows
+    assert knows or b"memory of 64 bits is needed" in ran.stderr
 
 
 @pytest.mark.parametrize("name, words, why", [
@@ -260,21 +286,26 @@ def test_made_again(tmp_path):
     assert (tmp_path / "ddcmp.html").read_bytes() == contents(PAGE)
 
 
-# ---- the page, in Chromium
+# ---- the page
 
 class Page:
     """The page in a browser, which saves into a folder."""
 
-    def __init__(self, folder):
-        self.folder, self.driver = folder, browser(folder=folder)
-        source = {"source": SERIAL}
-        self.driver.execute_cdp_cmd("Page.addScriptToEvaluateOnNewDocument", source)
-        self.js = self.driver.execute_script
+    def __init__(self, driver, folder):
+        self.folder, self.driver = folder, driver
+        self.js = driver.execute_script
 
-    def open(self, address):
+    def open(self, address, path=PAGE):
         self.driver.get("about:blank")
-        self.driver.get(f"file://{PAGE}#{address}")
+        self.driver.get(f"file://{path}#{address}")
         self.until(lambda: self(address.split("=")[0]).is_displayed())
+
+    def open_after(self, script, address):
+        """Opens the page with a script before what forbids others than its own."""
+        head, rest = text_of("web/ddcmp.html").split("<meta", 1)
+        path = self.folder / "page.html"
+        path.write_text(f"{head}<script>{script}</script><meta{rest}")
+        self.open(address, path)
 
     def __call__(self, name):
         return self.driver.find_element(By.ID, name)
@@ -305,15 +336,15 @@ class Page:
         path = self.folder / name
         path.unlink(missing_ok=True)
         self.click(button)
-        assert holds_within(LONG, path.exists), name
+        assert holds_within(LONG, lambda: path.exists() and path.stat().st_size), name
         return path.read_text()
 
 
-@pytest.fixture
-def page(tmp_path):
-    it = Page(tmp_path)
+@pytest.fixture(params=[Chromium, Firefox])
+def page(request, tmp_path):
+    it = Page(request.param(tmp_path), tmp_path)
     yield it
-    faults = [line["message"] for line in it.driver.get_log("browser") if line["level"] == "SEVERE"]
+    faults = it.driver.faults()
     it.driver.quit()
     assert not faults
 
@@ -384,6 +415,11 @@ def test_files(page, tmp_path):
     page.until(lambda: f"{len(files['long'])} bytes" in page.text("totals"))
     ran = call(*SKIPPED, "--json", given=files["long"])[0].decode()
     assert page.saved("save-json", "items.json") == ran
+    page.js("document.getElementById('rows').scrollTop = 26 * 3000")
+    page.until(lambda: page.driver.find_elements(By.ID, "row-3002"))
+    row = next(it for it in page.rows() if it[0] == "3003")
+    page.js("document.getElementById('row-3002').cells[0].click()")
+    page.until(lambda: page.text("item").startswith(f"{row[3]} at {row[2]}"))
     page("second").send_keys(f"{tmp_path}/packets")
     page.until(lambda: page.text("decode-fault").startswith("B: packets (pcap)"))
     page.type("bytes", "05 0z")
@@ -423,10 +459,10 @@ def test_two_stations(page):
     """Buttons make a script, whose replies are shown, and which Simulate takes over."""
     page.open("stations")
     page.click("start-A", "poll-A", "damage-A", "start-B", "both-settle", "send-A", "poll-A",
-               "damage-A", "lose-A", "expire-A", "both-settle", "take-B")
+               "damage-A", "lose-A", "expire-A", "both-settle", "send-B", "take-B")
     lines = ["start A", "poll A", "damage A 6 01", "start B", "settle",
              f"send A {b'hello'.hex()}", "poll A", "damage A 8 01", "lose A", "expire A", "settle",
-             "take B"]
+             f"send B {b'yes'.hex()}", "take B"]
     assert page.text("made").splitlines() == lines and page.text("reply") == "B nothing"
     assert page.text("state-A").startswith("Running R=0 N=1")
     page.click("undo", "take-over")
@@ -435,29 +471,42 @@ def test_two_stations(page):
 
 
 class Far:
-    """A peer in Python at the other end of the serial port; it loses the first message."""
+    """A peer in Python at the other end of the serial port, over a line that loses the first
+    message to it and damages the third, and what it says once before a NAK."""
 
     def __init__(self, page):
-        self.page, self.reader, self.taken, self.mail, self.lost = page, Reader(), 0, [], None
+        self.page, self.reader, self.taken, self.mail, self.count = page, Reader(), 0, [], 0
+        self.refused = self.came = b""
 
     def sends(self, piece):
         self.page.js("window.arrive(arguments[0])", list(piece))
+
+    def sends_damaged(self, piece):
+        self.refused = piece
+        self.sends(piece[:-1] + bytes([piece[-1] ^ 1]))
+
+    def answer(self, frame):
+        self.count += frame.name == "DATA"
+        if frame.name == "NAK":
+            return self.refused
+        if frame.name == "DATA" and self.count in (1, 3):
+            return b"" if self.count == 1 else nak(2, self.taken)
+        return good(self, frame)
 
     def carries(self, holds):
         """Answers what the page wrote until this holds."""
         end = time.monotonic() + LONG
         while not holds():
             assert time.monotonic() < end
-            for frame in self.reader.push(bytes(self.page.js("return window.wrote()"))):
-                if frame.name == "DATA" and not self.lost:
-                    self.lost = frame
-                else:
-                    self.sends(good(self, frame))
+            piece = bytes(self.page.js("return window.wrote()"))
+            self.came += piece
+            for frame in self.reader.push(piece):
+                self.sends(self.answer(frame))
 
 
 def test_port(page):
-    """A station on a serial port: messages in both directions, one of them lost at first."""
-    page.open("port")
+    """A station on a serial port: messages in both directions, over loss, damage and a restart."""
+    page.open_after(SERIAL, "port")
     page.type("timer", "0.4")
     page.click("connect")
     far = Far(page)
@@ -468,14 +517,32 @@ def test_port(page):
     page.type("message", "00 ff" + Keys.ENTER)
     far.carries(lambda: " 0 messages not acknowledged" in page.text("port-state")
                 and far.mail == [b"hello", b"\0\xff"])
+    assert far.count > 3 and "──> REP" in page.text("frames")
+    assert far.came.startswith(b"\x96" * 4 + STRT) and page.js("return window.mostTimers") == 1
     far.sends(data(b"yes", 1, 2))
     far.carries(lambda: page.text("mail") == f"{b'yes'.hex()}\n")
-    assert far.lost and "──> REP" in page.text("frames") and "<── DATA" in page.text("frames")
     page.js("window.fails()")
     page.until(lambda: "FramingError" in page.text("frames"))
-    far.sends(data(b"again", 2, 2))
+    far.sends_damaged(data(b"again", 2, 2))
     far.carries(lambda: page.text("mail").endswith(f"{b'again'.hex()}\n"))
+    assert "──> NAK" in page.text("frames") and "<── DATA" in page.text("frames")
+    numbers = range(3, 13)  # more than its inbox holds, in one piece
+    far.sends(b"".join(data(bytes([it]), it, 2) for it in numbers))
+    far.carries(lambda: page.text("mail").split()[2:] == [f"{it:02x}" for it in numbers])
+    far.taken = 0
+    far.sends(STRT)
+    far.carries(lambda: page.text("port-state").startswith("Running, R=0 N=0"))
+    page.type("message", "61" + Keys.ENTER)
+    far.sends(data(b"anew", 1, 0))
+    far.carries(lambda: far.mail[2:] == [b"a"]
+                and page.text("mail").split()[12:] == [b"anew".hex()])
     page.click("disconnect")
     page.until(lambda: page.js("return window.opened === null"))
     assert page.text("port-state") == "Not connected."
     assert page("connect").is_enabled() and not page("disconnect").is_enabled()
+
+
+def test_without_serial(page):
+    """Where there is no Web Serial, Port says so in place of its buttons."""
+    page.open_after("delete Navigator.prototype.serial", "port")
+    assert page("no-serial").is_displayed() and not page("serial").is_displayed()

@@ -373,19 +373,27 @@ def lossy(one, other, chance):
                     (other if source is one else one).sendall(chunk)
 
 
-def test_lost_bytes():
-    """A line that loses chunks: the reply timer has them retransmitted."""
-    mine, others = messages_of(60), messages_of(60)
+@contextlib.contextmanager
+def lossy_line(mine, others):
+    """A line that loses chunks: this end, and a socket that can be read once its peer has all of
+    mine."""
     (here, near), (there, far), (told, tells) = (socket.socketpair() for _ in range(3))
     pids = [child([here, there], lossy, near, far, 0.1),
             child([here, near, far, told], lingers, there, others, mine, 0.05, tells)]
     for it in (near, far, there):
         it.close()
-    counters = end_of(here, mine, others, 0.05, told)
-    assert counters.expiries != 0 and counters.rep_sent != 0
+    yield here, told
     here.close()
     for pid in pids:
         must_end_well(pid)
+
+
+def test_lost_bytes():
+    """A line that loses chunks: the reply timer has them retransmitted."""
+    mine, others = messages_of(60), messages_of(60)
+    with lossy_line(mine, others) as (here, told):
+        counters = end_of(here, mine, others, 0.05, told)
+    assert counters.expiries != 0 and counters.rep_sent != 0
 
 
 def test_attributes_of_a_port(monkeypatch):

@@ -17,9 +17,9 @@ import pytest
 from . import test_python
 from .process import holds_within
 from .test_python import (
-    SOON, by_hand, child, exchange, lingers, lossy, messages_of, module, must_end_well,
+    SOON, by_hand, child, exchange, lingers, lossy_line, messages_of, module, must_end_well,
     over_library, pair, raised, refused, started)
-from .wire import ack
+from .wire import ack, rep
 
 pytestmark = pytest.mark.limit(240)
 PRINTED = pytest.mark.filterwarnings("ignore::pytest.PytestUnhandledThreadExceptionWarning")
@@ -127,17 +127,9 @@ def test_both_ways(kind):
 def test_lost_bytes_without_calls(kind):
     """A line that loses chunks, and a program that makes no call until its peer has all."""
     mine, others = messages_of(60), messages_of(60)
-    (here, near), (there, far), (told, tells) = (socket.socketpair() for _ in range(3))
-    pids = [child([here, there], lossy, near, far, 0.1),
-            child([here, near, far, told], lingers, there, others, mine, 0.05, tells)]
-    for it in (near, far, there):
-        it.close()
-    with kind(here, 0.05) as line:
+    with lossy_line(mine, others) as (here, told), kind(here, 0.05) as line:
         exchange(line, mine, others)
         assert select.select([told], [], [], SOON)[0]
-    here.close()
-    for pid in pids:
-        must_end_well(pid)
 
 
 def test_busy_program(kind, pair):
@@ -231,6 +223,22 @@ def test_unacknowledged(kind, pair):
     late(line.flush)
     pair[1].shutdown(socket.SHUT_RDWR)
     refused(EOFError, "the line has ended", line.flush, SOON)
+    line.close()
+
+
+def test_timer_starts_anew(kind, pair):
+    """A REP goes a reply timer after the last acknowledgement, and not after the message."""
+    line, there, text = kind(pair[0], 0.6), pair[1], b""
+    with running_by_hand(there):
+        for it in b"a", b"b":
+            line.send(it, SOON)
+        time.sleep(0.4)
+        begun = time.monotonic()
+        there.send(ack(1))
+        there.settimeout(SOON)
+        while not text.endswith(rep(2)):
+            text += there.recv(1 << 16)
+        assert time.monotonic() - begun > 0.55
     line.close()
 
 

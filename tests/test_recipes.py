@@ -7,10 +7,10 @@ import time
 
 import pytest
 
-from .process import PROGRAM, TOP, Link, Process, free_port, holds_within, is_listening, text_of
+from .process import (
+    PROGRAM, TOP, Link, Process, Station, free_port, holds_within, is_listening, text_of)
 from .wire import mail_in
 
-ENDLESS = "4294967295"
 pytestmark = pytest.mark.limit(200)
 
 
@@ -58,11 +58,10 @@ class Recipe:
         return Process(["timeout", "120", "bash", "-c", self.commands(section)],
                        stderr=subprocess.STDOUT)
 
-    def station(self, role, message, turns=ENDLESS, port=None):
+    def station(self, role, message, turns=Station.ENDLESS, port=None):
         """A station with a message, once it listens if it does."""
         port = port or self.port
-        words = ["--addr", f"127.0.0.1:{port}", "--timer-ms", "1000", "--turns", turns]
-        it = Process([*PROGRAM, "station", "--role", role, *words, "--send", message])
+        it = Station(role, port, turns, 1000, "--send", message)
         if role == "listen":
             assert soon(lambda: is_listening(port))
         return it

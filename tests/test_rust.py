@@ -6,7 +6,7 @@ import subprocess
 
 import pytest
 
-from .process import PROGRAM, TOP, Process, free_port, holds_within, is_listening, text_of, version
+from .process import TOP, Process, Station, free_port, holds_within, is_listening, text_of, version
 
 pytestmark = pytest.mark.limit(240)
 TYPES = {"void": "", "bool": "bool", "size_t": "usize",
@@ -96,10 +96,8 @@ def test_crate(cargo):
 def test_example(cargo):
     """The example and a station of the program: each has the other's message."""
     port = free_port()
-    words = ["--role", "listen", "--addr", f"127.0.0.1:{port}", "--turns", "4294967295"]
-    words += ["--timer-ms", "1000", "--send", "616263"]
     target, _ = cargo("build", "--examples")
-    station = Process([*PROGRAM, "station", *words])
+    station = Station("listen", port, Station.ENDLESS, 1000, "--send", "616263")
     assert holds_within(20, lambda: is_listening(port))
     example = Process([f"{target}/debug/examples/tcp", f"127.0.0.1:{port}", "xyz"])
     assert (example.ended(20), example.errors()) == (0, [])

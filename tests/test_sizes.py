@@ -6,7 +6,7 @@ import time
 
 import pytest
 
-from .process import Link, call, listening
+from .process import Link, call, into_pipe, listening
 from .wire import binary, data, rep
 
 pytestmark = pytest.mark.limit(300)
@@ -155,8 +155,7 @@ def test_memory(window, inbox, longest, traced):
     not taken out: 700 KB, and `window + inbox + 12` times the longest message, are enough; with a
     trace 600 KB more."""
     sizes = "--binary", f"--window={window}", f"--inbox={inbox}", f"--max={longest}"
-    unread, taken = os.pipe()
-    link = Link("listen:127.0.0.1:0", *sizes, *["--trace"] * traced, stdout=taken)
+    link, reading = into_pipe(Link, "listen:127.0.0.1:0", *sizes, *["--trace"] * traced)
     port, before = listening(link), link.memory("VmData")
     peer = Link(f"connect:127.0.0.1:{port}", *sizes)
     for it in (link, peer):
@@ -166,6 +165,5 @@ def test_memory(window, inbox, longest, traced):
     after = link.memory("VmData")
     for it in (peer, link):
         it.kill()
-    os.close(taken)
-    os.close(unread)
+    os.close(reading)
     assert after == before <= 700 + 600 * traced + (window + inbox + 12) * longest / 1024

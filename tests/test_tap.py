@@ -12,9 +12,9 @@ import time
 import pytest
 
 from .process import (
-    PROGRAM, Link, Process, call, connected, explained, free_port, port_of, receives,
+    PROGRAM, Link, Process, call, connected, explained, free_port, into_pipe, port_of, receives,
     reset_at_close, sends, server, takes, times)
-from .wire import REASONS, ack, checked, data, drawn, drawn_frames
+from .wire import REASONS, STRT, ack, data, drawn, drawn_frames
 
 pytestmark = pytest.mark.limit(120)
 LONG = 30  # seconds that nothing here may take
@@ -26,7 +26,7 @@ class Tap(Link):
     WORDS = ["tap"]
 
     def __init__(self, *options, alone=0, **streams):
-        port = free_port()
+        port = free_port(step=10)  # just of port 0 it prints the number that the system chose
         with server() as far:
             to = f"127.0.0.1:{port_of(far)}"
             listens = "--listen", f"127.0.0.1:{port}"
@@ -170,9 +170,9 @@ def test_slow(name, other):
 
 def test_half_close():
     tap = Tap()
-    tap.caller.sendall(checked(bytes([5, 6, 0xC0, 0, 0, 1])))
+    tap.caller.sendall(STRT)
     tap.caller.shutdown(socket.SHUT_WR)
-    assert takes(tap.called) == checked(bytes([5, 6, 0xC0, 0, 0, 1]))
+    assert takes(tap.called) == STRT
     assert tap.waits(lambda it: b"> 0 STRT sub=0 q=1 s=1 resp=0 num=0 addr=1\n" in it.out), (
         "a line doesn't go out as it comes")
     assert tap.is_running(), "it didn't go on"
@@ -283,9 +283,8 @@ def test_objects():
 def test_moments():
     """Milliseconds since both were connected, however late that is."""
     tap = Tap("--time", alone=1)
-    ack = checked(bytes([5, 1, 0, 0, 0, 1]))
     for _ in range(4):
-        tap.caller.sendall(ack)
+        tap.caller.sendall(ack(0))
         tap.called.recv(100)
         time.sleep(0.03)
     assert tap.ends() == (0, "")
@@ -332,11 +331,9 @@ def test_ladder(options):
 
 
 def test_output_closed():
-    given, taken = os.pipe()
-    os.close(given)
-    tap = Tap(stdout=taken)
-    os.close(taken)
-    tap.caller.sendall(checked(bytes([5, 1, 0, 0, 0, 1])))
+    tap, reading = into_pipe(Tap)
+    os.close(reading)
+    tap.caller.sendall(ack(0))
     tap.ended(LONG)  # else it may see that both sides are closed first
     assert tap.ends() == (3, "ddcmp: write\n")
 
@@ -345,7 +342,7 @@ class Again(Process):
     """A tap that carries one caller after another, to a peer that listens at this port."""
 
     def __init__(self, far, *options, **streams):
-        self.port = free_port()
+        self.port = free_port(step=10)
         words = ["--listen", f"127.0.0.1:{self.port}", "--connect", f"127.0.0.1:{far}", *options]
         super().__init__([*PROGRAM, "tap", "--again", *words], **streams)
 
@@ -425,7 +422,7 @@ def test_again_unwritten():
     with open("/dev/full", "wb") as full:
         tap = Again(port_of(far), stdout=full)
     caller = connected(tap.port)
-    caller.sendall(checked(bytes([5, 1, 0, 0, 0, 1])))
+    caller.sendall(ack(0))
     far.accept()
     assert (tap.ended(LONG), tap.err) == (3, b"ddcmp: write\n")
 

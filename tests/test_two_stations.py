@@ -11,31 +11,12 @@ import time
 import pytest
 
 from .process import (
-    PROGRAM, Process, connected, free_port, holds_within, is_listening, port_of, receives, refusing,
+    PROGRAM, Process, Station, connected, free_port, holds_within, port_of, receives, refusing,
     server)
 from .wire import STACK, STRT, ack, data, nak
 
-ENDLESS = 4294967295
 CLOSED = r"ddcmp: (ended|read|write)"
 pytestmark = pytest.mark.limit(200)
-
-
-class Station(Process):
-    """A station that runs; if it connects, once its peer listens."""
-
-    def __init__(self, role, port, turns, timer, *options):
-        if role == "connect":
-            holds_within(10, lambda: is_listening(port))
-        words = ["--role", role, "--addr", f"127.0.0.1:{port}", "--turns", str(turns)]
-        words += ["--timer-ms", str(timer), *options]
-        super().__init__([*PROGRAM, "station", *words])
-
-    def has(self, pattern):
-        return any(re.fullmatch(pattern, it) for it in self.lines())
-
-    def must_end(self, status, fault=""):
-        assert self.ended(120) == status, self
-        assert re.fullmatch(fault, self.err.decode().rstrip("\n")), self
 
 
 def test_nobody_listens():
@@ -49,7 +30,7 @@ def test_two_stations():
     more if a busy machine needs them, and with it the connection."""
     for turns in (200, 1000, 5000):
         port = free_port()
-        listener = Station("listen", port, ENDLESS, 1000, "--send", "616263")
+        listener = Station("listen", port, Station.ENDLESS, 1000, "--send", "616263")
         caller = Station("connect", port, turns, 1000, "--send", "78797a", "--counters")
         caller.must_end(0)
         listener.must_end(3, "ddcmp: ended")
@@ -79,7 +60,7 @@ def against(deed, turns, timer, *options):
 
 def test_peer_closes():
     """A peer that closes at once."""
-    against(lambda station, peer: None, ENDLESS, 1000).must_end(3, CLOSED)
+    against(lambda station, peer: None, Station.ENDLESS, 1000).must_end(3, CLOSED)
 
 
 def test_peer_starts_and_closes():
@@ -87,7 +68,7 @@ def test_peer_starts_and_closes():
     def deed(station, peer):
         peer.sendall(STACK)
         assert holds_within(60, lambda: station.has("notice Running"))
-    station = against(deed, ENDLESS, 1000)
+    station = against(deed, Station.ENDLESS, 1000)
     assert station.has("notice Running")
     station.must_end(3, CLOSED)
 
@@ -121,7 +102,7 @@ def test_peer_asks_for_ever():
             with contextlib.suppress(socket.timeout):
                 peer.sendall(nak(2, 0))
     began = time.monotonic()
-    station = against(deed, ENDLESS, 1000, "--send", "61" * 1500)
+    station = against(deed, Station.ENDLESS, 1000, "--send", "61" * 1500)
     assert station.has("notice Running")
     station.must_end(3, "ddcmp: write")
     assert time.monotonic() - began >= 5
@@ -187,7 +168,7 @@ def test_no_turns():
 
 def test_line_that_ends():
     """Then there is no last line."""
-    ends = served([(8, STACK), (8, None)], turns=ENDLESS)
+    ends = served([(8, STACK), (8, None)], turns=Station.ENDLESS)
     assert ends == (RUNS, "ddcmp: ended\n", 3, STRT + ack(0))
 
 

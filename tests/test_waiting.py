@@ -7,9 +7,10 @@ import time
 
 import pytest
 
-from .peers import running, silent
-from .process import PROGRAM, Link, Process, bridged, connected, free_port, server, terminals, times
-from .wire import ack, data
+from .peers import at_a_full_device, running, silent
+from .process import (
+    PROGRAM, Link, Process, bridged, connected, free_port, port_of, server, times)
+from .wire import STACK, ack, data, digits
 
 pytestmark = times
 
@@ -73,14 +74,22 @@ def test_link_whose_peer_is_silent_at_the_end():
     uses_little(link)
 
 
+def test_link_to_a_connection_that_takes_nothing():
+    """What it has to send finds no room."""
+    with server() as it:
+        it.setsockopt(socket.IPPROTO_TCP, socket.TCP_MAXSEG, 536)  # so that little has room
+        it.setsockopt(socket.SOL_SOCKET, socket.SO_RCVBUF, 4096)
+        link = Link(f"connect:127.0.0.1:{port_of(it)}", "--window", "100", "--max", "16383")
+        peer = it.accept()[0]
+    peer.sendall(STACK)
+    link.give(digits([bytes(16383)] * 20), close=False)
+    uses_little(link)
+
+
 def test_link_to_a_device_that_takes_nothing():
     """What it has to send finds no room."""
-    with terminals() as ends, contextlib.ExitStack() as kept:
-        device = os.open(ends[1], os.O_RDWR | os.O_NONBLOCK)
-        kept.callback(os.close, device)
-        link = Link(f"device:{ends[0]}")
-        link.give((b"61" * 500 + b"\n") * 100)
-        uses_little(link)
+    link, _end = at_a_full_device()
+    uses_little(link)
 
 
 def test_link_whose_output_is_a_socket_that_nobody_reads():

@@ -1,8 +1,14 @@
-"""Which files of definitions the contract of a law rests on: those that it cites, and all that these import."""
+#!/usr/bin/env python3
+"""Prints the files of definitions that a law rests on, with what each has: those that it cites, and all that these
+import, none before one that it uses.
+
+    tools/rests.py ddcmp_pair::laws::in_order
+"""
 import os
 import re
+import sys
 
-from sources import read
+from sources import TOP, first_sentence, read
 
 USE = re.compile(r"^\s*(?:ghost |pub )*use Rattle\.(\w+)\.specs\.(\w+)[\w.]*?(?:\.\{([^}]*)\}| as (\w+))?;?$", re.M)
 
@@ -55,3 +61,16 @@ class Definitions:
         words = set(re.findall(r"[^\s(){}\[\],;.]+", found[0]))
         cited = {path for word, path in self.imports(text).items() if word in words}
         return set().union(*map(self.below, cited))
+
+
+def main(law):
+    definitions = Definitions(f"{TOP}/crates")
+    files = definitions.of_law(law) or sys.exit(f"rests: there is no law {law}")
+    texts = {it: read(f"{TOP}/crates/{it}") for it in sorted(files, key=lambda it: (len(definitions.below(it)), it))}
+    for path, text in texts.items():
+        print(f"{path} ({len(text.splitlines())} lines): {first_sentence(text, '--')}")
+    print(f"{len(texts)} files, {sum(len(it.splitlines()) for it in texts.values())} lines")
+
+
+if __name__ == "__main__":
+    main(*sys.argv[1:2] or sys.exit(__doc__))

@@ -13,6 +13,13 @@ def read(path):
         return it.read()
 
 
+def first_sentence(text, mark):
+    """Of the comment that a file begins with."""
+    lines = re.match(rf"(?:{mark} ?.*\n)*", text[text.index(mark) :] if mark in text else "")[0]
+    said = " ".join(it.removeprefix(mark).strip() for it in lines.split("\n"))
+    return re.split(r"(?<=\.) ", said.strip())[0]
+
+
 def lines_of_crates(top=TOP):
     """Of each crate its line in crates.txt."""
     found = re.findall(r"^(([a-z]\w*)[^:\n]*:.*)$", read(f"{top}/crates.txt"), re.M)

@@ -143,6 +143,7 @@ function finish(found) {
   begins(false);
   $('found').hidden = false;
   $('of-end').hidden = raws.length < 2;
+  if (raws.length < 2) $('end').value = '';
   $('rows').classList.toggle('one', raws.length < 2);
   showTotals();
   filter();

@@ -15,6 +15,7 @@ use crate::parser::{Made, with_command};
 use crate::script_args::{PAIR, SIMULATE, ScriptArgs, script_given, script_parser};
 use crate::station_args::{StationArgs, station_given, station_parser};
 use crate::tap_args::{TapArgs, tap_given, tap_parser};
+use crate::units::with_unit;
 use clap::error::ErrorKind;
 use clap::{ArgMatches, Error};
 use std::alloc::Global;
@@ -69,7 +70,10 @@ fn decline(alloc: Global, error: &Error) -> NoCommand
             ErrorKind::OutOfMemory => NoCommand::Memory,
             ErrorKind::DisplayHelp => NoCommand::Help(text),
             ErrorKind::DisplayVersion => NoCommand::Version(text),
-            _ => NoCommand::Usage(text),
+            _ => match with_unit(alloc, text) {
+                Ok(text) => NoCommand::Usage(text),
+                Err(_refused) => NoCommand::Memory,
+            },
         },
         Err(_refused) => NoCommand::Memory,
     }

@@ -15,6 +15,7 @@ pub mod script_args;
 mod size_args;
 pub mod station_args;
 pub mod tap_args;
+mod units;
 pub mod view;
 
 pub use bridge_args::BridgeArgs;

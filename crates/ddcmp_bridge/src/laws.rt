@@ -1,5 +1,5 @@
-//! What holds of a direction that agrees with its lines: functions without an effect, whose contracts
-//! are the laws.
+//! What holds of a direction that agrees with its lines: functions without an effect, whose
+//! contracts are the laws.
 ghost use Rattle.std.specs.Prelude.{◌≡◌, ◌++◌, [], List, ℕ};
 ghost use Rattle.rand_pcg.specs.Lcg.{Lcg};
 ghost use Rattle.ddcmp_bridge.specs.Delaying.{DirectionView, Directs};

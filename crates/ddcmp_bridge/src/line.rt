@@ -5,7 +5,7 @@ ghost use Rattle.ddcmp_ports.specs.LineNames.{open_fault_of};
 use crate::errors::BridgeErrors;
 use crate::pause::Pause;
 use ddcmp_io::LineKind;
-use ddcmp_ports::{Attempt, Down, LineName, OpenFault, OpenRefusal, Retry};
+use ddcmp_ports::{Attempt, DeviceOpened, Down, LineName, OpenFault, OpenRefusal, Retry};
 use std::fmt;
 
 /// How far a line is open.
@@ -87,10 +87,13 @@ impl<'a> BridgeLine<'a> {
         self.pause.ends_at
     }
 
-    /// Notes that it is open.
-    pub(crate) fn opened(&mut self)
+    /// Notes that it is open, and reports that of a device, which has no address.
+    pub(crate) fn opened(&mut self, errors: &mut BridgeErrors)
         ensures { self.new ≡ record self.old { stage = Stage.Open } }
     {
+        if let LineName::Device(path) = self.name {
+            errors.report(DeviceOpened { path });
+        }
         self.stage = Stage::Open;
     }
 
@@ -141,8 +144,10 @@ impl<'a> BridgeLine<'a> {
     /// Prepares for opening it again. If no good frame came over both lines, and it isn't one for
     /// callers, that is after a pause.
     pub(crate) fn reopens(&mut self, has_passed: bool, now: u64, errors: &mut BridgeErrors)
-        ensures { self.new
+        ensures stays { self.new
             ≡ record self.old { pause = self.new.pause; over = None; broken = None } }
+        ensures pause { has_passed ≡ true
+            → self.new.pause ≡ record { seconds = 0; ends_at = 0 } }
     {
         self.over = None;
         self.broken = None;

@@ -13,6 +13,5 @@ pub use Rattle.ddcmp_explain.specs.Text
 pub use Rattle.ddcmp_explain.specs.Json
 pub use Rattle.ddcmp_explain.specs.Output
 pub use Rattle.ddcmp_explain.specs.Explains
-pub use Rattle.ddcmp_explain.specs.Dumps
 pub use Rattle.ddcmp_net.specs.Serving
 pub use Rattle.ddcmp_args.specs.Args

@@ -20,8 +20,8 @@ pub use ddcmp_commands::{
 };
 pub use ddcmp_device::BridgeFault;
 pub use ddcmp_explain::{
-    DumpFault, ExplainFault, Form, NotDumped, Notation, Style, dump, dump_fault, explain,
-    explain_as, explain_dump, explain_fault, explain_with, explanation, form, notation, style,
+    ExplainFault, Form, InputForm, NotDumped, Notation, Style, explain, explain_fault,
+    explain_with, explanation, form, notation, style,
 };
 pub use ddcmp_link::{LinkFailure, LinkOutcome, Options};
 pub use ddcmp_net::{SERVED_MAX, ServeFault, serve, serve_fault, server};

@@ -4,9 +4,7 @@ use Rattle.std.specs.Prelude.{◌≢◌, ◌⊎◌, ◌++◌, ℕ, List, [], Opt
 use Rattle.std.specs.Io.KnownBytes.{Keeps}
 use Rattle.std.specs.declared.io.ErrorKind.{ErrorKind}
 use Rattle.ddcmp_explain.specs.declared.explain_fault.ExplainFault.{ExplainFault}
-use Rattle.ddcmp_explain.specs.declared.detected_fault.DetectedFault.{DetectedFault}
-use Rattle.ddcmp_explain.specs.declared.detected_fault.DetectedFault.TheVariants as detecting
-use Rattle.ddcmp_explain.specs.declared.dump_fault.DumpFault.{DumpFault}
+use Rattle.ddcmp_explain.specs.declared.explain_fault.ExplainFault.TheVariants as explaining
 use Rattle.ddcmp_line.specs.declared.script_fault.ScriptFault.{ScriptFault}
 use Rattle.ddcmp_line.specs.declared.script_fault.ScriptFault.TheVariants as scripting
 use Rattle.ddcmp_commands.specs.declared.fault.Fault.{Fault}
@@ -29,24 +27,15 @@ use Rattle.ddcmp_io.specs.Causes.{cause_words}
 use Rattle.ddcmp_io.specs.Change.{SourceChange}
 use Rattle.ddcmp_io.specs.Input.{GaveMost}
 use Rattle.ddcmp_io.specs.Written.{Known}
-use Rattle.ddcmp_explain.specs.Detection.{digits_fault, dump_fault as dump_fault_of}
 
--- the program's fault for one of an input whose form was detected
-abbrev pub detected_fault : DetectedFault → Fault
-detected_fault detecting.Odd = Odd
-detected_fault (detecting.NotHex index) = NotHex index
-detected_fault (detecting.Line line) = Dump line
-detected_fault detecting.Read = Read
-detected_fault detecting.Write = Write
-detected_fault detecting.Memory = NoMemory
-
--- for one of an input of digits or raw bytes
+-- the program's fault for one of an input
 abbrev pub explain_fault : ExplainFault → Fault
-explain_fault fault = detected_fault (digits_fault fault)
-
--- for one of a dump
-abbrev pub dump_fault : DumpFault → Fault
-dump_fault fault = detected_fault (dump_fault_of fault)
+explain_fault explaining.Odd = Odd
+explain_fault (explaining.NotHex index) = NotHex index
+explain_fault (explaining.Line line) = Dump line
+explain_fault explaining.Read = Read
+explain_fault explaining.Write = Write
+explain_fault explaining.Memory = NoMemory
 
 -- for one of a script
 abbrev pub script_fault : ScriptFault → Fault

@@ -3,8 +3,6 @@ use Rattle.std.specs.Prelude.{if◌then◌else◌, ◌||◌, is_some, is_none, N
 use Rattle.std.specs.Prelude.{false, ◌≡◌, ◌⊎◌, ℕ, List, Option, Some, Result}
 use Rattle.std.specs.Io.KnownBytes.{Keeps}
 use Rattle.ddcmp_explain.specs.declared.explain_fault.ExplainFault.{ExplainFault}
-use Rattle.ddcmp_explain.specs.declared.detected_fault.DetectedFault.{DetectedFault}
-use Rattle.ddcmp_explain.specs.declared.dump_fault.DumpFault.{DumpFault}
 use Rattle.ddcmp_commands.specs.declared.fault.Fault.TheVariants.{Write, Memory as NoMemory}
 use Rattle.ddcmp_commands.specs.declared.ending.Ending.{Ending}
 use Rattle.ddcmp_commands.specs.declared.ending.Ending.TheVariants.{Done, Unread, Fault as Faulted}
@@ -13,43 +11,17 @@ use Rattle.ddcmp_explain.specs.declared.form.Form.{Form}
 use Rattle.ddcmp_explain.specs.declared.form.Form.TheVariants as form
 use Rattle.ddcmp_args.specs.declared.explain_args.ExplainArgs.{ExplainArgs}
 use Rattle.ddcmp_io.specs.Written.{Known}
-use Rattle.ddcmp_explain.specs.Detection.{ExplainsDetected}
-use Rattle.ddcmp_explain.specs.Dumps.{ExplainsDump}
 use Rattle.ddcmp_explain.specs.Explains.{Explains}
-use Rattle.ddcmp_commands.specs.Origins.{origin_of, written as written_of}
-use Rattle.ddcmp_explain.specs.declared.input_bytes.InputForm.{InputForm}
-use Rattle.ddcmp_explain.specs.declared.input_bytes.InputForm.TheVariants.{As, Detected}
-use Rattle.ddcmp_explain.specs.declared.input_bytes.InputForm.TheVariants as written
-use Rattle.ddcmp_commands.specs.Endings.{detected_fault, explain_fault, dump_fault, ending_of}
+use Rattle.ddcmp_commands.specs.Origins.{origin_of, written}
+use Rattle.ddcmp_commands.specs.Endings.{explain_fault, ending_of}
 use Rattle.ddcmp_commands.specs.Endings.{Streams, Untouched, IsUnopened, ReadsFile, is_json}
 use Rattle.ddcmp_commands.specs.Endings.{UnlessMisused}
 
--- an input of this form was explained, and the ending reports the result
-abbrev pub ExplainsTo : Form → ExplainArgs → Streams → Ending → Type 0
-ExplainsTo by e s ending =
-    (result : Result (Unit {0}) ExplainFault) × (ending ≡ ending_of explain_fault result)
-    × Explains by e.style e.max s.input s.left s.before s.after result
-
--- a dump was explained, and the ending reports the result
-abbrev pub ExplainsDumpTo : ExplainArgs → Streams → Ending → Type 0
-ExplainsDumpTo e s ending =
-    (result : Result (Unit {0}) DumpFault) × (ending ≡ ending_of dump_fault result)
-    × ExplainsDump e.style e.max s.input s.left s.before s.after result
-
--- an input whose form was detected was explained, and the ending reports the result
-abbrev pub ExplainsDetectedTo : ExplainArgs → Streams → Ending → Type 0
-ExplainsDetectedTo e s ending =
-    (result : Result (Unit {0}) DetectedFault) × (ending ≡ ending_of detected_fault result)
-    × ExplainsDetected e.style e.max s.input s.left s.before s.after result
-
--- an input that is written like this was explained
-abbrev pub ExplainsBy : InputForm → ExplainArgs → Streams → Ending → Type 0
-ExplainsBy (As by) e s ending = ExplainsTo by e s ending
-ExplainsBy written.Dump e s ending = ExplainsDumpTo e s ending
-ExplainsBy Detected e s ending = ExplainsDetectedTo e s ending
-
+-- An input was explained, and the ending reports the result.
 abbrev pub ExplainsInput : ExplainArgs → Streams → Ending → Type 0
-ExplainsInput e s ending = ExplainsBy (written_of e) e s ending
+ExplainsInput e s ending =
+    (result : Result (Unit {0}) ExplainFault) × (ending ≡ ending_of explain_fault result)
+    × Explains (written e) e.style e.max s.input s.left s.before s.after result
 
 -- Standard input was explained; or a file was, and standard input wasn't read. `held` has the
 -- contents of files by their names.
@@ -66,6 +38,7 @@ is_misused asked None = false
 is_misused form.Raw (Some word) = true
 is_misused form.Hex (Some word) = is_none (origin_of word.now)
 is_misused form.Text (Some word) = is_none (origin_of word.now)
+is_misused form.Dump (Some word) = is_none (origin_of word.now)
 
 -- A ladder needs two files and can't be in JSON; two files are only for a ladder.
 abbrev pub is_ladder_misused : ExplainArgs → Bool

@@ -5,15 +5,15 @@ use Rattle.std.specs.Option.{option_and_then}
 use Rattle.std.specs.Str.{bytes_eq}
 use Rattle.clap.specs.Words.{Text}
 use Rattle.ddcmp_explain.specs.declared.form.Form.TheVariants as form
-use Rattle.ddcmp_explain.specs.declared.input_bytes.InputForm.{InputForm}
-use Rattle.ddcmp_explain.specs.declared.input_bytes.InputForm.TheVariants.{As, Dump, Detected}
+use Rattle.ddcmp_explain.specs.declared.form.InputForm.{InputForm}
+use Rattle.ddcmp_explain.specs.declared.form.InputForm.TheVariants.{As, Detected}
 use Rattle.ddcmp_args.specs.declared.explain_args.ExplainArgs.{ExplainArgs}
 
 -- The dumps of three programs have one parser.
 abbrev pub origin_of : Text → Option InputForm
 origin_of word =
     if bytes_eq word (codes "hexdump") || bytes_eq word (codes "xxd") || bytes_eq word (codes "od")
-    then Some Dump
+    then Some (As form.Dump)
     else if bytes_eq word (codes "text") then Some (As form.Text)
     else if bytes_eq word (codes "auto") then Some Detected
     else None

@@ -17,7 +17,7 @@ use crate::origin::{origin_of, written};
 use crate::tap_command::{TWO_NOTATIONS, is_json};
 use crate::usage::usage;
 use ddcmp_args::ExplainArgs;
-use ddcmp_explain::{DetectedFault, Form, InputForm, explain_detected, explain_dump, explain_with};
+use ddcmp_explain::{Form, InputForm, explain_with};
 use ddcmp_io::{Sink, Source, Worst};
 use std::alloc::Global;
 
@@ -36,7 +36,7 @@ const NO_LADDER: &str = "SECOND is for '--ladder'";
 /// Returns what is to be typed, for a terminal.
 fn expected_input(args: &ExplainArgs<'_>) -> &'static str {
     match written(args) {
-        InputForm::Dump => "a dump",
+        InputForm::As(Form::Dump) => "a dump",
         InputForm::Detected => "hexadecimal digits, a dump or bytes",
         InputForm::As(Form::Hex | Form::Text) => "hexadecimal digits",
         InputForm::As(Form::Raw) => "bytes",
@@ -60,19 +60,9 @@ fn explain_source<R: Source, W: Sink>(
         (R.state reader.new)) (W.broken writer.new) result }
 {
     let ExplainArgs { style, max, .. } = *args;
-    match written(args) {
-        InputForm::As(form) => match explain_with(alloc, reader, writer, form, style, max) {
-            Ok(()) => Ending::Done,
-            Err(fault) => Ending::Fault(Fault::from(DetectedFault::from(fault))),
-        },
-        InputForm::Dump => match explain_dump(alloc, reader, writer, style, max) {
-            Ok(()) => Ending::Done,
-            Err(fault) => Ending::Fault(Fault::from(DetectedFault::from(fault))),
-        },
-        InputForm::Detected => match explain_detected(alloc, reader, writer, style, max) {
-            Ok(()) => Ending::Done,
-            Err(fault) => Ending::Fault(Fault::from(fault)),
-        },
+    match explain_with(alloc, reader, writer, written(args), style, max) {
+        Ok(()) => Ending::Done,
+        Err(fault) => Ending::Fault(Fault::from(fault)),
     }
 }
 
@@ -136,7 +126,7 @@ fn is_misused(form: Form, from: Option<&str>) -> bool
         None => false,
         Some(word) => match form {
             Form::Raw => true,
-            Form::Hex | Form::Text => origin_of(word).is_none(),
+            Form::Hex | Form::Text | Form::Dump => origin_of(word).is_none(),
         },
     }
 }
@@ -145,7 +135,7 @@ fn is_misused(form: Form, from: Option<&str>) -> bool
 fn misuse(form: Form) -> &'static str {
     match form {
         Form::Raw => TWO_FORMS,
-        Form::Hex | Form::Text => NO_ORIGIN,
+        Form::Hex | Form::Text | Form::Dump => NO_ORIGIN,
     }
 }
 

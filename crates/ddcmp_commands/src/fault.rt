@@ -1,8 +1,8 @@
 //! Why a command didn't complete.
 ghost use Rattle.std.specs.Prelude.{◌≡◌};
-ghost use Rattle.ddcmp_commands.specs.Endings.{detected_fault, script_fault, serve_fault};
+ghost use Rattle.ddcmp_commands.specs.Endings.{explain_fault, script_fault, serve_fault};
 
-use ddcmp_explain::{DetectedFault, ExplainFault, NotDumped};
+use ddcmp_explain::{ExplainFault, NotDumped};
 use ddcmp_line::ScriptFault;
 use ddcmp_net::ServeFault;
 use ddcmp_station::LineFault;
@@ -34,17 +34,17 @@ pub enum Fault {
     Lost(u64),
 }
 
-impl From<DetectedFault> for Fault {
-    ghost from_gives = { λ fault made. made ≡ detected_fault fault };
+impl From<ExplainFault> for Fault {
+    ghost from_gives = { λ fault made. made ≡ explain_fault fault };
 
-    fn from(fault: DetectedFault) -> Fault {
+    fn from(fault: ExplainFault) -> Fault {
         match fault {
-            DetectedFault::Odd => Fault::Odd,
-            DetectedFault::NotHex(index) => Fault::NotHex(index),
-            DetectedFault::Line(line) => Fault::Dump(line),
-            DetectedFault::Read => Fault::Read,
-            DetectedFault::Write => Fault::Write,
-            DetectedFault::Memory => Fault::Memory,
+            ExplainFault::Odd => Fault::Odd,
+            ExplainFault::NotHex(index) => Fault::NotHex(index),
+            ExplainFault::Line(line) => Fault::Dump(line),
+            ExplainFault::Read => Fault::Read,
+            ExplainFault::Write => Fault::Write,
+            ExplainFault::Memory => Fault::Memory,
         }
     }
 }

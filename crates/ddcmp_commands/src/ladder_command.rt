@@ -9,7 +9,7 @@ use crate::file_pair::{FilePair, HalfPair};
 use crate::inputs::{Inputs, unopened};
 use crate::origin::written;
 use ddcmp_args::ExplainArgs;
-use ddcmp_explain::DetectedFault;
+use ddcmp_explain::ExplainFault;
 use ddcmp_io::{Sink, Source};
 use ddcmp_log::{NoMemory, Side};
 use ddcmp_tap::{Capture, DrawFault, draw_captures};
@@ -44,7 +44,7 @@ fn is_refused<R: Source>(pair: &RefCell<FilePair<R>>) -> bool {
 }
 
 /// Returns the ending if the file of this name had a fault.
-fn unread(alloc: Global, name: &str, fault: DetectedFault) -> Ending
+fn unread(alloc: Global, name: &str, fault: ExplainFault) -> Ending
     ensures { IsUnread name.now result ⊎ (result ≡ Ending.Fault Fault.Memory) }
 {
     match String::from_str(alloc, name) {

@@ -11,7 +11,7 @@ pub(crate) fn origin_of(word: &str) -> Option<InputForm>
     ensures { result ≡ origin_of_word word.now }
 {
     if word == "hexdump" || word == "xxd" || word == "od" {
-        Some(InputForm::Dump)
+        Some(InputForm::As(Form::Dump))
     } else if word == "text" {
         Some(InputForm::As(Form::Text))
     } else if word == "auto" {

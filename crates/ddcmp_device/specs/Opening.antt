@@ -5,14 +5,16 @@ use Rattle.ddcmp_ports.specs.declared.event.LineEvent.TheVariants as event
 use Rattle.ddcmp_device.specs.declared.line.Line.{Line as LineValue}
 use Rattle.ddcmp_device.specs.declared.line.Line.TheVariants as line
 use Rattle.ddcmp_device.specs.declared.opener.Opened.{Opened}
-use Rattle.ddcmp_device.specs.declared.opener.Opened.TheVariants.{Line, Connected, Connecting}
+use Rattle.ddcmp_device.specs.declared.opener.Opened.TheVariants.{Bound, Line, Connected}
+use Rattle.ddcmp_device.specs.declared.opener.Opened.TheVariants.{Connecting}
 use Rattle.ddcmp_device.specs.declared.opener.Opened.TheVariants.{Listening, NotYet, Refused}
 use Rattle.ddcmp_io.specs.declared.line_kind.LineKind.{LineKind}
 use Rattle.ddcmp_io.specs.declared.line_kind.LineKind.TheVariants as kind
 
--- what is reported: nothing if the line isn't a connection
+-- what is reported: nothing of a device
 abbrev pub event_of : Opened → Option LineEvent
 event_of (Line it) = None
+event_of (Bound it local peer) = Some (event.Bound local peer)
 event_of (Connected it peer) = Some (event.Connected peer)
 event_of (Connecting peer) = Some (event.Connecting peer)
 event_of (Listening address) = Some (event.Listening address)
@@ -22,6 +24,7 @@ event_of NotYet = None
 -- the line, if it is open
 abbrev pub line_of : Opened → Option LineValue
 line_of (Line it) = Some it
+line_of (Bound it local peer) = Some it
 line_of (Connected it peer) = Some it
 line_of (Connecting peer) = None
 line_of (Listening address) = None
@@ -46,7 +49,7 @@ Opens kind.Listen (Listening address) = ⊤
 Opens kind.Listen (Connected (line.Stream stream) peer) = ⊤
 Opens kind.Listen (Refused peer) = ⊤
 Opens kind.Listen NotYet = ⊤
-Opens kind.Datagrams (Line (line.Datagrams socket peer)) = ⊤
+Opens kind.Datagrams (Bound (line.Datagrams socket remote) local peer) = ⊤
 Opens kind.Device (Line (line.Device file)) = ⊤
 Opens _ _ = ⊥
 

@@ -1,11 +1,13 @@
 //! A line: a socket or a device, read and written without blocking.
-ghost use Rattle.std.specs.Prelude.{◌≡◌, ◌≢◌, ℕ, IfErr, IfOk, MatchResult, Ok, false, true};
+ghost use Rattle.std.specs.Prelude.{◌≡◌, ◌≢◌, ℕ, IfErr, IfOk, MatchResult, None, Ok};
+ghost use Rattle.std.specs.Prelude.{Some, false, true};
 ghost use Rattle.std.specs.IoError.{error_kind};
 ghost use Rattle.ddcmp_device.specs.Inside.Lines.{has_datagrams, heard_by_error, moved_by_error};
 ghost use Rattle.ddcmp_device.specs.Inside.Lines.{received_by_error, sent_by_error};
 ghost use Rattle.ddcmp_io.specs.declared.transfer.Down.{Down as DownValue};
 
 use ddcmp_io::{Down, Transfer};
+use ddcmp_ports::LineEvent;
 use ddcmp_station::Clock;
 use mio::net::{TcpStream, UdpSocket};
 use std::fs::File;
@@ -72,6 +74,19 @@ fn received_by(answer: io::Result<(usize, SocketAddr)>, remote: SocketAddr) -> T
             ErrorKind::Interrupted => Transfer::Interrupted,
             _ => Transfer::Nothing,
         },
+    }
+}
+
+/// Returns what is to be reported of a datagram that isn't the peer's.
+fn stranger(answer: &io::Result<(usize, SocketAddr)>, remote: SocketAddr) -> Option<LineEvent>
+    ensures peer { (n : ℕ) → answer.now ≡ Ok (n, remote) → result ≡ None }
+    ensures other { IfOk answer.now (λ got. got.1 ≢ remote
+        → result ≡ Some (LineEvent.Stranger got.1 remote)) }
+    ensures error { IfErr answer.now (λ error. result ≡ None) }
+{
+    match answer {
+        Ok((_, sender)) if *sender != remote => Some(LineEvent::Stranger(*sender, remote)),
+        Ok(_) | Err(_) => None,
     }
 }
 
@@ -187,11 +202,15 @@ impl Line {
         }
     }
 
-    /// Reads received bytes.
-    pub fn read(&mut self, space: &mut [u8]) -> Transfer {
+    /// Reads received bytes. A datagram that isn't the peer's is dropped, and `event` reports it.
+    pub fn read(&mut self, space: &mut [u8], event: &mut Option<LineEvent>) -> Transfer {
         match self {
             Line::Stream(stream) => read_by(stream.read(space)),
-            Line::Datagrams(socket, remote) => received_by(socket.recv_from(space), *remote),
+            Line::Datagrams(socket, remote) => {
+                let answer = socket.recv_from(space);
+                *event = stranger(&answer, *remote);
+                received_by(answer, *remote)
+            }
             Line::Device(file) => {
                 let answer = file.read(space);
                 // A terminal that was hung up is none any more.

@@ -9,14 +9,18 @@ use crate::poller::{Descriptor, reported_by};
 use crate::standard_stream::{StandardStream, write_errors};
 use crate::system::System;
 use ddcmp_bridge::{BridgeEnd, TwoLines};
-use ddcmp_ports::{self as ports, Buffers, Machine, Opening, Port, Transfer};
+use ddcmp_ports::{self as ports, Buffers, LineEvent, Machine, Opening, Port, Transfer};
 use ddcmp_station::{Clock, Elapsed};
 use mio::{Events, Interest, Poll, Token};
 use std::alloc::Global;
+use std::fmt::InlineText;
 use std::io;
 use std::time::Duration;
 
 const ERRORS: Token = Token(0);
+
+/// The room for the line of an event, which has two addresses at most.
+const EVENT_ROOM: usize = 256;
 
 /// The longest single wait, in milliseconds.
 const HOUR_MS: u64 = 3_600_000;
@@ -153,6 +157,28 @@ impl<'a, S: System> Live<'a, S> {
         moved_by(write_errors(self.system, &mut self.errors, there, bytes))
     }
 
+    /// Prints what is to be reported of a line; returns it if standard error isn't ready.
+    fn print_event(&mut self, event: Option<LineEvent>) -> Option<LineEvent>
+        ensures moment { self.new.moment ≡ self.old.moment }
+    {
+        let text = InlineText::<EVENT_ROOM>::of(event?).and_str("\n", EVENT_ROOM);
+        match self.print(text.as_str().as_bytes()) {
+            Transfer::Bytes(0) | Transfer::Nothing => event,
+            Transfer::Bytes(_) | Transfer::Over(_) => None,
+        }
+    }
+
+    /// Prints what is to be reported of both lines, while nothing else is to be printed; returns
+    /// whether some is left.
+    fn print_events(&mut self) -> bool
+        ensures moment { self.new.moment ≡ self.old.moment }
+    {
+        let (first, second) = (self.first.event, self.second.event);
+        self.first.event = self.print_event(first);
+        self.second.event = self.print_event(second);
+        self.first.event.is_some() || self.second.event.is_some()
+    }
+
     /// Waits until something is ready, at most this many milliseconds; returns whether it could.
     fn wait_for(&mut self, most_ms: u64) -> bool {
         let most = Some(Duration::from_millis(most_ms.min(HOUR_MS)));
@@ -247,7 +273,7 @@ impl<S: System> ports::System for Live<'_, S> {
     fn wait<M: Machine>(&mut self, machine: &M, _held: &Buffers, most_ms: u64) -> bool {
         let first = wanted_of(machine, Port::First);
         let second = wanted_of(machine, Port::Second);
-        let errors = !machine.pending(Port::Errors).is_empty();
+        let errors = !machine.pending(Port::Errors).is_empty() || self.print_events();
         let most_ms = self.first.wait_ms(&self.poll, first, self.moment, most_ms);
         let most_ms = self
             .second

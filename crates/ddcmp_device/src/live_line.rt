@@ -1,5 +1,6 @@
 //! A line of a bridge, on the system's devices.
-ghost use Rattle.std.specs.Prelude.{◌≡◌, ◌≢◌, ◌≤◌, ◌⊎◌, ◌+◌, ◌^◌, ◌-◌, IfSome, IsTrue, false, length, min};
+ghost use Rattle.std.specs.Prelude.{◌≡◌, ◌≢◌, ◌≤◌, ◌⊎◌, ◌+◌, ◌^◌, ◌-◌, IfSome, IsTrue, false};
+ghost use Rattle.std.specs.Prelude.{length, min};
 ghost use Rattle.ddcmp_bridge.specs.Crossing.{plan_of};
 ghost use Rattle.ddcmp_device.specs.Inside.Lines.{is_datagrams};
 ghost use Rattle.ddcmp_device.specs.Inside.Lives.{plan};
@@ -17,7 +18,7 @@ use crate::save::Save;
 use crate::system::System;
 use ddcmp_bridge::Counts;
 use ddcmp_io::LineKind;
-use ddcmp_ports::{Cause, Down, LineName, Machine, Need, Opening, Port, Transfer};
+use ddcmp_ports::{Cause, Down, LineEvent, LineName, Machine, Need, Opening, Port, Transfer};
 use ddcmp_station::Clock;
 use mio::{Poll, Token};
 use std::alloc::Global;
@@ -66,6 +67,10 @@ pub(crate) struct LiveLine<'a> {
     cut: u64,
     /// The file that all received bytes are saved in, if there is one.
     save: Option<Save>,
+    /// What is to be reported of the first datagram that wasn't the peer's.
+    pub(crate) event: Option<LineEvent>,
+    /// Whether there was such a datagram.
+    had_event: bool,
 }
 
 // Manual, since a derived `Drop` would be expanded wherever a value is dropped.
@@ -80,6 +85,8 @@ impl Drop for LiveLine<'_> {
             framing: _framing,
             cut: _,
             save: _save,
+            event: _,
+            had_event: _,
         } = self;
     }
 }
@@ -107,6 +114,8 @@ impl<'a> LiveLine<'a> {
             framing: Framing::new(alloc, ddcmp_frame::MAX_COUNT).ok()?,
             cut: 0,
             save,
+            event: None,
+            had_event: false,
         })
     }
 
@@ -171,8 +180,13 @@ impl<'a> LiveLine<'a> {
         if !self.place.may_read() {
             return Transfer::Nothing;
         }
-        let got = moved_by(line.read(space));
+        let mut event = None;
+        let got = moved_by(line.read(space, &mut event));
         self.place.was_read(matches!(got, Transfer::Nothing));
+        if event.is_some() && !self.had_event {
+            self.event = event;
+            self.had_event = true;
+        }
         match got {
             Transfer::Bytes(n) => {
                 let n = n.min(space.len());

@@ -55,6 +55,8 @@ impl Drop for Opener<'_> {
 #[derive(Drop)]
 pub enum Opened {
     Line(Line),
+    /// A line of datagrams, its own address and its peer's.
+    Bound(Line, SocketAddr, SocketAddr),
     /// A connection, and its peer.
     Connected(Line, SocketAddr),
     /// A connection to this address was begun.
@@ -73,6 +75,7 @@ impl Opened {
         ensures { result ≡ event_of self.now }
     {
         match self {
+            Opened::Bound(_, local, peer) => Some(LineEvent::Bound(*local, *peer)),
             Opened::Connected(_, peer) => Some(LineEvent::Connected(*peer)),
             Opened::Connecting(peer) => Some(LineEvent::Connecting(*peer)),
             Opened::Listening(addr) => Some(LineEvent::Listening(*addr)),
@@ -86,7 +89,8 @@ impl Opened {
         ensures { result ≡ line_of self }
     {
         match self {
-            Opened::Line(line) | Opened::Connected(line, _) => Some(line),
+            Opened::Line(line) | Opened::Bound(line, _, _) => Some(line),
+            Opened::Connected(line, _) => Some(line),
             Opened::Connecting(_) | Opened::Listening(_) | Opened::Refused(_) | Opened::NotYet =>
                 None,
         }
@@ -397,11 +401,24 @@ fn accepted<N: Net>(
 fn address<N: Net>(net: &N, name: &str, index: usize) -> Result<Option<SocketAddr>, Cause> {
     match name.to_socket_addrs(net) {
         Ok(mut found) => Ok(found.nth(index)),
-        Err(error) => Err(match error.kind() {
-            ErrorKind::InvalidInput => Cause::System(ErrorKind::InvalidInput),
-            _ => Cause::UnknownHost,
-        }),
+        Err(error) => Err(misnamed(name, error.kind())),
     }
+}
+
+/// Returns what is wrong with a name of which no address was found, for this reason.
+fn misnamed(name: &str, kind: ErrorKind) -> Cause {
+    match name.rsplit_once(':') {
+        None if is_port(name) => Cause::NoHost,
+        Some(("", port)) if is_port(port) => Cause::NoHost,
+        Some((_, port)) if !is_port(port) => Cause::NoPort,
+        _ if kind == ErrorKind::InvalidInput => Cause::System(kind),
+        _ => Cause::UnknownHost,
+    }
+}
+
+/// Returns whether a word is the number of a port.
+fn is_port(word: &str) -> bool {
+    word.parse::<u16>().is_ok()
 }
 
 /// Returns the address of this index of one end of a line of datagrams; an error if there is none
@@ -476,21 +493,23 @@ fn bound<N: Net>(
 {
     let (local, remote) = addresses(net, local, remote)?;
     match bind(net, poll, place, local) {
-        Ok(socket) => Ok(Opened::Line(Line::Datagrams(socket, remote))),
+        Ok((socket, local)) => Ok(Opened::Bound(Line::Datagrams(socket, remote), local, remote)),
         Err(error) => Err(refused_by(&error)),
     }
 }
 
+/// Binds a socket of datagrams to an address, and returns that: the port may be left to the system.
 fn bind<N: Net>(
     net: &N,
     poll: &Poll,
     place: &mut LinePlace,
     local: SocketAddr,
-) -> io::Result<UdpSocket> {
+) -> io::Result<(UdpSocket, SocketAddr)> {
     let mut socket = UdpSocket::bind(net, local)?;
+    let local = socket.local_addr()?;
     prepare_datagrams(&socket);
     place.add_socket(poll, &mut socket)?;
-    Ok(socket)
+    Ok((socket, local))
 }
 
 /// Opens a character device for nonblocking reads and writes, and locks it; nothing else is opened

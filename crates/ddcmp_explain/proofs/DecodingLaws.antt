@@ -7,30 +7,16 @@ use Rattle.std.proofs.lemmas.List.{append-nil, take_more, take_more_set, take-ap
 use Rattle.std.proofs.Math.Seq.{take-add}
 use Rattle.std.proofs.lemmas.Simd.{length-chunk}
 use lib.Lanes.{chunk, Each1}
-use Rattle.ddcmp_explain.specs.declared.decoder.Decoded.{Decoded}
-use Rattle.ddcmp_explain.specs.declared.form.Form.{Form}
 use Rattle.ddcmp_explain.specs.declared.form.Form.TheVariants.{Hex}
-use Rattle.ddcmp_explain.specs.Digits.{bytes_of, hex_value, is_blank, is_readable}
-use Rattle.ddcmp_explain.specs.Digits.{first_unexpected, digits}
+use Rattle.ddcmp_explain.specs.Digits.{hex_value, is_blank, is_readable, first_unexpected, digits}
 use Rattle.ddcmp_explain.specs.Digits.{pairs, left_over, spelled}
-use Rattle.ddcmp_explain.specs.Inside.Decoding.{Decodes, place_of}
+use Rattle.ddcmp_explain.specs.Inside.Decoding.{Decodes}
 use Rattle.ddcmp_explain.proofs.DigitLaws.{readable-more, unexpected-here, unexpected-more}
 use Rattle.ddcmp_explain.proofs.DigitLaws.{digits-more, digits-found, digits-blank}
 use Rattle.ddcmp_explain.proofs.DigitLaws.{digits-unexpected, digits-digit, pairs-held, pairs-whole}
 use Rattle.ddcmp_explain.proofs.DigitLaws.{readable-digit, readable-blank, readable-neither}
 use Rattle.ddcmp_explain.proofs.DigitLaws.{unexpected-none, digits-none}
 use Rattle.ddcmp_io.proofs.VectorLaws.{sixteen}
-
--- the bytes of a piece, from where they are
-pub spelled-by : (bytes : List ℕ) {form later : Form} {seen piece part : List ℕ}
-    {decoded : Decoded} {high : Option ℕ}
-    → Decodes form seen piece decoded (place_of form piece bytes) high
-    → later ≡ form → part ≡ take decoded.count (place_of later piece bytes)
-    → bytes_of form (seen ++ piece) ≡ bytes_of form seen ++ part
-spelled-by bytes {form} {later} {seen} {piece} {part} {decoded} d same is =
-    d.whole
-    ∙ ap (λ t. bytes_of form seen ++ t)
-    (sym (is ∙ ap (λ f. take decoded.count (place_of f piece bytes)) same))
 
 module _ (seen piece bytes : List ℕ) (i n : ℕ) (high : Option ℕ) (inside : i < length piece)
     (so_far : Decodes Hex seen (take i piece) (record { count = n; unexpected = None }) bytes high)

@@ -1,25 +1,13 @@
--- Which form an input has, judged by its first bytes, and what explain then does with it.
-use Rattle.std.specs.Prelude.{◌≡◌, ◌⊎◌, ℕ, ◌+◌, ◌<◌, ◌==◌, ◌&&◌, ◌||◌, nat_lt, nat_le, Bool}
-use Rattle.std.specs.Prelude.{if◌then◌else◌, List, [], ◌∷◌, ◌++◌, length, take, Option, Some}
-use Rattle.std.specs.Prelude.{Result, Ok, Err}
+-- Which form an input has, judged by its first bytes.
+use Rattle.std.specs.Prelude.{ℕ, ◌+◌, ◌==◌, ◌&&◌, ◌||◌, nat_lt, nat_le, Bool, if◌then◌else◌, List}
+use Rattle.std.specs.Prelude.{[], ◌∷◌, take}
 use Rattle.std.specs.Char.{is_ascii_hexdigit}
-use Rattle.std.specs.Io.KnownBytes.{Keeps}
-use Rattle.ddcmp_input.specs.Dump.{shown}
-use Rattle.ddcmp_io.specs.Written.{Known}
-use Rattle.ddcmp_explain.specs.declared.detected_fault.DetectedFault.{DetectedFault}
-use Rattle.ddcmp_explain.specs.declared.detected_fault.DetectedFault.TheVariants as detecting
-use Rattle.ddcmp_explain.specs.declared.detection.Detected.{Detected}
-use Rattle.ddcmp_explain.specs.declared.detection.Detected.TheVariants.{Raw, Dump, Text}
 use Rattle.ddcmp_explain.specs.declared.detection.Sight.{Sight}
 use Rattle.ddcmp_explain.specs.declared.detection.Sight.TheVariants as sight
-use Rattle.ddcmp_explain.specs.declared.dump_fault.DumpFault.{DumpFault}
-use Rattle.ddcmp_explain.specs.declared.dump_fault.DumpFault.TheVariants as dumping
-use Rattle.ddcmp_explain.specs.declared.explain_fault.ExplainFault.{ExplainFault}
-use Rattle.ddcmp_explain.specs.declared.explain_fault.ExplainFault.TheVariants as digits
-use Rattle.ddcmp_explain.specs.declared.form.Form.TheVariants as form
-use Rattle.ddcmp_explain.specs.declared.style.Style.{Style}
-use Rattle.ddcmp_explain.specs.Dumps.{ExplainsDump}
-use Rattle.ddcmp_explain.specs.Explains.{Answer, Explains, refusal}
+use Rattle.ddcmp_explain.specs.declared.form.Form.{Form}
+use Rattle.ddcmp_explain.specs.declared.form.Form.TheVariants.{Raw, Dump, Text}
+use Rattle.ddcmp_explain.specs.declared.form.InputForm.{InputForm}
+use Rattle.ddcmp_explain.specs.declared.form.InputForm.TheVariants.{As, Detected}
 
 -- printable ASCII, tab, CR and LF
 abbrev pub is_text : ℕ → Bool
@@ -68,7 +56,7 @@ unfoldable pub sight_from : Sight → List ℕ → Sight
 sight_from at [] = at
 sight_from at (c ∷ rest) = sight_from (sight_after at c) rest
 
-abbrev pub detected_at : Sight → Detected
+abbrev pub detected_at : Sight → Form
 detected_at sight.Start = Text
 detected_at (sight.Address count) = Text
 detected_at sight.Colon = Text
@@ -77,65 +65,14 @@ detected_at sight.Dump = Dump
 detected_at sight.Text = Text
 detected_at sight.Raw = Raw
 
-abbrev pub detected_first : List ℕ → Detected
+abbrev pub detected_first : List ℕ → Form
 detected_first first = detected_at (sight_from sight.Start first)
 
 -- the form of an input, detected from its first 64 bytes
-abbrev pub detected : List ℕ → Detected
+abbrev pub detected : List ℕ → Form
 detected input = detected_first (take 64 input)
 
--- ---- what explain does then
-
-abbrev pub digits_fault : ExplainFault → DetectedFault
-digits_fault digits.Odd = detecting.Odd
-digits_fault (digits.NotHex index) = detecting.NotHex index
-digits_fault digits.Read = detecting.Read
-digits_fault digits.Write = detecting.Write
-digits_fault digits.Memory = detecting.Memory
-
-abbrev pub dump_fault : DumpFault → DetectedFault
-dump_fault (dumping.Line line) = detecting.Line line
-dump_fault dumping.Read = detecting.Read
-dump_fault dumping.Write = detecting.Write
-dump_fault dumping.Memory = detecting.Memory
-
-abbrev pub result_by : {F : Type 0} → (F → DetectedFault) → Result (Unit {0}) F
-    → Result (Unit {0}) DetectedFault
-result_by name (Ok u) = Ok u
-result_by name (Err fault) = Err (name fault)
-
--- The result and output are those of explain for an input of that form.
-abbrev pub ExplainsAs : Detected → Style → ℕ → List ℕ → Known → Known → Known
-    → Result (Unit {0}) DetectedFault → Type 0
-ExplainsAs Raw style max input left old new result =
-    (by : Answer) × (result ≡ result_by digits_fault by)
-    × Explains form.Raw style max input left old new by
-ExplainsAs Text style max input left old new result =
-    (by : Answer) × (result ≡ result_by digits_fault by)
-    × Explains form.Text style max input left old new by
-ExplainsAs Dump style max input left old new result =
-    (by : Result (Unit {0}) DumpFault) × (result ≡ result_by dump_fault by)
-    × ExplainsDump style max input left old new by
-
--- A read failed before 64 bytes or the end of the input were read, and nothing was written.
-pub record IsUndetected (input : List ℕ) (left old new : Known)
-    (result : Result (Unit {0}) DetectedFault) : Type 0 where
-  pub seen : List ℕ
-  pub rest : List ℕ
-  pub parts : input ≡ seen ++ rest
-  pub left_is : left ≡ Some rest
-  pub short : length seen < 64
-  pub kept : Keeps old new
-  pub answer : result ≡ Err detecting.Read
-
-abbrev pub ExplainsDetected : Style → ℕ → List ℕ → Known → Known → Known
-    → Result (Unit {0}) DetectedFault → Type 0
-ExplainsDetected style max input left old new result =
-    IsUndetected input left old new result
-    ⊎ ExplainsAs (detected input) style max input left old new result
-
--- why an input of this form is refused, if it is
-abbrev pub refusal_as : Detected → List ℕ → Option ExplainFault
-refusal_as Raw input = refusal form.Raw input
-refusal_as Text input = refusal form.Text input
-refusal_as Dump input = refusal form.Hex (shown input)
+-- the form in which an input is read
+abbrev pub form_in : InputForm → List ℕ → Form
+form_in (As form) input = form
+form_in Detected input = detected input

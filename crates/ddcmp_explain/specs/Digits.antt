@@ -1,12 +1,13 @@
--- How an input encodes bytes: as hexadecimal digits, as a log, or raw.
+-- How an input encodes bytes: as hexadecimal digits, as a log, raw, or as a dump.
 use Rattle.std.specs.Prelude.{ℕ, ◌+◌, ◌*◌, ◌==◌, ◌||◌, nat_lt, Bool, not, is_some, List, [], ◌∷◌}
 use Rattle.std.specs.Prelude.{◌++◌, ◌<◌, true, false, if◌then◌else◌, option_to_list, Option}
 use Rattle.std.specs.Prelude.{Some, None}
 use Rattle.std.specs.Option.{ForSome, option_map}
 use Rattle.std.specs.Char.{digit_value}
 use Rattle.std.specs.List.{filter_map, take_while, position_from}
+use Rattle.ddcmp_input.specs.Dump.{shown}
 use Rattle.ddcmp_explain.specs.declared.form.Form.{Form}
-use Rattle.ddcmp_explain.specs.declared.form.Form.TheVariants.{Hex, Text, Raw}
+use Rattle.ddcmp_explain.specs.declared.form.Form.TheVariants.{Hex, Text, Raw, Dump}
 use Rattle.ddcmp_explain.specs.declared.spot.Spot.{Spot}
 use Rattle.ddcmp_explain.specs.declared.spot.Spot.TheVariants.{Between, Zero, Prefixed, Half}
 use Rattle.ddcmp_explain.specs.declared.spot.Spot.TheVariants.{Comment, Wrong}
@@ -134,31 +135,35 @@ half_at (Half high) = Some high
 half_at Comment = None
 half_at Wrong = None
 
--- ---- for each form
+-- ---- for each form; a dump encodes what the digits of its data do
 
 -- the complete bytes of an input
 abbrev pub bytes_of : Form → List ℕ → List ℕ
 bytes_of Hex input = spelled input
 bytes_of Text input = logged_from Between input
 bytes_of Raw input = input
+bytes_of Dump input = spelled (shown input)
 
 -- the index of the first byte that isn't allowed where it is
 abbrev pub unexpected_in : Form → List ℕ → Option ℕ
 unexpected_in Hex input = first_unexpected input
 unexpected_in Text input = wrong_from Between 0 input
 unexpected_in Raw input = None
+unexpected_in Dump input = first_unexpected (shown input)
 
 -- the digit that is left over, if there is one
 abbrev pub left_in : Form → List ℕ → List ℕ
 left_in Hex input = left_over (digits input)
 left_in Text input = option_to_list (half_at (spot_from Between input))
 left_in Raw input = []
+left_in Dump input = left_over (digits (shown input))
 
 -- the state of the log parser after an input
 abbrev pub spot_in : Form → List ℕ → Spot
 spot_in Hex input = Between
 spot_in Text input = spot_from Between input
 spot_in Raw input = Between
+spot_in Dump input = Between
 
 -- The digit that is left over is below 16.
 abbrev pub IsSmall : Spot → Type 0

@@ -1,5 +1,4 @@
 pub mod Inside
-pub mod Dumps
 pub mod Digits
 pub mod Logs
 pub mod Text
@@ -8,4 +7,5 @@ pub mod Output
 pub mod Discarded
 pub mod Explains
 pub mod Detection
+pub mod Reads
 pub mod Label

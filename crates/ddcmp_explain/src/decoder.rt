@@ -1,11 +1,11 @@
-//! The bytes that an input encodes, chunk by chunk.
+//! The bytes that digits encode, chunk by chunk.
 ghost use Rattle.std.specs.Prelude.{◌≡◌, ◌+◌, ◌≤◌, ◌<◌, ◌++◌, IfSome, List, ℕ, None, Some, length};
 ghost use Rattle.std.specs.Prelude.{get_or, option_to_list, take};
 ghost use Rattle.std.specs.Option.{ForSome};
+ghost use Rattle.ddcmp_explain.specs.declared.form.Form.TheVariants as form;
 ghost use Rattle.ddcmp_explain.specs.Digits.{IsSmall, hex_value as hex_value_of, left_in, spot_in};
 ghost use Rattle.ddcmp_explain.specs.Digits.{unexpected_in};
 
-use crate::form::Form;
 use crate::hex_digits::{hex_value, is_blank};
 use crate::hex_values::put_eight;
 use crate::spot::Spot;
@@ -15,11 +15,9 @@ const SHORTEST: usize = 16;
 
 const LONGEST: usize = 1024;
 
-/// Decodes an input in one of the forms; keeps the digit that is left over, and the state of the
-/// log parser.
+/// Decodes digits; keeps the digit that is left over, and the state of the log parser.
 #[derive(Drop)]
 pub(crate) struct Decoder {
-    pub(crate) form: Form,
     pub(crate) high: Option<u8>,
     pub(crate) spot: Spot,
     ghost digit: { ForSome high (λ v. v < 16) },
@@ -35,67 +33,27 @@ pub(crate) struct Decoded {
 }
 
 impl Decoder {
-    ghost use Rattle.ddcmp_explain.specs.Inside.Decoding.{Decodes, place_of};
+    ghost use Rattle.ddcmp_explain.specs.Inside.Decoding.{Decodes};
 
     /// Returns a decoder that has read nothing.
-    pub(crate) fn new(form: Form) -> Self
-        ensures form { result.form ≡ form }
+    pub(crate) fn new() -> Self
         ensures none { result.high ≡ None }
         ensures spot { result.spot ≡ Spot.Between }
     {
         Decoder {
-            form,
             high: None,
             spot: Spot::Between,
         }
     }
 
-    /// Decodes a chunk; digits are decoded into the front of `bytes`, raw bytes stay in the chunk.
-    pub(crate) fn decode(&mut self, piece: &[u8], bytes: &mut [u8]) -> Decoded
-        requires { length piece.now ≤ length bytes.old }
-        ensures form { self.new.form ≡ self.old.form }
-        ensures within { result.count ≤ length piece.now }
-        ensures inside { IfSome result.unexpected (λ i. i < length piece.now) }
-        ensures decodes { (seen : List ℕ) → unexpected_in self.old.form seen ≡ None
-            → left_in self.old.form seen ≡ option_to_list self.old.high
-            → spot_in self.old.form seen ≡ self.old.spot
-            → Decodes self.old.form seen piece.now result
-            (place_of self.old.form piece.now bytes.new) self.new.high }
-        ensures spot { (seen : List ℕ) → unexpected_in self.old.form seen ≡ None
-            → spot_in self.old.form seen ≡ self.old.spot → result.unexpected ≡ None
-            → spot_in self.old.form (seen ++ piece.now) ≡ self.new.spot }
-    {
-        match self.form {
-            Form::Hex => self.pair(piece, bytes),
-            Form::Text => self.spell(piece, bytes),
-            Form::Raw => Decoded {
-                count: piece.len(),
-                unexpected: None,
-            },
-        }
-    }
-
-    /// Returns the first `count` bytes of a chunk that was decoded.
-    pub(crate) fn decoded<'a>(&self, piece: &'a [u8], bytes: &'a [u8], count: usize) -> &'a [u8]
-        requires piece { count ≤ length piece.now }
-        requires bytes { count ≤ length bytes.now }
-        ensures { result.now ≡ take count (place_of self.now.form piece.now bytes.now) }
-    {
-        match self.form {
-            Form::Hex | Form::Text => &bytes[..count],
-            Form::Raw => &piece[..count],
-        }
-    }
-
     /// Decodes pairs of digits, up to the first byte that is neither a digit nor blank.
-    fn pair(&mut self, piece: &[u8], bytes: &mut [u8]) -> Decoded
+    pub(crate) fn pair(&mut self, piece: &[u8], bytes: &mut [u8]) -> Decoded
         requires { length piece.now ≤ length bytes.old }
-        ensures form { self.new.form ≡ self.old.form }
         ensures within { result.count ≤ length piece.now }
         ensures inside { IfSome result.unexpected (λ i. i < length piece.now) }
-        ensures decodes { (seen : List ℕ) → unexpected_in Form.Hex seen ≡ None
-            → left_in Form.Hex seen ≡ option_to_list self.old.high
-            → Decodes Form.Hex seen piece.now result bytes.new self.new.high }
+        ensures decodes { (seen : List ℕ) → unexpected_in form.Hex seen ≡ None
+            → left_in form.Hex seen ≡ option_to_list self.old.high
+            → Decodes form.Hex seen piece.now result bytes.new self.new.high }
         ensures spot { self.new.spot ≡ self.old.spot }
     {
         let mut count = 0;
@@ -150,17 +108,16 @@ impl Decoder {
     }
 
     /// Decodes a log, up to the first character that isn't allowed where it is.
-    fn spell(&mut self, piece: &[u8], bytes: &mut [u8]) -> Decoded
+    pub(crate) fn spell(&mut self, piece: &[u8], bytes: &mut [u8]) -> Decoded
         requires { length piece.now ≤ length bytes.old }
-        ensures form { self.new.form ≡ self.old.form }
         ensures within { result.count ≤ length piece.now }
         ensures inside { IfSome result.unexpected (λ i. i < length piece.now) }
-        ensures decodes { (seen : List ℕ) → unexpected_in Form.Text seen ≡ None
-            → spot_in Form.Text seen ≡ self.old.spot
-            → Decodes Form.Text seen piece.now result bytes.new self.new.high }
-        ensures spot { (seen : List ℕ) → unexpected_in Form.Text seen ≡ None
-            → spot_in Form.Text seen ≡ self.old.spot → result.unexpected ≡ None
-            → spot_in Form.Text (seen ++ piece.now) ≡ self.new.spot }
+        ensures decodes { (seen : List ℕ) → unexpected_in form.Text seen ≡ None
+            → spot_in form.Text seen ≡ self.old.spot
+            → Decodes form.Text seen piece.now result bytes.new self.new.high }
+        ensures spot { (seen : List ℕ) → unexpected_in form.Text seen ≡ None
+            → spot_in form.Text seen ≡ self.old.spot → result.unexpected ≡ None
+            → spot_in form.Text (seen ++ piece.now) ≡ self.new.spot }
     {
         let mut count = 0;
         let mut i = 0;

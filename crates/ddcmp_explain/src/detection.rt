@@ -4,16 +4,7 @@ ghost use Rattle.ddcmp_explain.specs.Detection.{address_then, blanks_then, colon
 ghost use Rattle.ddcmp_explain.specs.Detection.{detected_at, detected_first};
 ghost use Rattle.ddcmp_explain.specs.Detection.{is_text as is_text_byte, sight_after, start_then};
 
-/// The form of an input.
-#[derive(Clone, Copy)]
-pub enum Detected {
-    /// Raw bytes.
-    Raw,
-    /// A dump of `hexdump -C`, `xxd` or `od -A x -t x1`.
-    Dump,
-    /// Hexadecimal digits, as in logs.
-    Text,
-}
+use crate::form::Form;
 
 /// The detector's state: what the bytes so far may be the beginning of.
 #[derive(Clone, Copy)]
@@ -53,14 +44,14 @@ impl Sight {
     }
 
     /// Returns the form of an input that begins with the bytes so far.
-    fn detected(self) -> Detected
+    fn detected(self) -> Form
         ensures { result ≡ detected_at self }
     {
         match self {
-            Sight::Raw => Detected::Raw,
-            Sight::Dump => Detected::Dump,
+            Sight::Raw => Form::Raw,
+            Sight::Dump => Form::Dump,
             Sight::Start | Sight::Address(_) | Sight::Colon | Sight::Blanks | Sight::Text =>
-                Detected::Text,
+                Form::Text,
         }
     }
 }
@@ -123,7 +114,7 @@ fn in_blanks(byte: u8) -> Sight
 }
 
 /// Returns the form of an input that begins with these bytes.
-pub(crate) fn detect(first: &[u8]) -> Detected
+pub(crate) fn detect(first: &[u8]) -> Form
     ensures { result ≡ detected_first first.now }
 {
     let mut sight = Sight::Start;

@@ -7,7 +7,7 @@ ghost use Rattle.ddcmp_explain.specs.Discarded.{passed_text};
 ghost use Rattle.ddcmp_explain.specs.Inside.Putting.{Puts};
 
 use crate::json::{put_header as put_json_header, put_start};
-use crate::notation::Notation;
+use crate::notation::{LinePart, Notation};
 use crate::put::{LINE, put, put_number};
 use crate::skipped::Skipped;
 use crate::text::put_header;
@@ -34,23 +34,16 @@ fn put_skipped(line: &mut [u8; LINE], notation: Notation, it: Skipped) -> usize
     }
 }
 
-/// Writes the line of skipped bytes, the offset of the first and how many, without its first `from`
-/// bytes.
-pub fn write_discarded<W: Sink>(
-    page: &mut Page,
-    writer: &mut W,
-    notation: Notation,
-    it: Skipped,
-    from: usize,
-)
-    requires { from ≤ 1 }
+/// Writes the line of skipped bytes, the offset of the first and how many.
+pub fn write_discarded<W: Sink>(page: &mut Page, writer: &mut W, part: LinePart, it: Skipped)
+    requires { part.from ≤ 1 }
     ensures { HandsOver (output_of W.broken W.contents writer.old page.old)
         (output_of W.broken W.contents writer.new page.new)
-        (drop from (passed_text notation it.from it.count)) }
+        (drop part.from (passed_text part.notation it.from it.count)) }
 {
     let mut line = [0; LINE];
-    let end = put_skipped(&mut line, notation, it);
-    page.write(writer, &line[..end][from..]);
+    let end = put_skipped(&mut line, part.notation, it);
+    page.write(writer, &line[..end][part.from..]);
 }
 
 /// Puts the line of an incomplete frame, up to its numbers, as plain text; returns where it ends.

@@ -1,4 +1,5 @@
 //! Why an input wasn't explained to its end.
+use ddcmp_input::NotDumped;
 use thiserror::Error;
 
 /// Why an input wasn't explained to its end.
@@ -9,6 +10,9 @@ pub enum ExplainFault {
     /// The index, from 0, of the first byte that isn't allowed where it is.
     #[error("not hexadecimal at {0}")]
     NotHex(u64),
+    /// A line isn't one of a dump, or is `*`, which stands for omitted lines.
+    #[error("{0}")]
+    Line(NotDumped),
     #[error("read")]
     Read,
     #[error("write")]

@@ -10,4 +10,14 @@ pub enum Form {
     Text,
     /// Raw bytes.
     Raw,
+    /// A dump of `hexdump -C`, `xxd` or `od -A x -t x1`.
+    Dump,
+}
+
+/// In which form an input is read.
+#[derive(Clone, Copy, PartialEq, Eq)]
+pub enum InputForm {
+    As(Form),
+    /// The form is detected from the first 64 bytes: raw, a dump, or digits as in logs.
+    Detected,
 }

@@ -7,6 +7,7 @@ ghost use Rattle.ddcmp_explain.specs.Json.{json_counted, json_fault, json_fields
 ghost use Rattle.ddcmp_explain.specs.Json.{json_front, json_item, json_reason, json_start};
 ghost use Rattle.ddcmp_explain.specs.Json.{json_totals, member, quoted, reason_in_words};
 
+use crate::notation::Totals;
 use crate::put::{LINE, put, put_byte, put_number, put_slice};
 use crate::reasons::reason_name;
 use crate::text::lends;
@@ -214,24 +215,19 @@ pub(crate) fn put_json_front(line: &mut [u8; LINE], item: &Item) -> usize
     put_slice(line, after_item, item_end(item))
 }
 
-/// Puts the last line: how many items, how many bytes, and how many of these in the incomplete
-/// frame; returns where it ends.
+/// Puts the last line; returns where it ends.
 #[inline(never)]
-pub(crate) fn put_json_totals(
-    line: &mut [u8; LINE],
-    items: u64,
-    bytes: u64,
-    left_open: u64,
-) -> usize
-    ensures puts { Puts line.old 0 line.new result (json_totals items bytes left_open) }
+pub(crate) fn put_json_totals(line: &mut [u8; LINE], totals: Totals) -> usize
+    ensures puts { Puts line.old 0 line.new result
+        (json_totals totals.items totals.bytes totals.left_open) }
     ensures some { 1 ≤ result }
     ensures within { result ≤ 90 }
 {
     let at_items = put(line, 0, b"{\"items\":");
-    let after_items = put_number(line, at_items, items);
+    let after_items = put_number(line, at_items, totals.items);
     let at_bytes = put(line, after_items, b",\"bytes\":");
-    let after_bytes = put_number(line, at_bytes, bytes);
+    let after_bytes = put_number(line, at_bytes, totals.bytes);
     let at_open = put(line, after_bytes, b",\"open\":");
-    let after_open = put_number(line, at_open, left_open);
+    let after_open = put_number(line, at_open, totals.left_open);
     put(line, after_open, b"}\n")
 }

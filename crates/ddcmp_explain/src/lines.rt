@@ -11,7 +11,7 @@ ghost use Rattle.ddcmp_explain.specs.Inside.Heads.{Heads};
 
 use crate::discards::{write_discarded, write_open};
 use crate::head::Head;
-use crate::notation::{Notation, write_item, write_item_by, write_last};
+use crate::notation::{Notation, Totals, write_item, write_item_by, write_last};
 use crate::put::LINE;
 use crate::skipped::{Reached, finds_good, reached_by};
 use crate::style::Style;
@@ -76,6 +76,7 @@ impl Lines {
         if self.style.discarded {
             return self.push_one(writer, bytes[0]);
         }
+        let part = self.style.notation.whole();
         // The data of a frame that is whole in the bytes are written from there.
         let at = self.frames.offset();
         if let Some(fields) = self.frames.push_frame(bytes) {
@@ -83,15 +84,7 @@ impl Lines {
             let end = fields.count as usize + 8;
             let item = Item::Good(at, Header::Data(fields));
             let data = &bytes[8..end];
-            write_item_by(
-                line,
-                &mut self.page,
-                writer,
-                self.style.notation,
-                &item,
-                data,
-                0,
-            );
+            write_item_by(line, &mut self.page, writer, part, &item, data);
             return end + 2;
         }
         let Pushed { used, item } = self.frames.push_all(bytes);
@@ -99,15 +92,7 @@ impl Lines {
             Some(item) => {
                 self.items += 1;
                 let data = self.frames.data();
-                write_item_by(
-                    line,
-                    &mut self.page,
-                    writer,
-                    self.style.notation,
-                    &item,
-                    data,
-                    0,
-                );
+                write_item_by(line, &mut self.page, writer, part, &item, data);
             }
             None => {}
         }
@@ -136,7 +121,8 @@ impl Lines {
                 self.is_found = finds_good(self.is_found, &item);
                 self.reach(writer, &item);
                 let data = self.frames.data();
-                write_item(&mut self.page, writer, self.style.notation, &item, data, 0);
+                let part = self.style.notation.whole();
+                write_item(&mut self.page, writer, part, &item, data);
             }
             None => {}
         }
@@ -175,7 +161,8 @@ impl Lines {
     {
         match self.reached.skipped_to(to) {
             Some(it) => {
-                write_discarded(&mut self.page, writer, self.style.notation, it, 0);
+                let part = self.style.notation.whole();
+                write_discarded(&mut self.page, writer, part, it);
             }
             None => {}
         }
@@ -286,16 +273,13 @@ impl Lines {
         let bytes = self.frames.offset();
         let left_open = self.frames.open() as u64;
         self.write_end(writer, bytes, left_open);
-        let notation = self.style.notation;
-        write_last(
-            &mut self.page,
-            writer,
-            notation,
-            self.items,
+        let part = self.style.notation.whole();
+        let totals = Totals {
+            items: self.items,
             bytes,
             left_open,
-            0,
-        );
+        };
+        write_last(&mut self.page, writer, part, totals);
         self.page.flush(writer)
     }
 }

@@ -1,5 +1,5 @@
 //! The notation of lines.
-ghost use Rattle.std.specs.Prelude.{◌≤◌, drop};
+ghost use Rattle.std.specs.Prelude.{◌≡◌, ◌≤◌, drop};
 ghost use Rattle.ddcmp_io.specs.Written.{HandsOver, output_of};
 ghost use Rattle.ddcmp_explain.specs.Output.{after_in, front_in, line_in, totals_in};
 ghost use Rattle.ddcmp_explain.specs.Inside.Putting.{Puts};
@@ -22,6 +22,17 @@ pub enum Notation {
 }
 
 impl Notation {
+    /// Returns a whole line in this notation.
+    #[inline(always)]
+    pub fn whole(self) -> LinePart
+        ensures { result ≡ record { notation = self; from = 0 } }
+    {
+        LinePart {
+            notation: self,
+            from: 0,
+        }
+    }
+
     /// Puts the line of an item, up to its data; returns where it ends.
     #[inline(always)]
     fn put_front(self, line: &mut [u8; LINE], item: &Item) -> usize
@@ -48,34 +59,49 @@ impl Notation {
     }
 
     /// Puts the last line; returns where it ends.
-    fn put_totals(self, line: &mut [u8; LINE], items: u64, bytes: u64, left_open: u64) -> usize
-        ensures puts { Puts line.old 0 line.new result (totals_in self items bytes left_open) }
+    fn put_totals(self, line: &mut [u8; LINE], totals: Totals) -> usize
+        ensures puts { Puts line.old 0 line.new result
+            (totals_in self totals.items totals.bytes totals.left_open) }
         ensures some { 1 ≤ result }
         ensures within { result ≤ 90 }
     {
         match self {
-            Notation::Plain => put_totals(line, items, bytes, left_open),
-            Notation::Json => put_json_totals(line, items, bytes, left_open),
+            Notation::Plain => put_totals(line, totals),
+            Notation::Json => put_json_totals(line, totals),
         }
     }
 }
 
-/// Writes the line of an item, with its data, without its first `from` bytes.
+/// The part of a line that is written: in this notation, without the first `from` bytes.
+#[derive(Clone, Copy)]
+pub struct LinePart {
+    pub notation: Notation,
+    pub from: usize,
+}
+
+/// The counts of a last line: of items, of bytes, and of those in the incomplete frame.
+#[derive(Clone, Copy)]
+pub struct Totals {
+    pub items: u64,
+    pub bytes: u64,
+    pub left_open: u64,
+}
+
+/// Writes the line of an item, with its data.
 pub fn write_item<W: Sink>(
     page: &mut Page,
     writer: &mut W,
-    notation: Notation,
+    part: LinePart,
     item: &Item,
     data: &[u8],
-    from: usize,
 )
-    requires { from ≤ 1 }
+    requires { part.from ≤ 1 }
     ensures { HandsOver (output_of W.broken W.contents writer.old page.old)
         (output_of W.broken W.contents writer.new page.new)
-        (drop from (line_in notation (item.now, «data».now))) }
+        (drop part.from (line_in part.notation (item.now, «data».now))) }
 {
     let mut line = [0; LINE];
-    write_item_by(&mut line, page, writer, notation, item, data, from);
+    write_item_by(&mut line, page, writer, part, item, data);
 }
 
 /// Does the same by way of `line`, which it overwrites and which needn't be cleared for each item.
@@ -84,21 +110,20 @@ pub(crate) fn write_item_by<W: Sink>(
     line: &mut [u8; LINE],
     page: &mut Page,
     writer: &mut W,
-    notation: Notation,
+    part: LinePart,
     item: &Item,
     data: &[u8],
-    from: usize,
 )
-    requires { from ≤ 1 }
+    requires { part.from ≤ 1 }
     ensures { HandsOver (output_of W.broken W.contents writer.old page.old)
         (output_of W.broken W.contents writer.new page.new)
-        (drop from (line_in notation (item.now, «data».now))) }
+        (drop part.from (line_in part.notation (item.now, «data».now))) }
 {
-    let end = notation.put_front(line, item);
-    page.write(writer, &line[..end][from..]);
+    let end = part.notation.put_front(line, item);
+    page.write(writer, &line[..end][part.from..]);
     if lends(item) {
         write_hex(page, writer, data);
-        notation.write_after(page, writer);
+        part.notation.write_after(page, writer);
     }
 }
 
@@ -112,23 +137,14 @@ pub fn write_words<W: Sink>(page: &mut Page, writer: &mut W, item: &Item)
     page.write(writer, &line[..end]);
 }
 
-/// Writes the last line: how many items, how many bytes, and how many of these in the incomplete
-/// frame; without its first `from` bytes.
-pub fn write_last<W: Sink>(
-    page: &mut Page,
-    writer: &mut W,
-    notation: Notation,
-    items: u64,
-    bytes: u64,
-    left_open: u64,
-    from: usize,
-)
-    requires { from ≤ 1 }
+/// Writes the last line.
+pub fn write_last<W: Sink>(page: &mut Page, writer: &mut W, part: LinePart, totals: Totals)
+    requires { part.from ≤ 1 }
     ensures { HandsOver (output_of W.broken W.contents writer.old page.old)
         (output_of W.broken W.contents writer.new page.new)
-        (drop from (totals_in notation items bytes left_open)) }
+        (drop part.from (totals_in part.notation totals.items totals.bytes totals.left_open)) }
 {
     let mut line = [0; LINE];
-    let end = notation.put_totals(&mut line, items, bytes, left_open);
-    page.write(writer, &line[..end][from..]);
+    let end = part.notation.put_totals(&mut line, totals);
+    page.write(writer, &line[..end][part.from..]);
 }

@@ -4,8 +4,9 @@ ghost use Rattle.std.specs.Prelude.{if◌then◌else◌};
 ghost use Rattle.ddcmp_explain.specs.Inside.Putting.{Puts};
 ghost use Rattle.ddcmp_explain.specs.Text.{kind_text, flags_text, fields_text, counted_text};
 ghost use Rattle.ddcmp_explain.specs.Text.{header_text, fault_text, item_text, lends as lends_data};
-ghost use Rattle.ddcmp_explain.specs.Text.{front_text, totals};
+ghost use Rattle.ddcmp_explain.specs.Text.{front_text, totals as totals_text};
 
+use crate::notation::Totals;
 use crate::put::{LINE, put, put_byte, put_number};
 use ddcmp_frame::{ControlType, Counted, Flags, Header, HeaderFault, Item, Short};
 
@@ -200,18 +201,18 @@ pub(crate) fn put_front(line: &mut [u8; LINE], item: &Item) -> usize
     put(line, after_item, item_end(item))
 }
 
-/// Puts the last line: how many items, how many bytes, and how many of these in the incomplete
-/// frame; returns where it ends.
-pub(crate) fn put_totals(line: &mut [u8; LINE], items: u64, bytes: u64, left_open: u64) -> usize
-    ensures puts { Puts line.old 0 line.new result (totals items bytes left_open) }
+/// Puts the last line; returns where it ends.
+pub(crate) fn put_totals(line: &mut [u8; LINE], totals: Totals) -> usize
+    ensures puts { Puts line.old 0 line.new result
+        (totals_text totals.items totals.bytes totals.left_open) }
     ensures some { 1 ≤ result }
     ensures within { result ≤ 80 }
 {
     let at_items = put(line, 0, b"items=");
-    let after_items = put_number(line, at_items, items);
+    let after_items = put_number(line, at_items, totals.items);
     let at_bytes = put(line, after_items, b" bytes=");
-    let after_bytes = put_number(line, at_bytes, bytes);
+    let after_bytes = put_number(line, at_bytes, totals.bytes);
     let at_open = put(line, after_bytes, b" open=");
-    let after_open = put_number(line, at_open, left_open);
+    let after_open = put_number(line, at_open, totals.left_open);
     put(line, after_open, b"\n")
 }

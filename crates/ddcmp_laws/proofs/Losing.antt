@@ -285,7 +285,7 @@ looked-lost : (ms : ℕ) (before : NakCounts) (d : LinkView) (c : Course)
     → (after_looked ms before d c).lost ≡ c.lost
 unfolding after_looked
 looked-lost ms before d c =
-    let one = after_acknowledged d.totals.acknowledged (after_heard c) in
+    let one = after_acknowledged d.totals.acknowledged (after_heard d.totals.read c) in
     let why = refusal_between before d.station.core.counters.nak_received in
     let two = after_refusal ms why one in
     let sent = naks_of d.station.core.counters.nak_sent in
@@ -295,7 +295,7 @@ looked-lost ms before d c =
     state-lost (state_of d).state four ∙ progress-lost (progress_of d) three
     ∙ noise-lost d (progress_of d) held ∙ naks-lost ms sent (progress_of d) two
     ∙ refusal-lost ms why one
-    ∙ acknowledged-lost d.totals.acknowledged (after_heard c)
+    ∙ acknowledged-lost d.totals.acknowledged (after_heard d.totals.read c)
 
 notice-lost : (n : Notice) (c : Course) → (after_notice n c).lost ≡ 0 → c.lost ≡ 0
 notice-lost notice.Running c e = e

@@ -26,7 +26,8 @@ use Rattle.ddcmp_session.specs.Course.{after_opening_failed, after_pauses, after
 use Rattle.ddcmp_session.specs.Course.{after_writing}
 use Rattle.ddcmp_session.specs.Course.{expiry_counted}
 use Rattle.ddcmp_session.specs.Session.{SessionView, after_last_line, after_time, after_timeout}
-use Rattle.ddcmp_session.specs.Session.{after_telling, after_tried, after_unfinished, awaits_peer}
+use Rattle.ddcmp_session.specs.Session.{after_told, after_tried, after_unfinished}
+use Rattle.ddcmp_session.specs.Session.{awaits_peer}
 use Rattle.ddcmp_session.specs.Session.{expires, form_of, is_sending, unless_read, wants_line}
 use Rattle.ddcmp_streams.specs.Options.{report_ms, speed_of}
 use Rattle.ddcmp_session.specs.Timing.{after_failure, after_line, is_listener}
@@ -142,7 +143,7 @@ wake-inbox now d halted =
 timed-run : (now : ℕ) (s : SessionView)
     → (after_timeout now s).course.has_run ≡ s.course.has_run
 timed-run now s =
-    unheard (after_telling (after_tried (expires now s) passed))
+    unheard (after_told (expires now s) (after_tried (expires now s) passed))
     ∙ tried (expires now s && not (awaits_peer passed)) (is_sending passed) s.is_read
   where
     passed : SessionView

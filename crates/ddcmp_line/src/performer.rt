@@ -1,31 +1,30 @@
 //! Runs the commands of a script.
-ghost use Rattle.std.specs.Prelude.{◌≡◌, ◌<◌, [], false, length, Some, None, Ok, Err, IsOk, OnErr};
-ghost use Rattle.std.specs.Prelude.{IsTrue};
+ghost use Rattle.std.specs.Prelude.{◌≡◌, ◌<◌, [], false, Some, None, Ok, Err, IsOk, OnErr};
 ghost use Rattle.std.specs.VecDeque.{deque_capacity, deque_len};
 ghost use Rattle.ddcmp_io.specs.Written.{HandsOver, output_of};
-ghost use Rattle.ddcmp_io.specs.Ends.{other};
-ghost use Rattle.ddcmp_pair.specs.Run.{PairState, at, end_of, after_event, reply_to, asks_memory};
+ghost use Rattle.ddcmp_pair.specs.Run.{at, end_of, after_event, reply_to};
 ghost use Rattle.ddcmp_pair.specs.Settle.{settling, WantsMemory};
 ghost use Rattle.ddcmp_pair.specs.Recovery.{recovering};
 ghost use Rattle.ddcmp_line.specs.ScriptWords.{reading_of};
 ghost use Rattle.ddcmp_line.specs.ScriptText.{end_name, name_before, reply_text};
-ghost use Rattle.ddcmp_line.specs.Script.{nothing_between, frames_after, frames_of, part_of};
-ghost use Rattle.ddcmp_line.specs.Script.{outcome_of_event, outcome_of_lose, outcome_of_damage};
-ghost use Rattle.ddcmp_line.specs.Script.{outcome_of_settle, outcome_of_recover, arrival_text};
+ghost use Rattle.ddcmp_line.specs.Script.{nothing_between, frames_after, outcome_of_event};
+ghost use Rattle.ddcmp_line.specs.Script.{outcome_of_settle, outcome_of_recover};
 ghost use Rattle.ddcmp_line.specs.Inside.ScriptSteps.{scene_of, stopped_of, Comes, LineEnds};
 ghost use Rattle.ddcmp_line.specs.Inside.ScriptSteps.{TellsDevices};
 ghost use Rattle.ddcmp_pair.specs.declared.event.Event.TheVariants as event_value;
 
+mod frames;
+
 use crate::command::{ParsedLine, ScriptCommand, read_line};
 use crate::frame_lines::{FrameLeft, FrameLines};
 use crate::reply_text::{
-    answerer_name, damage_name, end_name, write_counted, write_plain, write_recovered, write_reply,
-    write_settled, write_station,
+    answerer_name, end_name, write_recovered, write_reply, write_settled, write_station,
 };
 use crate::view::View;
-use ddcmp_io::{Page, Sink, WriteFailed};
-use ddcmp_pair::{Bytes, Carrier, End, Event, Pair, Reply};
+use ddcmp_io::{Page, Sink};
+use ddcmp_pair::{Carrier, End, Event, Pair, Reply};
 use ddcmp_station::Memory;
+use frames::{Arrival, FramePart};
 use std::alloc::Global;
 use std::collections::VecDeque;
 
@@ -81,34 +80,6 @@ fn put_last(frames: &mut VecDeque<FrameLeft>, reply: Reply)
         Reply::Wrote(bytes) => frames.push_back_reserved(FrameLeft::new(bytes)),
         _ => {}
     }
-}
-
-/// Returns at most this many of the first bytes, or all.
-fn first_of(bytes: &[u8], most: Option<u32>) -> &[u8]
-    ensures { result.now ≡ part_of most bytes.now }
-{
-    match most {
-        Some(n) if (n as usize) < bytes.len() => &bytes[..n as usize],
-        _ => bytes,
-    }
-}
-
-/// Writes what is buffered before a carry that may fail, so that at most one device has failed.
-fn flush_before<W: Sink, C: Carrier>(
-    page: &mut Page,
-    writer: &mut W,
-    carrier: &C,
-) -> Result<(), WriteFailed>
-    ensures sends { HandsOver (output_of W.broken W.contents writer.old page.old)
-        (output_of W.broken W.contents writer.new page.new) [] }
-    ensures broken { OnErr result (IsTrue (W.broken writer.new)) }
-    ensures whole { IsOk result → C.sure carrier.now ≡ false
-        → (W.broken writer.new ≡ false) × (page.new ≡ []) }
-{
-    if carrier.is_sure() {
-        return Ok(());
-    }
-    page.flush(writer)
 }
 
 /// Returns why a line wasn't done, for an allocation failure.
@@ -223,115 +194,6 @@ impl Stage {
         }
     }
 
-    /// Has bytes arrive at an end: writes a line with these words and their number, then the
-    /// notices.
-    fn arrive<W: Sink, V: View>(
-        &mut self,
-        pair: &mut Pair,
-        view: &mut V,
-        writer: &mut W,
-        who: End,
-        words: &[u8],
-        to: End,
-        bytes: Bytes,
-    ) -> Result<(), Memory>
-        ensures pair { IsOk result → pair.new ≡ after_event (event_value.Arrive to bytes) pair.old }
-        ensures lines { self.new.lines ≡ self.old.lines }
-        ensures text { IsOk result
-            → HandsOver (output_of W.broken W.contents writer.old self.old.page)
-            (output_of W.broken W.contents writer.new self.new.page)
-            (arrival_text who words.now to bytes pair.old) }
-        ensures memory { OnErr result ((pair.new ≡ pair.old)
-            × (self.new.page ≡ self.old.page) × (writer.new ≡ writer.old)) }
-        ensures asks { asks_memory (event_value.Arrive to bytes) pair.old ≡ false → IsOk result }
-    {
-        let length = bytes.as_slice().len();
-        let reply = pair.step_watched(view, Event::Arrive(to, bytes))?;
-        write_counted(&mut self.page, writer, end_name(who), words, length as u64);
-        write_reply(&mut self.page, writer, end_name(to), &reply);
-        Ok(())
-    }
-
-    /// Has the first frame of an end's line arrive at the other end, as the carrier returns it.
-    fn carry<W: Sink, C: Carrier, V: View>(
-        &mut self,
-        pair: &mut Pair,
-        view: &mut V,
-        writer: &mut W,
-        carrier: &mut C,
-        from: End,
-        most: Option<u32>,
-    ) -> Result<(), Undone>
-        requires whole { C.broken carrier.old ≡ false }
-        ensures devices { TellsDevices (output_of W.broken W.contents writer.new self.new.page)
-            (C.broken carrier.new) result }
-        ensures ends { LineEnds (C.direct carrier.old) (C.told carrier.old) (C.told carrier.new)
-            (ParsedLine.Asks (ScriptCommand.Carry from most)) (scene_of pair.old self.old.lines)
-            (scene_of pair.new self.new.lines)
-            (output_of W.broken W.contents writer.old self.old.page)
-            (output_of W.broken W.contents writer.new self.new.page) result }
-        ensures direct { C.direct carrier.new ≡ C.direct carrier.old }
-    {
-        let Some(front) = self.lines.front(from) else {
-            write_plain(&mut self.page, writer, end_name(from), b"empty\n");
-            return Ok(());
-        };
-        let bytes = first_of(front, most);
-        let length = bytes.len();
-        let Ok(mut out) = Vec::from_elem(self.alloc, 0u8, length) else {
-            return Err(Undone::Memory);
-        };
-        if flush_before(&mut self.page, writer, carrier).is_err() {
-            return Err(Undone::Write);
-        }
-        match carrier.carry(from, bytes, &mut out) {
-            Ok(came) => out.truncate(came),
-            Err(_fault) => return Err(Undone::Carrier),
-        }
-        let came = Bytes::new(out);
-        match self.arrive(pair, view, writer, from, b"passed ", from.other(), came) {
-            Ok(()) => {
-                self.lines.take_off(from, length);
-                Ok(())
-            }
-            Err(_refused) => Err(Undone::Memory),
-        }
-    }
-
-    /// Drops the first frame of an end's line.
-    fn lose<W: Sink>(&mut self, writer: &mut W, from: End)
-        ensures { (p : PairState) → Comes (outcome_of_lose from (frames_of from self.old.lines)
-            (scene_of p self.old.lines)) (scene_of p self.old.lines) (scene_of p self.new.lines)
-            (output_of W.broken W.contents writer.old self.old.page)
-            (output_of W.broken W.contents writer.new self.new.page) }
-    {
-        match self.lines.pop(from) {
-            Some(front) => {
-                let length = front.as_slice().len() as u64;
-                write_counted(&mut self.page, writer, end_name(from), b"lost ", length);
-            }
-            None => write_plain(&mut self.page, writer, end_name(from), b"empty\n"),
-        }
-    }
-
-    /// Changes a byte of the first frame of an end's line.
-    fn damage<W: Sink>(&mut self, writer: &mut W, from: End, at: u32, by: u8)
-        ensures { (p : PairState) → Comes (outcome_of_damage from at by
-            (frames_of from self.old.lines) (scene_of p self.old.lines))
-            (scene_of p self.old.lines) (scene_of p self.new.lines)
-            (output_of W.broken W.contents writer.old self.old.page)
-            (output_of W.broken W.contents writer.new self.new.page) }
-    {
-        let is_empty = self.lines.is_empty(from);
-        let is_there = self.lines.change_front(from, at as usize, by);
-        write_plain(
-            &mut self.page,
-            writer,
-            end_name(from),
-            damage_name(is_empty, is_there),
-        );
-    }
-
     /// Drops all frames on both lines, and then has both ends settle.
     fn settle<W: Sink, V: View>(
         &mut self,
@@ -409,7 +271,9 @@ impl Stage {
     {
         view.begins(pair, &command, self.front_length(&command));
         match command {
-            ScriptCommand::Carry(from, most) => self.carry(pair, view, writer, carrier, from, most),
+            ScriptCommand::Carry(from, most) => {
+                self.carry(pair, view, writer, carrier, FramePart { from, most })
+            }
             ScriptCommand::Happens(event) => stopped(self.happen(pair, view, writer, event)),
             ScriptCommand::Lose(from) => {
                 self.lose(writer, from);
@@ -420,7 +284,8 @@ impl Stage {
                 Ok(())
             }
             ScriptCommand::Raw(to, bytes) => {
-                stopped(self.arrive(pair, view, writer, to, b"got ", to, bytes))
+                let arrival = Arrival { who: to, to, bytes };
+                stopped(self.arrive(pair, view, writer, b"got ", arrival))
             }
             ScriptCommand::Settle => stopped(self.settle(pair, view, writer)),
             ScriptCommand::Recover => stopped(self.recover(pair, view, writer)),

@@ -1,7 +1,6 @@
 //! Why the run of a link ends before all is delivered.
-ghost use Rattle.std.specs.Prelude.{◌≡◌, ◌≢◌, ℕ};
-ghost use Rattle.ddcmp_ports.specs.LineNames.{open_fault_of};
-ghost use Rattle.ddcmp_ports.specs.declared.fault.OpenRefusal.{OpenRefusal as RefusalValue};
+ghost use Rattle.std.specs.Prelude.{◌≢◌};
+ghost use Rattle.ddcmp_link.specs.Ending.{FailsAs};
 
 use crate::fault::LinkFailure;
 use ddcmp_ports::{Attempt, Cause, LineName, OpenFault, OpenRefusal};
@@ -22,14 +21,7 @@ impl LinkStop {
     /// Returns why a link over a line of this name failed, whose output hasn't.
     pub(crate) fn fault(self, line: LineName<'_>) -> LinkFailure<'_>
         ensures whole { result ≢ LinkFailure.Write }
-        ensures read { self ≡ LinkStop.Stopped (Stop.Device DeviceFault.Input)
-            → result ≡ LinkFailure.Read }
-        ensures memory { self ≡ LinkStop.Memory → result ≡ LinkFailure.Memory }
-        ensures lost { (count : ℕ) → self ≡ LinkStop.Stopped (Stop.Lost count)
-            → result ≡ LinkFailure.Lost count }
-        ensures opened { (refused : RefusalValue)
-            → self ≡ LinkStop.Stopped (Stop.NotOpened refused)
-            → result ≡ LinkFailure.Open (open_fault_of line.entry refused) }
+        ensures fault { FailsAs line.entry self result }
     {
         match self {
             LinkStop::CannotWait(kind) => LinkFailure::Open(OpenFault {

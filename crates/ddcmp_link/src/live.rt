@@ -2,15 +2,15 @@
 ghost use Rattle.std.specs.Prelude.{◌≡◌, ◌≤◌, ◌↔◌, length};
 ghost use Rattle.ddcmp_device.specs.StandardStreams.{at_once};
 ghost use Rattle.ddcmp_io.specs.Transfers.{count_moved};
-ghost use Rattle.ddcmp_link.specs.Events.{Reports};
+ghost use Rattle.ddcmp_link.specs.Events.{Reports, ReportsOpened};
 ghost use Rattle.ddcmp_session.specs.Traffic.{count_read};
 
 use ddcmp_device::{
-    Descriptor, Framing, Line, Opener, Pace, Poller, StandardStream, System, write_errors,
+    Descriptor, Framing, Line, Opened, Opener, Pace, Poller, StandardStream, System, write_errors,
 };
 use ddcmp_frame::ReaderRefusal;
 use ddcmp_io::{Down, Got, Sink, Source, Transfer, Wanted, Worst};
-use ddcmp_ports::{LineEvent, LineName, OpenRefusal, Retry};
+use ddcmp_ports::{DeviceOpened, LineEvent, LineName, OpenRefusal, Retry};
 use ddcmp_session::{Buffers, Devices, Session};
 use ddcmp_station::Clock;
 use std::alloc::Global;
@@ -33,6 +33,10 @@ pub(crate) struct Live<'a, S, C, R, W> {
     pace: Pace,
     /// Finds the end of the last whole frame in a datagram, if the line is one of datagrams.
     framing: Option<Framing>,
+    /// What the last read of the line has found beside its bytes, and from when on that is reported
+    /// again.
+    event: Option<LineEvent>,
+    event_at: u64,
 }
 
 // Manual, since a derived `Drop` would be expanded wherever a value is dropped.
@@ -51,6 +55,8 @@ impl<S, C: Drop, R, W> Drop for Live<'_, S, C, R, W> {
             errors: _errors,
             pace: _,
             framing: _framing,
+            event: _,
+            event_at: _,
         } = self;
     }
 }
@@ -104,6 +110,8 @@ impl<'a, S: System, C: Clock + Drop, R: Source, W: Sink> Live<'a, S, C, R, W> {
             errors: StandardStream::new(system, "/dev/stderr"),
             pace: Pace::new(baud),
             framing,
+            event: None,
+            event_at: 0,
         })
     }
 
@@ -127,6 +135,9 @@ impl<'a, S: System, C: Clock + Drop, R: Source, W: Sink> Live<'a, S, C, R, W> {
 
 /// A write by the owner of an output failed.
 const FAILED: Transfer = Transfer::Ended(Down::Failed(ErrorKind::Other));
+
+/// For how long such an event isn't reported again, in milliseconds.
+const EVENT_MS: u64 = 60_000;
 
 /// Reads an input, if it is ready. An input that has failed stays failed.
 fn read_ready<R: Source>(reader: &mut R, there: &mut Descriptor, space: &mut [u8]) -> Got
@@ -171,12 +182,29 @@ fn report(session: &mut Session, event: Option<LineEvent>)
     }
 }
 
+/// Reports how far the opening of a line of this name has come.
+fn report_opened(session: &mut Session, name: LineName<'_>, opened: &Opened)
+    ensures state { session.new.state ≡ session.old.state }
+    ensures errors { ReportsOpened name.entry opened.now session.old.log.errors
+        session.new.log.errors }
+    ensures log { session.new.log ≡ record session.old.log { errors = session.new.log.errors } }
+{
+    match (name, opened) {
+        (LineName::Device(path), Opened::Line(_)) => {
+            session.report(&InlineText::of(DeviceOpened { path }));
+        }
+        _ => report(session, opened.event()),
+    }
+}
+
 impl<S: System, C: Clock + Drop, R: Source, W: Sink> Devices for Live<'_, S, C, R, W> {
     ghost use Rattle.std.specs.Prelude.{IfOk, OnErr, None, Some, is_some};
-    ghost use Rattle.ddcmp_link.specs.Events.{HasReported, Reports};
+    ghost use Rattle.ddcmp_link.specs.Events.{HasReported, Reports, ReportsOpened};
+    ghost use Rattle.std.specs.Prelude.{◌⊎◌, Option};
+    ghost use Rattle.ddcmp_ports.specs.declared.event.LineEvent.{LineEvent};
     ghost use Rattle.ddcmp_ports.specs.Events.{retry_text};
     ghost use Rattle.ddcmp_ports.specs.LineNames.{line_kind, open_fault_of};
-    ghost use Rattle.ddcmp_device.specs.Opening.{SameIfNotYet, Opens, event_of, line_of};
+    ghost use Rattle.ddcmp_device.specs.Opening.{SameIfNotYet, Opens, line_of};
     ghost use Rattle.ddcmp_device.specs.declared.opener.Opened.{Opened};
 
     ghost traffic = { λ _. None };
@@ -192,14 +220,15 @@ impl<S: System, C: Clock + Drop, R: Source, W: Sink> Devices for Live<'_, S, C, 
             × SameIfNotYet self.old.opener.connecting self.new.opener.connecting opened
             × SameIfNotYet self.old.opener.listener self.new.opener.listener opened
             × (self.new.line ≡ line_of opened) × (is_open ≡ is_some (line_of opened))
-            × Reports (event_of opened) session.old.log.errors session.new.log.errors) }
+            × ReportsOpened self.old.name opened session.old.log.errors
+            session.new.log.errors) }
         ensures refused { OnErr result (session.new ≡ session.old) }
     {
         let opened = {
             let Poller { poll, line, .. } = &mut self.poller;
             self.opener.open(self.system, poll, line)?
         };
-        report(session, opened.event());
+        report_opened(session, self.name, &opened);
         self.line = opened.into_line();
         Ok(self.line.is_some())
     }
@@ -235,7 +264,7 @@ impl<S: System, C: Clock + Drop, R: Source, W: Sink> Devices for Live<'_, S, C, 
         let Some(line) = &mut self.line else {
             return Transfer::Ended(Down::Closed);
         };
-        let got = line.read(space);
+        let got = line.read(space, &mut self.event);
         self.poller.line.was_read(got == Transfer::Nothing);
         match (got, &mut self.framing) {
             // No frame continues in the next datagram, so an incomplete one is dropped.
@@ -246,6 +275,24 @@ impl<S: System, C: Clock + Drop, R: Source, W: Sink> Devices for Live<'_, S, C, 
             }
             (Transfer::Bytes(n), None) => Transfer::Bytes(n.min(space.len())),
             (got, _) => got,
+        }
+    }
+
+    fn report_read(&mut self, session: &mut Session)
+        ensures session { session.new.state ≡ session.old.state }
+        ensures log { session.new.log
+            ≡ record session.old.log { errors = session.new.log.errors } }
+        ensures reports { (event : Option LineEvent)
+            × ((event ≡ None) ⊎ (event ≡ self.old.event))
+            × Reports event session.old.log.errors session.new.log.errors }
+    {
+        let Some(event) = self.event.take() else {
+            return;
+        };
+        let now = self.clock.now();
+        if self.event_at <= now {
+            self.event_at = now.saturating_add(EVENT_MS);
+            report(session, Some(event));
         }
     }
 

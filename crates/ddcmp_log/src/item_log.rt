@@ -11,7 +11,8 @@ ghost use Rattle.ddcmp_log.specs.Logged.{items_added, logged_last, logged_lines}
 use crate::line::{write_line, write_totals};
 use crate::no_memory::NoMemory;
 use crate::notation::LogNotation;
-use crate::side::Side;
+use crate::side::{Origin, Side};
+use ddcmp_explain::Totals;
 use ddcmp_frame::{Pushed, Reader};
 use ddcmp_io::{MemorySink, Page};
 use std::alloc::Global;
@@ -139,7 +140,11 @@ impl ItemLog {
             Some(item) => {
                 self.items += 1;
                 let data = self.frames.data();
-                write_line(page, text, self.notation, stamp, self.side, &item, data);
+                let origin = Origin {
+                    stamp,
+                    side: self.side,
+                };
+                write_line(page, text, self.notation, origin, &item, data);
             }
             None => {}
         }
@@ -185,17 +190,17 @@ impl ItemLog {
     {
         let bytes = self.frames.offset();
         let left_open = self.frames.open() as u64;
-        let mut page = Page::new();
-        write_totals(
-            &mut page,
-            text,
-            self.notation,
-            stamp,
-            self.side,
-            self.items,
+        let totals = Totals {
+            items: self.items,
             bytes,
             left_open,
-        );
+        };
+        let origin = Origin {
+            stamp,
+            side: self.side,
+        };
+        let mut page = Page::new();
+        write_totals(&mut page, text, self.notation, origin, totals);
         put_page(&mut page, text)
     }
 }

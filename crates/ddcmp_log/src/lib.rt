@@ -17,4 +17,4 @@ pub use line::{write_line, write_skipped, write_totals};
 pub use no_memory::NoMemory;
 pub use notation::LogNotation;
 pub use reason::write_reasoned;
-pub use side::Side;
+pub use side::{Origin, Side};

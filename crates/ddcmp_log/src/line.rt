@@ -7,8 +7,8 @@ ghost use Rattle.ddcmp_log.specs.Logged.{fronted, logged_line, wording_of};
 use crate::front::write_front;
 use crate::notation::LogNotation;
 use crate::rung::write_rung;
-use crate::side::Side;
-use ddcmp_explain::{Notation, Skipped, write_discarded, write_item, write_last};
+use crate::side::Origin;
+use ddcmp_explain::{Notation, Skipped, Totals, write_discarded, write_item, write_last};
 use ddcmp_frame::Item;
 use ddcmp_io::{Page, Sink};
 
@@ -17,23 +17,22 @@ pub fn write_line<W: Sink>(
     page: &mut Page,
     writer: &mut W,
     notation: LogNotation,
-    stamp: Option<u64>,
-    side: Side,
+    origin: Origin,
     item: &Item,
     data: &[u8],
 )
     ensures { HandsOver (output_of W.broken W.contents writer.old page.old)
         (output_of W.broken W.contents writer.new page.new)
-        (logged_line notation stamp side (item.now, «data».now)) }
+        (logged_line notation origin.stamp origin.side (item.now, «data».now)) }
 {
     match notation {
         LogNotation::Plain => {
-            write_worded(page, writer, Notation::Plain, stamp, side, item, data);
+            write_worded(page, writer, Notation::Plain, origin, item, data);
         }
         LogNotation::Json => {
-            write_worded(page, writer, Notation::Json, stamp, side, item, data);
+            write_worded(page, writer, Notation::Json, origin, item, data);
         }
-        LogNotation::Ladder => write_rung(page, writer, stamp, side, item),
+        LogNotation::Ladder => write_rung(page, writer, origin, item),
     }
 }
 
@@ -42,17 +41,16 @@ fn write_worded<W: Sink>(
     page: &mut Page,
     writer: &mut W,
     wording: Notation,
-    stamp: Option<u64>,
-    side: Side,
+    origin: Origin,
     item: &Item,
     data: &[u8],
 )
     ensures { HandsOver (output_of W.broken W.contents writer.old page.old)
         (output_of W.broken W.contents writer.new page.new)
-        (fronted wording stamp side (line_in wording (item.now, «data».now))) }
+        (fronted wording origin.stamp origin.side (line_in wording (item.now, «data».now))) }
 {
-    let from = write_front(page, writer, wording, stamp, side);
-    write_item(page, writer, wording, item, data, from);
+    let part = write_front(page, writer, wording, origin);
+    write_item(page, writer, part, item, data);
 }
 
 /// Writes the line of skipped bytes.
@@ -60,38 +58,31 @@ pub fn write_skipped<W: Sink>(
     page: &mut Page,
     writer: &mut W,
     notation: LogNotation,
-    stamp: Option<u64>,
-    side: Side,
+    origin: Origin,
     it: Skipped,
 )
     ensures { HandsOver (output_of W.broken W.contents writer.old page.old)
         (output_of W.broken W.contents writer.new page.new)
-        (fronted (wording_of notation) stamp side
+        (fronted (wording_of notation) origin.stamp origin.side
         (passed_text (wording_of notation) it.from it.count)) }
 {
-    let wording = notation.wording();
-    let from = write_front(page, writer, wording, stamp, side);
-    write_discarded(page, writer, wording, it, from);
+    let part = write_front(page, writer, notation.wording(), origin);
+    write_discarded(page, writer, part, it);
 }
 
-/// Writes the last line: how many items, how many bytes, and how many of these in the incomplete
-/// frame.
+/// Writes the last line.
 pub fn write_totals<W: Sink>(
     page: &mut Page,
     writer: &mut W,
     notation: LogNotation,
-    stamp: Option<u64>,
-    side: Side,
-    items: u64,
-    bytes: u64,
-    left_open: u64,
+    origin: Origin,
+    totals: Totals,
 )
     ensures { HandsOver (output_of W.broken W.contents writer.old page.old)
         (output_of W.broken W.contents writer.new page.new)
-        (fronted (wording_of notation) stamp side
-        (totals_in (wording_of notation) items bytes left_open)) }
+        (fronted (wording_of notation) origin.stamp origin.side
+        (totals_in (wording_of notation) totals.items totals.bytes totals.left_open)) }
 {
-    let wording = notation.wording();
-    let from = write_front(page, writer, wording, stamp, side);
-    write_last(page, writer, wording, items, bytes, left_open, from);
+    let part = write_front(page, writer, notation.wording(), origin);
+    write_last(page, writer, part, totals);
 }

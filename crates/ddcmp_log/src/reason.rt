@@ -4,7 +4,7 @@ ghost use Rattle.ddcmp_io.specs.Written.{HandsOver, output_of};
 ghost use Rattle.ddcmp_log.specs.Reasons.{reason_in as reason_of, reasoned_line};
 
 use crate::front::write_plain_front;
-use crate::side::Side;
+use crate::side::Origin;
 use ddcmp_explain::{Notation, reason_name, write_item, write_words};
 use ddcmp_frame::{ControlType, Header, Item, Nak};
 use ddcmp_io::{Page, Sink};
@@ -26,16 +26,15 @@ fn reason_in(item: &Item) -> Option<Nak>
 pub fn write_reasoned<W: Sink>(
     page: &mut Page,
     writer: &mut W,
-    stamp: Option<u64>,
-    side: Side,
+    origin: Origin,
     item: &Item,
     data: &[u8],
 )
     ensures { HandsOver (output_of W.broken W.contents writer.old page.old)
         (output_of W.broken W.contents writer.new page.new)
-        (reasoned_line stamp side (item.now, «data».now)) }
+        (reasoned_line origin.stamp origin.side (item.now, «data».now)) }
 {
-    write_plain_front(page, writer, stamp, side);
+    write_plain_front(page, writer, origin);
     match reason_in(item) {
         Some(reason) => {
             write_words(page, writer, item);
@@ -43,6 +42,6 @@ pub fn write_reasoned<W: Sink>(
             page.write(writer, reason_name(reason));
             page.write(writer, b")\n");
         }
-        None => write_item(page, writer, Notation::Plain, item, data, 0),
+        None => write_item(page, writer, Notation::Plain.whole(), item, data),
     }
 }

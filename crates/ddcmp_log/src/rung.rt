@@ -3,7 +3,7 @@ ghost use Rattle.std.specs.Prelude.{◌≡◌, ◌-◌, ◌<◌, ◌≤◌, leng
 ghost use Rattle.ddcmp_io.specs.Written.{HandsOver, output_of};
 ghost use Rattle.ddcmp_log.specs.Ladder.{ladder_front, rung, rung_of, stroke_of as stroke_of_item};
 
-use crate::side::Side;
+use crate::side::{Origin, Side};
 use ddcmp_explain::{LABEL_ROOM, label_item};
 use ddcmp_frame::Item;
 use ddcmp_io::text::write_number;
@@ -59,20 +59,15 @@ fn write_arrow<W: Sink>(page: &mut Page, writer: &mut W, side: Side, stroke: u8,
 }
 
 /// Writes the line of an item.
-pub(crate) fn write_rung<W: Sink>(
-    page: &mut Page,
-    writer: &mut W,
-    stamp: Option<u64>,
-    side: Side,
-    item: &Item,
-)
+pub(crate) fn write_rung<W: Sink>(page: &mut Page, writer: &mut W, origin: Origin, item: &Item)
     ensures { HandsOver (output_of W.broken W.contents writer.old page.old)
-        (output_of W.broken W.contents writer.new page.new) (rung_of stamp side item.now) }
+        (output_of W.broken W.contents writer.new page.new)
+        (rung_of origin.stamp origin.side item.now) }
 {
     let mut label = [0; LABEL_ROOM];
     let end = label_item(&mut label, item);
-    write_stamp(page, writer, stamp);
-    write_arrow(page, writer, side, stroke_of(item), &label[..end]);
+    write_stamp(page, writer, origin.stamp);
+    write_arrow(page, writer, origin.side, stroke_of(item), &label[..end]);
 }
 
 /// Writes the milliseconds, if requested.

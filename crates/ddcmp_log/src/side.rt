@@ -2,6 +2,14 @@
 ghost use Rattle.std.specs.Prelude.{◌≡◌};
 ghost use Rattle.ddcmp_log.specs.Logged.{mark_of};
 
+/// Where the bytes of a line of a log are from: their side, and when they were received, in
+/// milliseconds, if that is requested.
+#[derive(Clone, Copy)]
+pub struct Origin {
+    pub stamp: Option<u64>,
+    pub side: Side,
+}
+
 /// A side of a line: bytes are received from it and sent to it.
 #[derive(Clone, Copy, Debug, PartialEq, Eq)]
 pub enum Side {

@@ -2,8 +2,8 @@
 -- line.
 use Rattle.std.specs.Prelude.{ℕ, Result, Ok, Err}
 use Rattle.ddcmp_input.specs.declared.dump.NotDumped.TheVariants as dumped
-use Rattle.ddcmp_explain.specs.declared.detected_fault.DetectedFault.{DetectedFault}
-use Rattle.ddcmp_explain.specs.declared.detected_fault.DetectedFault.TheVariants as detected
+use Rattle.ddcmp_explain.specs.declared.explain_fault.ExplainFault.{ExplainFault}
+use Rattle.ddcmp_explain.specs.declared.explain_fault.ExplainFault.TheVariants as explained
 use Rattle.ddcmp_proto.specs.declared.config.ConfigRefusal.{ConfigRefusal}
 use Rattle.ddcmp_proto.specs.declared.config.ConfigRefusal.TheVariants as config
 use Rattle.ddcmp_pair.specs.declared.pair.PairRefusal.{PairRefusal}
@@ -11,25 +11,25 @@ use Rattle.ddcmp_pair.specs.declared.pair.PairRefusal.TheVariants as pair
 use Rattle.ddcmp_line.specs.declared.script_fault.ScriptFault.{ScriptFault}
 use Rattle.ddcmp_line.specs.declared.script_fault.ScriptFault.TheVariants as script
 
-abbrev pub code_of_input : Result (Unit {0}) DetectedFault → ℕ
+abbrev pub code_of_input : Result (Unit {0}) ExplainFault → ℕ
 code_of_input (Ok u) = 0
-code_of_input (Err detected.Memory) = 5
-code_of_input (Err detected.Write) = 5
-code_of_input (Err detected.Odd) = 32
-code_of_input (Err (detected.NotHex index)) = 33
-code_of_input (Err (detected.Line (dumped.NotALine line))) = 34
-code_of_input (Err (detected.Line (dumped.Star line))) = 35
-code_of_input (Err detected.Read) = 38
+code_of_input (Err explained.Memory) = 5
+code_of_input (Err explained.Write) = 5
+code_of_input (Err explained.Odd) = 32
+code_of_input (Err (explained.NotHex index)) = 33
+code_of_input (Err (explained.Line (dumped.NotALine line))) = 34
+code_of_input (Err (explained.Line (dumped.Star line))) = 35
+code_of_input (Err explained.Read) = 38
 
-abbrev pub place_of_input : Result (Unit {0}) DetectedFault → ℕ
+abbrev pub place_of_input : Result (Unit {0}) ExplainFault → ℕ
 place_of_input (Ok u) = 0
-place_of_input (Err detected.Memory) = 0
-place_of_input (Err detected.Write) = 0
-place_of_input (Err detected.Odd) = 0
-place_of_input (Err (detected.NotHex index)) = index
-place_of_input (Err (detected.Line (dumped.NotALine line))) = line
-place_of_input (Err (detected.Line (dumped.Star line))) = line
-place_of_input (Err detected.Read) = 0
+place_of_input (Err explained.Memory) = 0
+place_of_input (Err explained.Write) = 0
+place_of_input (Err explained.Odd) = 0
+place_of_input (Err (explained.NotHex index)) = index
+place_of_input (Err (explained.Line (dumped.NotALine line))) = line
+place_of_input (Err (explained.Line (dumped.Star line))) = line
+place_of_input (Err explained.Read) = 0
 
 abbrev pub code_of_script : Result (Unit {0}) ScriptFault → ℕ
 code_of_script (Ok u) = 0

@@ -3,7 +3,7 @@ ghost use Rattle.std.specs.Prelude.{◌≡◌};
 ghost use Rattle.ddcmp_page.specs.Codes.{code_of_input, code_of_pair, code_of_script};
 ghost use Rattle.ddcmp_page.specs.Codes.{line_of_script, place_of_input};
 
-use ddcmp_explain::{DetectedFault, NotDumped};
+use ddcmp_explain::{ExplainFault, NotDumped};
 use ddcmp_line::ScriptFault;
 use ddcmp_pair::{ConfigRefusal, PairRefusal};
 
@@ -23,19 +23,19 @@ const DEVICE: u32 = 38;
 
 /// Returns the code of the result for an input; sets `at` to the index of the byte, or to the
 /// number of the line, that isn't allowed.
-pub(crate) fn input_code(by: Result<(), DetectedFault>, at: &mut u64) -> u32
+pub(crate) fn input_code(by: Result<(), ExplainFault>, at: &mut u64) -> u32
     ensures code { result ≡ code_of_input by }
     ensures place { at.new ≡ place_of_input by }
 {
     let (code, index) = match by {
         Ok(()) => (OK, 0),
-        Err(DetectedFault::Odd) => (32, 0),
-        Err(DetectedFault::NotHex(index)) => (33, index),
-        Err(DetectedFault::Line(NotDumped::NotALine(line))) => (34, line),
-        Err(DetectedFault::Line(NotDumped::Star(line))) => (35, line),
+        Err(ExplainFault::Odd) => (32, 0),
+        Err(ExplainFault::NotHex(index)) => (33, index),
+        Err(ExplainFault::Line(NotDumped::NotALine(line))) => (34, line),
+        Err(ExplainFault::Line(NotDumped::Star(line))) => (35, line),
         // An output in memory fails if it can't grow.
-        Err(DetectedFault::Memory | DetectedFault::Write) => (MEMORY, 0),
-        Err(DetectedFault::Read) => (DEVICE, 0),
+        Err(ExplainFault::Memory | ExplainFault::Write) => (MEMORY, 0),
+        Err(ExplainFault::Read) => (DEVICE, 0),
     };
     *at = index;
     code

@@ -1,92 +1,21 @@
 //! `explain`, over memory.
 ghost use Rattle.std.specs.Prelude.{◌≡◌, ◌<◌, ◌≤◌, [], List, ℕ, Result, false};
 ghost use Rattle.ddcmp_frame.specs.Limits.{MAX_COUNT as MOST};
-ghost use Rattle.ddcmp_explain.specs.declared.detected_fault.DetectedFault.{DetectedFault as Fault};
-ghost use Rattle.ddcmp_explain.specs.Detection.{digits_fault, dump_fault, result_by};
+ghost use Rattle.ddcmp_explain.specs.declared.explain_fault.ExplainFault.{ExplainFault as Fault};
 ghost use Rattle.ddcmp_page.specs.Codes.{code_of_input, place_of_input};
-ghost use Rattle.ddcmp_page.specs.Explained.{ExplainsDumped, ExplainsForm, ExplainsFound};
 ghost use Rattle.ddcmp_page.specs.Explained.{IsExplainedBy, style_of};
 ghost use Rattle.ddcmp_page.specs.Handed.{Hands};
 
 use crate::codes::{MAX, input_code};
+use crate::decoding::form_of;
 use crate::output::hand;
-use ddcmp_explain::{
-    DetectedFault, DumpFault, ExplainFault, Form, Notation, Style, explain_detected, explain_dump,
-    explain_with,
-};
+use ddcmp_explain::{ExplainFault, Notation, Style, explain_with};
 use ddcmp_frame::MAX_COUNT;
 use ddcmp_io::MemorySink;
 use ddcmp_io::failing::Pieces;
 use std::alloc::Global;
 
-fn of_digits(by: Result<(), ExplainFault>) -> Result<(), DetectedFault>
-    ensures { result ≡ result_by digits_fault by }
-{
-    match by {
-        Ok(()) => Ok(()),
-        Err(fault) => Err(DetectedFault::from(fault)),
-    }
-}
-
-fn of_dump(by: Result<(), DumpFault>) -> Result<(), DetectedFault>
-    ensures { result ≡ result_by dump_fault by }
-{
-    match by {
-        Ok(()) => Ok(()),
-        Err(fault) => Err(DetectedFault::from(fault)),
-    }
-}
-
-/// Explains an input in one of the forms that a log or a program writes.
-fn explain_as(
-    alloc: Global,
-    form: Form,
-    input: &[u8],
-    writer: &mut MemorySink,
-    style: Style,
-    max: u16,
-) -> Result<(), DetectedFault>
-    requires whole { writer.old.refused ≡ false }
-    requires empty { writer.old.bytes.items ≡ [] }
-    requires max { (0 < max) × (max ≤ MOST) }
-    ensures { ExplainsForm form style max input.now writer.new.bytes.items result }
-{
-    of_digits(explain_with(alloc, &mut Pieces::of(input), writer, form, style, max))
-}
-
-/// Explains a dump.
-fn explain_dumped(
-    alloc: Global,
-    input: &[u8],
-    writer: &mut MemorySink,
-    style: Style,
-    max: u16,
-) -> Result<(), DetectedFault>
-    requires whole { writer.old.refused ≡ false }
-    requires empty { writer.old.bytes.items ≡ [] }
-    requires max { (0 < max) × (max ≤ MOST) }
-    ensures { ExplainsDumped style max input.now writer.new.bytes.items result }
-{
-    of_dump(explain_dump(alloc, &mut Pieces::of(input), writer, style, max))
-}
-
-/// Explains an input whose form is detected.
-fn explain_found(
-    alloc: Global,
-    input: &[u8],
-    writer: &mut MemorySink,
-    style: Style,
-    max: u16,
-) -> Result<(), DetectedFault>
-    requires whole { writer.old.refused ≡ false }
-    requires empty { writer.old.bytes.items ≡ [] }
-    requires max { (0 < max) × (max ≤ MOST) }
-    ensures { ExplainsFound style max input.now writer.new.bytes.items result }
-{
-    explain_detected(alloc, &mut Pieces::of(input), writer, style, max)
-}
-
-/// Explains an input in a form: 0 is detected, 1 digits, 2 digits as in logs, 3 raw, 4 a dump.
+/// Explains an input in the form with this number.
 fn explain_form(
     alloc: Global,
     form: u8,
@@ -94,19 +23,20 @@ fn explain_form(
     writer: &mut MemorySink,
     style: Style,
     max: u16,
-) -> Result<(), DetectedFault>
+) -> Result<(), ExplainFault>
     requires whole { writer.old.refused ≡ false }
     requires empty { writer.old.bytes.items ≡ [] }
     requires max { (0 < max) × (max ≤ MOST) }
     ensures { IsExplainedBy form style max input.now writer.new.bytes.items result }
 {
-    match form {
-        1 => explain_as(alloc, Form::Hex, input, writer, style, max),
-        2 => explain_as(alloc, Form::Text, input, writer, style, max),
-        3 => explain_as(alloc, Form::Raw, input, writer, style, max),
-        4 => explain_dumped(alloc, input, writer, style, max),
-        _ => explain_found(alloc, input, writer, style, max),
-    }
+    explain_with(
+        alloc,
+        &mut Pieces::of(input),
+        writer,
+        form_of(form),
+        style,
+        max,
+    )
 }
 
 /// Explains an input: puts the lines of its items into the front of `out`, and returns 0, or the

@@ -5,7 +5,7 @@ ghost use Rattle.ddcmp_frame.specs.Limits.{MAX_COUNT as MOST};
 use crate::codes::{MAX, MEMORY, OK, input_code};
 use crate::decoding::form_of;
 use crate::output::hand;
-use ddcmp_explain::DetectedFault;
+use ddcmp_explain::ExplainFault;
 use ddcmp_frame::MAX_COUNT;
 use ddcmp_io::MemorySink;
 use ddcmp_io::failing::Pieces;
@@ -23,14 +23,14 @@ fn draw(
     second: &[u8],
     kept: &mut MemorySink,
     of: &mut u8,
-) -> Result<(), DetectedFault>
+) -> Result<(), ExplainFault>
     requires max { (0 < max) × (max ≤ MOST) }
     requires whole { kept.old.refused ≡ false }
 {
     let form = form_of(form);
     let Ok(mut one) = Capture::new(alloc, Pieces::of(first), form, Side::Caller, discarded, max)
     else {
-        return Err(DetectedFault::Memory);
+        return Err(ExplainFault::Memory);
     };
     let Ok(mut two) = Capture::new(
         alloc,
@@ -40,11 +40,11 @@ fn draw(
         discarded,
         max,
     ) else {
-        return Err(DetectedFault::Memory);
+        return Err(ExplainFault::Memory);
     };
     match draw_captures(&mut one, &mut two, kept) {
         Ok(()) => Ok(()),
-        Err(DrawFault::Write) => Err(DetectedFault::Memory),
+        Err(DrawFault::Write) => Err(ExplainFault::Memory),
         Err(DrawFault::Capture(Side::Caller, fault)) => Err(fault),
         Err(DrawFault::Capture(Side::Called, fault)) => {
             *of = 1;

@@ -10,7 +10,8 @@ use crate::port::{Need, News, Opening, Port, Transfer};
 use crate::system::System;
 use std::alloc::{AllocError, Global};
 
-/// After how many turns the ports are polled although something moved, so that none starves another.
+/// After how many turns the ports are polled although something moved, so that none starves
+/// another.
 const TURNS: u64 = 16;
 
 /// How many times bytes are given before another port is served.

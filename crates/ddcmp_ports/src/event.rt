@@ -3,7 +3,7 @@ use crate::fault::OpenFault;
 use std::fmt;
 use std::net::SocketAddr;
 
-/// How far the opening of a line has come.
+/// How far the opening of a line has come, or what has come over it beside its bytes.
 #[derive(Clone, Copy, Debug)]
 pub enum LineEvent {
     Listening(SocketAddr),
@@ -11,6 +11,10 @@ pub enum LineEvent {
     Connected(SocketAddr),
     /// A caller at this address may not have the line.
     Refused(SocketAddr),
+    /// A line of datagrams has the first address, and its peer the second one.
+    Bound(SocketAddr, SocketAddr),
+    /// A datagram from the first address was dropped, since the peer has the second one.
+    Stranger(SocketAddr, SocketAddr),
 }
 
 impl fmt::Display for LineEvent {
@@ -25,7 +29,29 @@ impl fmt::Display for LineEvent {
             LineEvent::Connecting(addr) => write!(f, "connecting {addr}"),
             LineEvent::Connected(addr) => write!(f, "connected {addr}"),
             LineEvent::Refused(addr) => write!(f, "refused {addr}"),
+            LineEvent::Bound(local, peer) => write!(f, "bound {local}, peer {peer}"),
+            LineEvent::Stranger(sender, peer) => {
+                write!(f, "datagram from {sender} ignored: the peer is {peer}")
+            }
         }
+    }
+}
+
+/// A device that was opened.
+#[derive(Clone, Copy)]
+pub struct DeviceOpened<'a> {
+    pub path: &'a str,
+}
+
+impl fmt::Display for DeviceOpened<'_> {
+    ghost use Rattle.std.specs.Prelude.{Some};
+    ghost use Rattle.ddcmp_ports.specs.Events.{device_text};
+
+    ghost output = { λ opened. Some (device_text opened) };
+
+    fn fmt<W: fmt::Write>(&self, f: &mut fmt::Formatter<W>) -> fmt::Result {
+        let path = self.path;
+        write!(f, "opened {path}")
     }
 }
 

@@ -38,6 +38,10 @@ pub enum Cause {
     System(ErrorKind),
     /// No host has this name.
     UnknownHost,
+    /// The name of an address has a port alone.
+    NoHost,
+    /// Its port is no number, or too large.
+    NoPort,
     /// One of the two addresses of a line of datagrams is IPv4, and the other IPv6.
     OtherFamily,
     /// The file isn't a character device.
@@ -60,6 +64,8 @@ impl Cause {
         match self {
             Cause::System(kind) => words_of(kind),
             Cause::UnknownHost => "no such host",
+            Cause::NoHost => "the host is missing, as in 0.0.0.0:7000",
+            Cause::NoPort => "the port isn't a number up to 65535",
             Cause::OtherFamily => "not of the other address's family",
             Cause::NotDevice => "not a character device",
             Cause::InUse => "already in use",

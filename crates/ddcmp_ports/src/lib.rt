@@ -15,7 +15,7 @@ mod system;
 
 pub use buffers::{Buffers, run};
 pub use chunk::Chunk;
-pub use event::{LineEvent, Retry};
+pub use event::{DeviceOpened, LineEvent, Retry};
 pub use fault::{Attempt, Cause, OpenFault, OpenRefusal};
 pub use line_name::LineName;
 pub use machine::Machine;

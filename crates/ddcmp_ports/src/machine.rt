@@ -1,5 +1,6 @@
 //! What decides.
-ghost use Rattle.std.specs.Prelude.{◌≡◌, ◌≢◌, ◌≤◌, ◌<◌, ℕ, Option, List, None, Some, [], false, length, take};
+ghost use Rattle.std.specs.Prelude.{◌≡◌, ◌≢◌, ◌≤◌, ◌<◌, ℕ, Option, List, None, Some, [], false};
+ghost use Rattle.std.specs.Prelude.{length, take};
 ghost use Rattle.ddcmp_ports.specs.declared.port.Port.{Port as PortValue};
 ghost use Rattle.ddcmp_ports.specs.declared.port.Need.{Need as NeedValue};
 ghost use Rattle.ddcmp_ports.specs.declared.port.Down.{Down as DownValue};
@@ -8,8 +9,8 @@ ghost use Rattle.ddcmp_ports.specs.Running.{Rested, Shut, Stopped, Told, Took};
 
 use crate::port::{Need, News, Port};
 
-/// A value without I/O and clock: it is given bytes, news and moments by port, and has bytes pending
-/// by port.
+/// A value without I/O and clock: it is given bytes, news and moments by port, and has bytes
+/// pending by port.
 pub trait Machine {
     /// What it was asked for.
     type Asked;

@@ -27,7 +27,8 @@ pub trait System {
     /// Reads into the front of `space`, without waiting.
     fn read(&mut self, port: Port, space: &mut [u8]) -> Transfer
         requires space { 0 < length space.old }
-        ensures trace { Changes port (after_read result space.new) (trace self.old) (trace self.new) }
+        ensures trace { Changes port (after_read result space.new)
+            (trace self.old) (trace self.new) }
         ensures fits { count_moved result ≤ length space.new }
         ensures stuck { Sticks port (λ s. record s { read = moves_nothing result })
             (stuck self.old) (stuck self.new) }
@@ -36,7 +37,8 @@ pub trait System {
     /// Writes bytes from the front of `bytes`, without waiting.
     fn write(&mut self, port: Port, bytes: &[u8]) -> Transfer
         requires some { 0 < length bytes.now }
-        ensures trace { Changes port (after_written result bytes.now) (trace self.old) (trace self.new) }
+        ensures trace { Changes port (after_written result bytes.now)
+            (trace self.old) (trace self.new) }
         ensures fits { count_moved result ≤ length bytes.now }
         ensures stuck { Sticks port (λ s. record s { write = moves_nothing result })
             (stuck self.old) (stuck self.new) }

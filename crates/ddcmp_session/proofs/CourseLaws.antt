@@ -10,7 +10,7 @@ use Rattle.ddcmp_session.specs.declared.session.EndReason.TheVariants.{Time}
 use Rattle.ddcmp_session.specs.Course.{after_looked, after_moment, after_notice, after_notices}
 use Rattle.ddcmp_session.specs.Course.{after_pauses, after_unheard, after_writing}
 use Rattle.ddcmp_session.specs.Course.{expiry_counted, try_counted}
-use Rattle.ddcmp_session.specs.Session.{SessionView, after_telling, after_timeout, awaits_peer}
+use Rattle.ddcmp_session.specs.Session.{SessionView, after_told, after_timeout, awaits_peer}
 use Rattle.ddcmp_session.specs.Session.{course_received, expires, is_sending, timed_out}
 use Rattle.ddcmp_streams.specs.Options.{report_ms, speed_of}
 use Rattle.ddcmp_session.specs.Timing.{end, run_ends_at}
@@ -63,7 +63,7 @@ moment-is now s =
     either (is_sending t) c (expiry_counted s.is_read c) now refl
     (either s.is_read _ (try_counted None c) now refl refl) in
     let at = either (expires now s && not (awaits_peer t)) _ c now counted refl in
-    either (wants_line u) _ (after_unheard (after_telling u).course) now at at
+    either (wants_line u) _ (after_unheard (after_told (expires now s) u).course) now at at
 
 pub time-is-over : (s new : SessionView) (now : ℕ) → now ≡ run_ends_at s
     → new ≡ after_timeout now s → end new ≡ Some Time

@@ -19,7 +19,7 @@ use Rattle.ddcmp_session.specs.Course.{after_pauses, after_refusal, after_unhear
 use Rattle.ddcmp_session.specs.Course.{expiry_counted, is_at, lost_more, naks_of, next_pause}
 use Rattle.ddcmp_session.specs.Course.{pause_at, progress_of, refusal_between, try_counted}
 use Rattle.ddcmp_session.specs.Session.{SessionView, after_connecting_in, after_entries}
-use Rattle.ddcmp_session.specs.Session.{after_input_end, after_telling, after_time, after_timeout}
+use Rattle.ddcmp_session.specs.Session.{after_input_end, after_told, after_time, after_timeout}
 use Rattle.ddcmp_session.specs.Session.{awaits_peer, expires, is_sending, lost_by_start, starts}
 use Rattle.ddcmp_session.specs.Session.{timed_out, wants_line}
 use Rattle.ddcmp_session.specs.Timing.{PassesTime, after_failure, after_line, is_listener}
@@ -106,10 +106,11 @@ unfolding after_looked
 looked ms before d c =
     let n = naks_of d.station.core.counters.nak_sent in
     let why = refusal_between before d.station.core.counters.nak_received in
-    let one = after_refusal ms why (after_acknowledged d.totals.acknowledged (after_heard c)) in
+    let heard = after_heard d.totals.read c in
+    let one = after_refusal ms why (after_acknowledged d.totals.acknowledged heard) in
     let held = after_naks ms n (progress_of d) one in
     let four = after-naks d held in
-    let kept = refusal-keeps ms why d.totals.acknowledged (after_heard c) in
+    let kept = refusal-keeps ms why d.totals.acknowledged heard in
     goes-on ms held.moment _ c.nak_pause held.nak_pause _
     (subst (λ p. Goes ms held.moment p held.nak_pause) kept.0 (naks ms n (progress_of d) one))
     four.nak_pause four.moment
@@ -149,7 +150,7 @@ timed-pause now s =
     either-nak (is_sending t) c (expiry_counted s.is_read c) p refl
     (either-nak s.is_read _ (try_counted None c) p refl refl) in
     let at = either-nak (expires now s && not (awaits_peer t)) _ c p counted refl in
-    either-nak (wants_line u) _ (after_unheard (after_telling u).course) p at at
+    either-nak (wants_line u) _ (after_unheard (after_told (expires now s) u).course) p at at
 
 -- ---- each call
 

@@ -30,7 +30,7 @@ use Rattle.ddcmp_session.specs.Course.{refusal_between}
 use Rattle.ddcmp_session.specs.Course.{try_counted}
 use Rattle.ddcmp_session.specs.Session.{SessionView, after_connecting_in}
 use Rattle.ddcmp_session.specs.Session.{after_entries, after_entry, after_input_end}
-use Rattle.ddcmp_session.specs.Session.{after_last_line, after_telling, after_time, after_timeout}
+use Rattle.ddcmp_session.specs.Session.{after_last_line, after_told, after_time, after_timeout}
 use Rattle.ddcmp_session.specs.Session.{after_unfinished, awaits_peer, expires, is_sending}
 use Rattle.ddcmp_session.specs.Session.{lost_by_start, starts}
 use Rattle.ddcmp_session.specs.Session.{takes_end, timed_out, wants_line}
@@ -205,11 +205,12 @@ looked ms before d c =
     let p = progress_of d in
     let n = naks_of d.station.core.counters.nak_sent in
     let why = refusal_between before d.station.core.counters.nak_received in
-    let one = after_refusal ms why (after_acknowledged d.totals.acknowledged (after_heard c)) in
+    let heard = after_heard d.totals.read c in
+    let one = after_refusal ms why (after_acknowledged d.totals.acknowledged heard) in
     let held = after_naks ms n p one in
     let four = after-naks d held in
     goes-on ms one.moment _ c.pause one.pause _
-    (refused ms why d.totals.acknowledged (after_heard c))
+    (refused ms why d.totals.acknowledged heard)
     (four.pause
     ∙ either-pause (not (is_at p one.progress)) _ _ one.pause refl
     (either-pause (n == one.naks || is_some one.nak_pause) one _ one.pause refl refl))
@@ -273,7 +274,7 @@ timed-pause now s =
     either-pause (is_sending t) c (expiry_counted s.is_read c) p refl
     (either-pause s.is_read _ (try_counted None c) p refl refl) in
     let at = either-pause (expires now s && not (awaits_peer t)) _ c p counted refl in
-    either-pause (wants_line u) _ (after_unheard (after_telling u).course) p at at
+    either-pause (wants_line u) _ (after_unheard (after_told (expires now s) u).course) p at at
 
 pub ended-pause : (now until : ℕ) (p : Option ℕ) → p ≡ Some until → until ≤ now
     → pause_at now p ≡ None

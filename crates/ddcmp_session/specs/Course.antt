@@ -13,6 +13,8 @@ use Rattle.ddcmp_core.specs.declared.state.State.TheVariants.{Maintenance}
 use Rattle.ddcmp_station.specs.Driving.{is_due, later}
 use Rattle.ddcmp_station.specs.Linking.{LinkView, delivered, is_needed, state_of, total_plus}
 use Rattle.ddcmp_session.specs.declared.course.Course.{Course}
+use Rattle.ddcmp_session.specs.declared.course.start.Unstarted.{Unstarted}
+use Rattle.ddcmp_session.specs.declared.course.start.Unstarted.TheVariants.{Silence, Noise}
 use Rattle.ddcmp_session.specs.declared.course.progress.Progress.{Progress}
 
 abbrev pub never : ℕ
@@ -39,6 +41,15 @@ course_begun report_ms = record {
   nak_pause_ms = 0;
   told_too_long = false;
   told_damaged = false;
+  starts = 0;
+  read = 0;
+  read_before = 0;
+  told_refused_long = 0;
+  refused_long_at = 0;
+  told_no_buffer = 0;
+  no_buffer_at = 0;
+  silence_at = 0;
+  noise_at = 0;
   written = 0;
   written_then = 0;
   sends_until = 0;
@@ -103,6 +114,8 @@ after_connecting c = record c {
   pause_ms = 0;
   nak_pause = None;
   nak_pause_ms = 0;
+  starts = 0;
+  read_before = c.read;
   peer_has_started = false;
   has_run_here = false;
   peer_restarted = false;
@@ -134,9 +147,9 @@ expiry_counted is_read c =
 abbrev pub after_unheard : Course → Course
 after_unheard c = record c { quiet_since = c.moment; unanswered = 0 }
 
--- A byte was received.
-abbrev pub after_heard : Course → Course
-after_heard c = record c { unanswered = 0 }
+-- Bytes were received, with which there were this many.
+abbrev pub after_heard : ℕ → Course → Course
+after_heard read c = record c { unanswered = 0; read = read }
 
 -- The reason of a NAK, other than a reply to REP, that was received between these two counts.
 abbrev pub refusal_between : NakCounts → NakCounts → Option Nak
@@ -257,7 +270,69 @@ after_looked timer_ms before d c =
     (after_noise d (progress_of d)
     (after_naks timer_ms (naks_of d.station.core.counters.nak_sent) (progress_of d)
     (after_refusal timer_ms (refusal_between before d.station.core.counters.nak_received)
-    (after_acknowledged d.totals.acknowledged (after_heard c))))))
+    (after_acknowledged d.totals.acknowledged (after_heard d.totals.read c))))))
+
+-- ---- what the peer refuses
+
+-- There were more NAKs of a reason than when that was told, which it is each minute at most.
+abbrev pub is_untold : ℕ → ℕ → ℕ → ℕ → Bool
+is_untold told naks at now = not (naks == told) && nat_le at now
+
+abbrev pub tells_refused_long : NakCounts → Course → Bool
+tells_refused_long n c = is_untold c.told_refused_long n.too_long c.refused_long_at c.moment
+
+abbrev pub tells_no_buffer : NakCounts → Course → Bool
+tells_no_buffer n c = is_untold c.told_no_buffer n.no_buffer c.no_buffer_at c.moment
+
+abbrev pub after_refusals_told : NakCounts → Course → Course
+after_refusals_told n c = record c {
+  told_refused_long = if tells_refused_long n c then n.too_long else c.told_refused_long;
+  refused_long_at = if tells_refused_long n c then later c.moment 60000 else c.refused_long_at;
+  told_no_buffer = if tells_no_buffer n c then n.no_buffer else c.told_no_buffer;
+  no_buffer_at = if tells_no_buffer n c then later c.moment 60000 else c.no_buffer_at;
+}
+
+-- ---- before the peer's start
+
+-- The station has sent STRT, and no STRT or STACK was received.
+abbrev pub has_asked : State → Bool
+has_asked IStart = true
+has_asked _ = false
+
+-- how many bytes were received over this line
+abbrev pub heard_here : Course → ℕ
+heard_here c = c.read - c.read_before
+
+-- What is received of a peer that doesn't start is reported after four STRTs, and then each minute:
+-- silence, or that the bytes, 16 or more, are neither STRT nor STACK.
+abbrev pub unstarted : Course → Option Unstarted
+unstarted c =
+    if nat_lt c.starts 4 then None
+    else if nat_lt (heard_here c) 16
+    then (if nat_le c.silence_at c.moment then Some Silence else None)
+    else if nat_le c.noise_at c.moment then Some Noise
+    else None
+
+abbrev pub is_silence : Option Unstarted → Bool
+is_silence (Some Silence) = true
+is_silence _ = false
+
+abbrev pub is_noise : Option Unstarted → Bool
+is_noise (Some Noise) = true
+is_noise _ = false
+
+-- this was reported, if anything was
+abbrev pub after_unstarted : Option Unstarted → Course → Course
+after_unstarted it c = record c {
+  silence_at = if is_silence it then later c.moment 60000 else c.silence_at;
+  noise_at = if is_noise it then later c.moment 60000 else c.noise_at;
+}
+
+-- the reply timer expired after one more STRT, if `counts`
+abbrev pub start_counted : Bool → Course → Course
+start_counted counts c = record c {
+  starts = if counts then min (c.starts + 1) 4294967295 else c.starts;
+}
 
 -- messages that were read and will never be acknowledged
 abbrev pub lost_more : ℕ → Course → Course

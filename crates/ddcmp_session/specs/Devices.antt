@@ -1,11 +1,9 @@
 -- The devices of a session, the bytes that were read from them and written to them, and how a
 -- session proceeds over them.
-use Rattle.std.specs.Prelude.{◌≡◌, ℕ, ◌==◌, ◌<◌, ◌⊎◌, Bool, true, false, if◌then◌else◌, List, []}
-use Rattle.std.specs.Prelude.{◌++◌, ◌&&◌, is_none, length, not}
-use Rattle.std.specs.Prelude.{Option, Some, None, ⊤, ◌∷◌}
+use Rattle.std.specs.Prelude.{◌≡◌, ℕ, ◌<◌, ◌⊎◌, Bool, true, false, if◌then◌else◌, List, []}
+use Rattle.std.specs.Prelude.{◌++◌, Option, Some, None, ⊤, ◌∷◌}
 use Rattle.ddcmp_frame.specs.Reader.{StandsFor}
 use Rattle.ddcmp_io.specs.declared.transfer.Down.{Down}
-use Rattle.ddcmp_io.specs.declared.transfer.Wanted.{Wanted}
 use Rattle.ddcmp_session.specs.declared.devices.DeviceFault.{DeviceFault}
 use Rattle.ddcmp_session.specs.declared.devices.DeviceFault.TheVariants.{Line}
 use Rattle.ddcmp_session.specs.Traffic.{LineLog, Traffic, received, sent}
@@ -98,26 +96,6 @@ abbrev pub Reports : BuffersView → SessionView → Option Traffic → Option T
 Reports held old before after fault = (h : SessionHistory) (t now : Traffic)
     → h.session ≡ old → before ≡ Some t → Agrees held h t → after ≡ Some now
     → HasReported fault now
-
--- ---- which devices are waited for
-
--- the input, if a message is wanted and what was read before is used
-abbrev pub reads_input : BuffersView → SessionView → Bool
-reads_input held s = not held.is_over && (length held.input == 0) && wants_input s
-
--- the line, if what was received before is used
-abbrev pub reads_line : BuffersView → SessionView → Bool
-reads_line held s = (length held.received == 0) && wants_line s
-
--- each of them, and an output if bytes are queued for it
-abbrev pub wanted : Bool → BuffersView → SessionView → Wanted
-wanted errors held s = record {
-  input = reads_input held s;
-  output = not (length s.output.waiting == 0);
-  errors = errors;
-  from_line = reads_line held s;
-  to_line = is_none held.down && not (length s.link.outbox.waiting == 0);
-}
 
 -- ---- how it proceeds
 

@@ -19,10 +19,16 @@ use Rattle.ddcmp_session.specs.EndText.{echo_text, end_line, line_down_text}
 use Rattle.ddcmp_streams.specs.Echo.{EchoView, IsEcho, after_more}
 use Rattle.ddcmp_streams.specs.Errors.{ErrorsView, HasLine, HasObject}
 use Rattle.ddcmp_session.specs.Reports.{given_up_text, report_members, report_text, silence_text}
-use Rattle.ddcmp_session.specs.Reports.{wrong_text}
+use Rattle.ddcmp_session.specs.Reports.{no_buffer_text, telnet_text, unstarted_text, wrong_text}
+use Rattle.ddcmp_frame.specs.declared.nak.Nak.TheVariants as nak
+use Rattle.ddcmp_core.specs.declared.counters.NakCounts.{NakCounts}
+use Rattle.ddcmp_session.specs.declared.course.Course.{Course}
+use Rattle.ddcmp_session.specs.Course.{tells_no_buffer, tells_refused_long}
+use Rattle.ddcmp_session.specs.Session.{is_telnet, refusals_of}
 use Rattle.ddcmp_streams.specs.Messages.{after_last, entry_of_last, is_message_unfinished}
 use Rattle.ddcmp_streams.specs.Messages.{is_question}
-use Rattle.ddcmp_session.specs.Session.{SessionView, expires, is_delivered, timed_out, untold}
+use Rattle.ddcmp_session.specs.Session.{SessionView, after_start, course_at_start, expires}
+use Rattle.ddcmp_session.specs.Session.{is_delivered, timed_out, unstarted_now, untold}
 use Rattle.ddcmp_streams.specs.Options.{report_ms}
 use Rattle.ddcmp_session.specs.Text.{dropped_by, lost_line}
 use Rattle.ddcmp_session.specs.Timing.{is_first_silence, is_given_up, stays}
@@ -147,6 +153,25 @@ ReportsWrong s old new =
     (λ wrong.
     HasLine SHORT_LINE (wrong_text s.link.station.core.limits.longest wrong) old new)
 
+-- What is received of a peer that doesn't start is reported.
+abbrev pub ReportsUnstarted : Bool → SessionView → ErrorsView → ErrorsView → Type 0
+ReportsUnstarted has_expired s old new =
+    MatchOption (unstarted_now has_expired s) (new ≡ old)
+    (λ it. HasLine SHORT_LINE (unstarted_text (course_at_start has_expired s) it) old new)
+
+-- The peer has refused a message as too long, or has had no buffer.
+pub record ReportsRefusals (n : NakCounts) (c : Course) (old new : ErrorsView) : Type 0 where
+  pub told : ErrorsView
+  pub too_long : MatchBool (tells_refused_long n c)
+      (HasLine SHORT_LINE (given_up_text (Some nak.TooLong)) old told) (told ≡ old)
+  pub no_buffer : MatchBool (tells_no_buffer n c)
+      (HasLine SHORT_LINE no_buffer_text told new) (new ≡ told)
+
+-- The first bytes of a line are those of telnet.
+abbrev pub ReportsTelnet : List ℕ → SessionView → ErrorsView → ErrorsView → Type 0
+ReportsTelnet bytes s old new =
+    MatchBool (is_telnet bytes s) (HasLine SHORT_LINE telnet_text old new) (new ≡ old)
+
 -- bytes were sent over the line, or received from it
 abbrev pub echo_sent : List ℕ → LogView → LogView
 echo_sent bytes l = record l {
@@ -175,14 +200,22 @@ ReportsEcho s e old new =
     (SeemsToEcho s e × HasLine SHORT_LINE echo_text old new)
     ⊎ ((SeemsToEcho s e → ⊥) × (new ≡ old))
 
+-- What is to be told of the peer was told, when the timer had expired or not.
+pub record TellsPeer (has_expired : Bool) (s : SessionView) (old new : ErrorsView) : Type 0 where
+  pub left : ErrorsView
+  pub given_up : ReportsGivenUp s old left
+  pub goes_on : ErrorsView
+  pub silence : ReportsSilence has_expired s left goes_on
+  pub asks : ErrorsView
+  pub unstarted : ReportsUnstarted has_expired s goes_on asks
+  pub told : ErrorsView
+  pub wrong : ReportsWrong (after_start has_expired s) asks told
+  pub refusals : ReportsRefusals (refusals_of s) (after_start has_expired s).course told new
+
 -- All timers were handled at this moment.
 pub record HandlesTimeout (now : ℕ) (s : SessionView) (old new : LogView) : Type 0 where
   pub passed : ErrorsView
   pub moment : PassesMoment now s old passed
-  pub left : ErrorsView
-  pub given_up : ReportsGivenUp (timed_out now s) passed left
-  pub goes_on : ErrorsView
-  pub silence : ReportsSilence (expires now s) (timed_out now s) left goes_on
   pub told : ErrorsView
-  pub wrong : ReportsWrong (timed_out now s) goes_on told
+  pub tells : TellsPeer (expires now s) (timed_out now s) passed told
   pub traced : Traces (Wakes now (expires now s)) old.trace (record old { errors = told }) new

@@ -17,6 +17,7 @@ use Rattle.ddcmp_station.specs.Linking.{anew_for_maintenance, after_offered_main
 use Rattle.ddcmp_station.specs.Linking.{carries_refusal, owes_ack, totals_after_feed, wants_bytes}
 use Rattle.ddcmp_station.specs.declared.link.Totals.{Totals}
 use Rattle.ddcmp_session.specs.declared.course.Course.{Course}
+use Rattle.ddcmp_session.specs.declared.course.start.Unstarted.{Unstarted}
 use Rattle.ddcmp_session.specs.declared.course.Wrong.{Wrong}
 use Rattle.ddcmp_session.specs.declared.course.Wrong.TheVariants.{Damaged, TooLong}
 use Rattle.ddcmp_streams.specs.declared.messages.MessageForm.{MessageForm}
@@ -32,7 +33,9 @@ use Rattle.ddcmp_session.specs.declared.text.TheConstants.{LINE_ROOM, LOST_ROOM,
 use Rattle.ddcmp_session.specs.Course.{course_begun, after_connecting, after_moment, after_pauses}
 use Rattle.ddcmp_session.specs.Course.{after_entering, lost_more}
 use Rattle.ddcmp_session.specs.Course.{after_looked, after_notices, after_unheard}
-use Rattle.ddcmp_session.specs.Course.{after_writing, expiry_counted}
+use Rattle.ddcmp_session.specs.Course.{after_unstarted, after_writing, expiry_counted, has_asked}
+use Rattle.ddcmp_session.specs.Course.{after_refusals_told, heard_here, start_counted, unstarted}
+use Rattle.ddcmp_core.specs.declared.counters.NakCounts.{NakCounts}
 use Rattle.ddcmp_streams.specs.Messages.{messages_begun, message_in, after_input}
 use Rattle.ddcmp_streams.specs.Messages.{entries_of_input, after_last, entry_of_last}
 use Rattle.ddcmp_streams.specs.Messages.{is_message_unfinished, is_question, count_of}
@@ -176,6 +179,15 @@ lost_by_end s = if s.has_line then lost_in s.options.maintenance s.link else 0
 abbrev pub reports_loss : SessionView → Bool
 reports_loss s = nat_le LOST_ROOM s.output.room
 
+-- A telnet line begins with IAC WILL or IAC DO.
+abbrev pub begins_telnet : List ℕ → Bool
+begins_telnet (first ∷ second ∷ rest) = first == 255 && (second == 251 || second == 253)
+begins_telnet _ = false
+
+-- such bytes are the first of this line
+abbrev pub is_telnet : List ℕ → SessionView → Bool
+is_telnet bytes s = heard_here s.course == 0 && begins_telnet bytes
+
 -- ---- the line is opened and its timers are handled
 
 -- A session that is connected starts if all received messages were delivered. If not, messages
@@ -201,9 +213,12 @@ abbrev pub expires : ℕ → SessionView → Bool
 expires now s =
     expires_at s.link.milliseconds now s.link.station.core.station.timer s.link.deadline
 
--- no peer has started yet: on a line that is no connection it may start at any time
+-- no peer has started yet: on a line that is no connection it may start at any time, unless a
+-- number of tries is set
 abbrev pub awaits_peer : SessionView → Bool
-awaits_peer s = not (is_connection s.kind) && not s.course.peer_has_started
+awaits_peer s =
+    s.options.attempts == 4294967295
+    && (not (is_connection s.kind) && not s.course.peer_has_started)
 
 -- a moment passed without a line
 abbrev pub after_time : ℕ → SessionView → SessionView
@@ -271,8 +286,36 @@ after_telling s = record s {
   };
 }
 
+-- a STRT was sent, and has no reply when the timer expires
+abbrev pub counts_start : Bool → SessionView → Bool
+counts_start has_expired s = has_expired && has_asked (state_of s.link).state
+
+abbrev pub course_at_start : Bool → SessionView → Course
+course_at_start has_expired s = start_counted (counts_start has_expired s) s.course
+
+-- what is reported then of a peer that doesn't start
+abbrev pub unstarted_now : Bool → SessionView → Option Unstarted
+unstarted_now has_expired s =
+    if counts_start has_expired s then unstarted (course_at_start has_expired s) else None
+
+abbrev pub after_start : Bool → SessionView → SessionView
+after_start has_expired s = record s {
+  course = after_unstarted (unstarted_now has_expired s) (course_at_start has_expired s);
+}
+
+-- the NAKs that were received
+abbrev pub refusals_of : SessionView → NakCounts
+refusals_of s = s.link.station.core.counters.nak_received
+
+abbrev pub after_refusals : SessionView → SessionView
+after_refusals s = record s { course = after_refusals_told (refusals_of s) s.course }
+
+-- what is to be told of the peer was told
+abbrev pub after_told : Bool → SessionView → SessionView
+after_told has_expired s = after_refusals (after_telling (after_start has_expired s))
+
 abbrev pub after_timeout : ℕ → SessionView → SessionView
-after_timeout now s = unless_read (after_telling (timed_out now s))
+after_timeout now s = unless_read (after_told (expires now s) (timed_out now s))
 
 -- the course after bytes of the line were used, with the link after that and their notices
 abbrev pub course_received : SessionView → LinkView → List Notice → Course

@@ -58,9 +58,8 @@ impl Drop for Buffers {
 impl Buffers {
     ghost use Rattle.std.specs.Prelude.{◌≡◌, Option, true, false, [], is_ok};
     ghost use Rattle.ddcmp_core.specs.Table.{after_halt, answer_to_start};
-    ghost use Rattle.ddcmp_session.specs.Devices.{reads_input, reads_line};
     ghost use Rattle.ddcmp_session.specs.Traffic.{Becomes, Traffic, line_begun};
-    ghost use Rattle.ddcmp_session.specs.Devices.{wanted};
+    ghost use Rattle.ddcmp_session.specs.Waiting.{reads_input, reads_line, wanted};
     ghost use Rattle.ddcmp_session.specs.Lines.{Closes, GoesOver, none_received};
     ghost use Rattle.ddcmp_session.specs.Session.{after_connected};
 
@@ -95,7 +94,7 @@ impl Buffers {
 
     /// Returns which devices are to be waited for.
     pub fn wanted(&self, session: &Session) -> Wanted
-        ensures { result ≡ wanted result.errors self.now session.now.state }
+        ensures { result ≡ wanted self.now session.now }
     {
         Wanted {
             input: self.wants_input(session),

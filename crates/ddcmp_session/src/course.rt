@@ -9,11 +9,14 @@ ghost use Rattle.ddcmp_session.specs.Course.{reports_at, sending_ms, try_counted
 
 mod pauses;
 mod progress;
+mod refusals;
+mod start;
 
 use ddcmp_frame::Nak;
 use ddcmp_station::{Link, NakCounts, State};
 use pauses::{naks_of, refusal_between};
 use progress::{Progress, goes_on, is_at, progress_of};
+pub(crate) use start::Unstarted;
 
 /// The shortest and the longest pause before a line is opened again, in seconds.
 const LEAST_SECONDS: u64 = 1;
@@ -88,6 +91,20 @@ pub(crate) struct Course {
     /// Whether it was reported that the peer's messages are too long, and that frames come damaged.
     pub(crate) told_too_long: bool,
     pub(crate) told_damaged: bool,
+    /// How many STRTs were sent over this line before the reply timer expired last.
+    pub(crate) starts: u32,
+    /// How many bytes had been received when the link was fed last, and when it got this line.
+    pub(crate) read: u64,
+    pub(crate) read_before: u64,
+    /// How many NAKs with reason 16 (message too long) and 8 (no buffer) had been received when
+    /// that was reported last, and from when on it is reported again.
+    pub(crate) told_refused_long: u32,
+    pub(crate) refused_long_at: u64,
+    pub(crate) told_no_buffer: u32,
+    pub(crate) no_buffer_at: u64,
+    /// From when on silence, and noise, before the peer's start are reported again.
+    pub(crate) silence_at: u64,
+    pub(crate) noise_at: u64,
     /// How many bytes had been written to the line at the last moment, and when the reply timer
     /// expired last.
     pub(crate) written: u64,
@@ -133,6 +150,15 @@ impl Course {
             nak_pause_ms: 0,
             told_too_long: false,
             told_damaged: false,
+            starts: 0,
+            read: 0,
+            read_before: 0,
+            told_refused_long: 0,
+            refused_long_at: 0,
+            told_no_buffer: 0,
+            no_buffer_at: 0,
+            silence_at: 0,
+            noise_at: 0,
             written: 0,
             written_then: 0,
             sends_until: 0,
@@ -186,6 +212,8 @@ impl Course {
         self.pause_ms = 0;
         self.nak_pause = None;
         self.nak_pause_ms = 0;
+        self.starts = 0;
+        self.read_before = self.read;
         self.peer_has_started = false;
         self.has_run_here = false;
         self.peer_restarted = false;
@@ -239,6 +267,7 @@ impl Course {
         ensures { self.new ≡ after_looked timer_ms before.now link.now self.old }
     {
         self.unanswered = 0;
+        self.read = link.totals().read;
         self.note_acknowledged(link.totals().acknowledged);
         self.note_refusal(
             refusal_between(before, &link.counters().nak_received),

@@ -63,6 +63,13 @@ pub trait Devices {
             (after_line_read result space.new) }
         ensures fits { count_moved result ≤ length space.new };
 
+    /// Reports what a read of the line has found beside its bytes, if anything.
+    fn report_read(&mut self, session: &mut Session)
+        ensures session { session.new.state ≡ session.old.state }
+        ensures log { session.new.log
+            ≡ record session.old.log { errors = session.new.log.errors } }
+        ensures devices { traffic self.new ≡ traffic self.old };
+
     /// Writes bytes from the front of `bytes` to the line, as far as it has room.
     fn write_line(&mut self, bytes: &[u8]) -> Transfer
         ensures gone { Becomes (traffic self.old) (traffic self.new)

@@ -7,6 +7,7 @@ mod input;
 mod line;
 mod output;
 mod patience;
+mod start;
 mod timing;
 
 use crate::course::Course;
@@ -139,7 +140,7 @@ fn trace_of(alloc: Global, options: &Options) -> Result<Option<Trace>, ConfigRef
 }
 
 impl Session {
-    ghost use Rattle.std.specs.Prelude.{◌≡◌, ◌⊎◌, [], IfOk, IsOk, None, Some, Err};
+    ghost use Rattle.std.specs.Prelude.{◌≡◌, ◌⊎◌, ◌+◌, ◌*◌, [], IfOk, IsOk, None, Some, Err};
     ghost use Rattle.ddcmp_frame.specs.Reader.{StandsFor};
     ghost use Rattle.ddcmp_proto.specs.Config.{first_refusal};
     ghost use Rattle.ddcmp_session.specs.Reported.{TracesIfAsked, log_made};
@@ -149,6 +150,7 @@ impl Session {
     pub fn new(alloc: Global, options: Options, kind: LineKind) -> Result<Session, ConfigRefusal>
         ensures made { IfOk result (λ s. s.state
             ≡ session_made options kind s.state.link.station.line) }
+        ensures room { IfOk result (λ s. s.state.output.size ≡ 131_232 + 4 * options.config.max) }
         ensures stands { IfOk result (λ s. StandsFor s.state.link.station.line []) }
         ensures log { IfOk result (λ s. s.log ≡ log_made options s.log.trace) }
         ensures traced { IfOk result (λ s. TracesIfAsked options s.log.trace) }

@@ -4,12 +4,13 @@ ghost use Rattle.hex.specs.Hex.{encode_lower};
 ghost use Rattle.ddcmp_io.specs.Written.{HandsOver};
 ghost use Rattle.ddcmp_session.specs.EndText.{totals_text, end_line, end_text};
 ghost use Rattle.ddcmp_streams.specs.Queued.{queued, paged};
-ghost use Rattle.ddcmp_session.specs.Reports.{report_members, report_text};
+ghost use Rattle.ddcmp_session.specs.Reports.{bytes_words, report_members, report_text};
+ghost use Rattle.ddcmp_session.specs.Reports.{silence_at_start};
 ghost use Rattle.ddcmp_session.specs.Text.{Puts, mail_text, lost_line};
 ghost use Rattle.ddcmp_station.specs.CountersText.{counters_line};
 ghost use Rattle.ddcmp_station.specs.StationText.{notice_line, number_text};
 
-use ddcmp_io::text::put_digits;
+use ddcmp_io::text::{put_digits, write_number};
 use ddcmp_io::{ByteQueue, Page};
 use ddcmp_station::{
     Layout, Link, Notice, notice_name, notice_number, state_name, write_counter, write_counters,
@@ -204,6 +205,30 @@ pub(crate) fn write_members(out: &mut ByteQueue, link: &Link, lost: u64)
     write_counts(&mut page, out, Layout::Json, link.counters());
     page.write(out, b"}\n");
     let _is_whole = page.flush(out);
+}
+
+/// Writes that next to nothing was received after this many STRTs.
+pub(crate) fn write_silence(out: &mut ByteQueue, starts: u32, bytes: u64)
+    ensures { HandsOver (queued out.old) (queued out.new) (silence_at_start starts bytes) }
+{
+    let mut page = Page::new();
+    page.write(out, b"ddcmp: no reply yet: ");
+    write_number(&mut page, out, starts);
+    page.write(out, b" STRT sent, ");
+    write_number(&mut page, out, bytes);
+    page.write(out, bytes_words(bytes));
+    let _is_whole = page.flush(out);
+}
+
+/// Returns the words after a number of bytes.
+fn bytes_words(n: u64) -> &'static [u8]
+    ensures { result.now ≡ bytes_words n }
+{
+    if n == 1 {
+        b" byte received\n"
+    } else {
+        b" bytes received\n"
+    }
 }
 
 /// Writes the totals of a link.

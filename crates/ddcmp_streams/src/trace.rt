@@ -1,6 +1,6 @@
 //! A trace: the frames that were written to the line and those received from it, discarded bytes,
 //! and expiries of the reply timer.
-ghost use Rattle.std.specs.Prelude.{◌≡◌, ◌+◌, ◌*◌, [], IfErr, IfOk, length, max, min};
+ghost use Rattle.std.specs.Prelude.{◌≡◌, ◌+◌, ◌*◌, [], IfErr, IfOk, Some, length, max, min};
 ghost use Rattle.ddcmp_io.specs.Written.{HandsOver};
 ghost use Rattle.ddcmp_streams.specs.Queued.{queued};
 ghost use Rattle.ddcmp_streams.specs.Errors.{HasLine, has_room};
@@ -16,7 +16,7 @@ use ddcmp_explain::Skipped;
 use ddcmp_frame::{Item, MAX_COUNT, ReaderRefusal};
 use ddcmp_io::text::write_number;
 use ddcmp_io::{ByteQueue, Page};
-use ddcmp_log::{LogNotation, Side, write_reasoned, write_skipped};
+use ddcmp_log::{LogNotation, Origin, Side, write_reasoned, write_skipped};
 use std::alloc::Global;
 use std::marker::Model;
 
@@ -31,13 +31,17 @@ pub enum Way {
 }
 
 impl Way {
-    /// Returns the side of the line that bytes in this direction come from.
-    fn side(self) -> Side
-        ensures { result ≡ side_of self }
+    /// Returns the origin of lines about bytes that are sent in this direction now.
+    fn origin(self, now: u64) -> Origin
+        ensures { result ≡ record { stamp = Some now; side = side_of self } }
     {
-        match self {
+        let side = match self {
             Way::ToLine => Side::Caller,
             Way::FromLine => Side::Called,
+        };
+        Origin {
+            stamp: Some(now),
+            side,
         }
     }
 }
@@ -248,8 +252,7 @@ fn write_discarded(now: u64, way: Way, skipped: Skipped, text: &mut ByteQueue)
         &mut page,
         text,
         LogNotation::Plain,
-        Some(now),
-        way.side(),
+        way.origin(now),
         skipped,
     );
     let _is_whole = page.flush(text);
@@ -271,6 +274,6 @@ fn write_line(now: u64, way: Way, item: &Item, data: &[u8], text: &mut ByteQueue
         (item_line now way (item.now, «data».now)) }
 {
     let mut page = Page::new();
-    write_reasoned(&mut page, text, Some(now), way.side(), item, data);
+    write_reasoned(&mut page, text, way.origin(now), item, data);
     let _is_whole = page.flush(text);
 }

@@ -3,10 +3,10 @@ ghost use Rattle.std.specs.Prelude.{◌≡◌, ◌+◌, ◌-◌, ◌<◌, ◌≤
 ghost use Rattle.ddcmp_frame.specs.Limits.{MAX_COUNT};
 
 use crate::order::{ItemSummary, Order};
-use ddcmp_explain::{DetectedFault, InputBytes, InputForm, PIECE, Reached, reached_by};
+use ddcmp_explain::{ExplainFault, InputBytes, InputForm, PIECE, Reached, Totals, reached_by};
 use ddcmp_frame::{Item, Pushed, Reader};
 use ddcmp_io::{Page, Sink, Source};
-use ddcmp_log::{LogNotation, NoMemory, Side, write_line, write_skipped, write_totals};
+use ddcmp_log::{LogNotation, NoMemory, Origin, Side, write_line, write_skipped, write_totals};
 use std::alloc::Global;
 
 const LADDER: LogNotation = LogNotation::Ladder;
@@ -15,7 +15,8 @@ const LADDER: LogNotation = LogNotation::Ladder;
 pub struct Capture<R> {
     side: Side,
     discarded: bool,
-    spelled: InputBytes<R>,
+    reader: R,
+    input: InputBytes,
     frames: Reader,
     // Bytes that were read; those from `at` up to `end` weren't taken yet.
     bytes: [u8; PIECE],
@@ -27,7 +28,7 @@ pub struct Capture<R> {
     /// Where the last drawn item ends.
     reached: Reached,
     ended: bool,
-    fault: Option<DetectedFault>,
+    fault: Option<ExplainFault>,
     ghost taken: { at ≤ end },
     ghost fits: { end ≤ 16384 },
 }
@@ -38,7 +39,8 @@ impl<R: Drop> Drop for Capture<R> {
         let Capture {
             side: _,
             discarded: _,
-            spelled: _spelled,
+            reader: _reader,
+            input: _input,
             frames: _frames,
             bytes: _,
             at: _,
@@ -65,7 +67,7 @@ fn push_some(frames: &mut Reader, bytes: &[u8; PIECE], at: usize, end: usize) ->
 #[derive(Debug, Drop, PartialEq, Eq)]
 pub enum DrawFault {
     /// The capture of this side can't be read further.
-    Capture(Side, DetectedFault),
+    Capture(Side, ExplainFault),
     Write,
 }
 
@@ -89,7 +91,8 @@ impl<R: Source + Drop> Capture<R> {
         Ok(Capture {
             side,
             discarded,
-            spelled: InputBytes::new(reader, written),
+            reader,
+            input: InputBytes::new(written),
             frames,
             bytes: [0; PIECE],
             at: 0,
@@ -120,7 +123,7 @@ impl<R: Source + Drop> Capture<R> {
     fn take(&mut self) {
         let count = (self.end - self.at) as u64;
         if u64::MAX - self.frames.offset() <= count {
-            self.fail(DetectedFault::Read);
+            self.fail(ExplainFault::Read);
             return;
         }
         let Pushed { used, item } = push_some(&mut self.frames, &self.bytes, self.at, self.end);
@@ -133,18 +136,18 @@ impl<R: Source + Drop> Capture<R> {
 
     /// Reads bytes.
     fn read(&mut self, piece: &mut [u8; PIECE]) {
-        match self.spelled.next(piece, &mut self.bytes) {
-            Ok(count) => {
+        match self.input.next(&mut self.reader, piece, &mut self.bytes) {
+            Ok(Some(count)) => {
                 self.at = 0;
                 self.end = count;
-                self.ended = count == 0;
             }
+            Ok(None) => self.ended = true,
             Err(fault) => self.fail(fault),
         }
     }
 
     /// Ends the reading with a fault.
-    fn fail(&mut self, fault: DetectedFault) {
+    fn fail(&mut self, fault: ExplainFault) {
         self.fault = Some(fault);
         self.ended = true;
     }
@@ -165,7 +168,7 @@ impl<R: Source + Drop> Capture<R> {
                 if self.discarded {
                     write_skipped_to(page, writer, self.side, &self.reached, reached.offset);
                 }
-                write_line(page, writer, LADDER, None, self.side, item, &[]);
+                write_line(page, writer, LADDER, origin_of(self.side), item, &[]);
                 self.reached = reached;
             }
             None => {}
@@ -176,14 +179,23 @@ impl<R: Source + Drop> Capture<R> {
     /// Writes the last line.
     fn finish<W: Sink>(&self, page: &mut Page, writer: &mut W) {
         let bytes = self.frames.offset();
-        let open = self.frames.open() as u64;
+        let left_open = self.frames.open() as u64;
         if self.discarded {
-            let end = bytes.saturating_sub(open);
+            let end = bytes.saturating_sub(left_open);
             write_skipped_to(page, writer, self.side, &self.reached, end);
         }
-        let items = self.items;
-        write_totals(page, writer, LADDER, None, self.side, items, bytes, open);
+        let totals = Totals {
+            items: self.items,
+            bytes,
+            left_open,
+        };
+        write_totals(page, writer, LADDER, origin_of(self.side), totals);
     }
+}
+
+/// Returns the origin of lines from a side, whose bytes have no time.
+fn origin_of(side: Side) -> Origin {
+    Origin { stamp: None, side }
 }
 
 /// Writes the line of the bytes skipped after an item of a side, up to an offset.
@@ -195,7 +207,7 @@ fn write_skipped_to<W: Sink>(
     to: u64,
 ) {
     match reached.skipped_to(to) {
-        Some(it) => write_skipped(page, writer, LADDER, None, side, it),
+        Some(it) => write_skipped(page, writer, LADDER, origin_of(side), it),
         None => {}
     }
 }
@@ -262,7 +274,7 @@ fn draw_items<R: Source + Drop, W: Sink>(
 }
 
 /// Takes the fault that a capture ended with, the caller's if both did.
-fn fault_of<R>(caller: &mut Capture<R>, called: &mut Capture<R>) -> Option<(Side, DetectedFault)> {
+fn fault_of<R>(caller: &mut Capture<R>, called: &mut Capture<R>) -> Option<(Side, ExplainFault)> {
     match caller.fault.take() {
         Some(fault) => Some((Side::Caller, fault)),
         None => match called.fault.take() {

@@ -71,31 +71,41 @@ fn is_due(now: u64, period_ms: u64) -> bool {
     now > 0 && now.checked_rem(period_ms) == Some(0)
 }
 
-/// Takes what a session writes to standard error; returns whether it is one report. Checks that
-/// there is nothing else.
-fn takes_report(rt: &impl Abort, session: &mut Session) -> bool {
+/// Takes what a session writes to standard error; returns whether it is a report, and whether it
+/// ends with the line that there is no reply yet. Checks that there is nothing else.
+fn takes_lines(rt: &impl Abort, session: &mut Session) -> (bool, bool) {
     let told = session.to_errors();
     let n = told.len();
     let is_report = told.starts_with(b"report state=");
+    let is_silence = told.ends_with(b" STRT sent, 0 bytes received\n");
     let lines = told.iter().filter(|byte| **byte == b'\n').count();
-    assert!(rt; n == 0 || is_report && lines == 1);
+    assert!(rt; lines == is_report as usize + is_silence as usize);
     session.errors_took(n);
+    (is_report, is_silence)
+}
+
+/// Takes what a session writes to standard error; returns whether it is one report. Checks that
+/// there is nothing else.
+fn takes_report(rt: &impl Abort, session: &mut Session) -> bool {
+    let (is_report, is_silence) = takes_lines(rt, session);
+    assert!(rt; !is_silence);
     is_report
 }
 
 /// Wakes a session whose peer never replies at each of its moments until it ends; returns how often
-/// it woke and reported, and when it ended. It sends when its timer expires, and reports
-/// periodically.
-fn sleeps(rt: &(impl Abort + AllocGlobal), options: Options) -> (u64, u64, u64) {
+/// it woke, reported and told that there is no reply, and when it ended. It sends when its timer
+/// expires, and reports periodically.
+fn sleeps(rt: &(impl Abort + AllocGlobal), options: Options) -> (u64, u64, u64, u64) {
     let mut session = begun(rt, options);
-    let (mut wakes, mut reports, mut now) = (0u64, 0u64, 0u64);
+    let (mut wakes, mut reports, mut silences, mut now) = (0u64, 0u64, 0u64, 0u64);
     let period_ms = (options.report as u64).saturating_mul(1000);
     let timer_ms = options.timer_ms as u64;
     for _wake in 0..1_000_000u32 {
         wake(&mut session, now);
-        let has_reported = takes_report(rt, &mut session);
+        let (has_reported, is_silence) = takes_lines(rt, &mut session);
         assert!(rt; has_reported == is_due(now, period_ms));
         reports = reports.saturating_add(has_reported as u64);
+        silences = silences.saturating_add(is_silence as u64);
         if end_of(&session).is_some() {
             break;
         }
@@ -107,21 +117,24 @@ fn sleeps(rt: &(impl Abort + AllocGlobal), options: Options) -> (u64, u64, u64) 
         wakes = wakes.saturating_add(1);
     }
     assert!(rt; end_of(&session) == Some(EndReason::Time));
-    (wakes, reports, now)
+    (wakes, reports, silences, now)
 }
 
-/// A peer that never replies gets a STRT every three seconds, and the run ends in time.
+/// A peer that never replies gets a STRT every three seconds, and the run ends in time. That there
+/// is no reply is told after 12 seconds, and then each minute.
 #[test]
 fn a_day_of_silence(rt: HostRuntime) {
-    assert!(&rt; sleeps(&rt, options(3000, DAY, 0)) == (28_800, 0, DAY_MS));
-    assert!(&rt; sleeps(&rt, options(3000, DAY, 3600)) == (28_800, 24, DAY_MS));
+    assert!(&rt; sleeps(&rt, options(3000, DAY, 0)) == (28_800, 0, 1440, DAY_MS));
+    assert!(&rt; sleeps(&rt, options(3000, DAY, 3600)) == (28_800, 24, 1440, DAY_MS));
     // Every third report coincides with an expiry.
-    assert!(&rt; sleeps(&rt, options(3000, DAY, 7)) == (37_028, 12_342, DAY_MS));
+    assert!(&rt; sleeps(&rt, options(3000, DAY, 7)) == (37_028, 12_342, 1440, DAY_MS));
 }
 
 #[test]
 fn sixty_days_of_silence(rt: HostRuntime) {
-    assert!(&rt; sleeps(&rt, options(MINUTE_MS, SIXTY, DAY)) == (86_400, 60, SIXTY_MS));
+    let slept = sleeps(&rt, options(MINUTE_MS, SIXTY, DAY));
+    // Each expiry from the fourth on is a minute after the one before.
+    assert!(&rt; slept == (86_400, 60, 86_397, SIXTY_MS));
 }
 
 fn opens_at(session: &Session) -> u64 {

@@ -2,8 +2,8 @@
 //! `ddcmp_explain` and `ddcmp_tap`: a reader for every size, and the room of a direction. Of
 //! `ddcmp_bridge`: its loop over lines in memory. Of `ddcmp_session`: two sessions over bad lines,
 //! a session over many days, its loop over devices, what contracts know of these, its reports, and
-//! a clock of the day that is set. Of sessions and taps: failing allocations. Of all: the texts of
-//! faults.
+//! what a link asks of its devices and when. Of sessions and taps: failing allocations. Of all: the
+//! texts of faults.
 #![tactic(auto)]
 
 #[cfg(test)]

@@ -191,6 +191,8 @@ impl Devices for Desk {
         }
     }
 
+    fn report_read(&mut self, _session: &mut Session) {}
+
     fn write_line(&mut self, bytes: &[u8]) -> Transfer {
         let moved = self.takes(bytes);
         if let Transfer::Bytes(n) = moved {

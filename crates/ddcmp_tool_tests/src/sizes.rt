@@ -1,5 +1,5 @@
 // There is a reader for every maximum length of data, and a direction of a tap.
-use ddcmp_explain::{Form, Notation, Style, explain, explain_dump};
+use ddcmp_explain::{Form, explain};
 use ddcmp_frame::failing::{BoundedSink, Pieces};
 use ddcmp_log::{LogNotation, Side};
 use ddcmp_tap::Direction;
@@ -15,21 +15,12 @@ fn writes_no_item(rt: &(impl Abort + AllocGlobal), form: Form, max: u16) {
     assert!(rt; told.is_ok() && writer.bytes() == NO_ITEM);
 }
 
-/// Checks an empty dump.
-fn dumps_no_item(rt: &(impl Abort + AllocGlobal), max: u16) {
-    assert!(rt; 0 < max && max <= 16383);
-    let mut writer = BoundedSink::<64>::new();
-    let style = Style::items(Notation::Plain);
-    let told = explain_dump(rt.alloc(), &mut Pieces::of(b""), &mut writer, style, max);
-    assert!(rt; told.is_ok() && writer.bytes() == NO_ITEM);
-}
-
 #[test]
 fn nothing_at_every_maximum(rt: HostRuntime) {
     for max in 1..=16383u16 {
         writes_no_item(&rt, Form::Hex, max);
         writes_no_item(&rt, Form::Raw, max);
-        dumps_no_item(&rt, max);
+        writes_no_item(&rt, Form::Dump, max);
     }
 }
 

@@ -1,5 +1,5 @@
 //! Each fault has its text, including those that the program reports with another's text.
-use ddcmp_explain::{DumpFault, ExplainFault, NotDumped};
+use ddcmp_explain::{ExplainFault, NotDumped};
 use ddcmp_io::cause::words_of;
 use ddcmp_ports::{Attempt, Cause, OpenFault};
 use ddcmp_tap::{CarrierFault, Stage, TapFault};
@@ -24,30 +24,17 @@ fn explain(rt: HostRuntime) -> Result<(), Fail> {
             "not hexadecimal at 18446744073709551615",
         ),
         (ExplainFault::NotHex(0), "not hexadecimal at 0"),
-        (ExplainFault::Read, "read"),
-        (ExplainFault::Write, "write"),
-        (ExplainFault::Memory, "memory"),
-    ];
-    for (fault, text) in rows {
-        reads(&rt, &fault, text)?;
-    }
-    Ok(())
-}
-
-#[test]
-fn dumps(rt: HostRuntime) -> Result<(), Fail> {
-    let rows = [
         (
-            DumpFault::Line(NotDumped::NotALine(1_000_001)),
+            ExplainFault::Line(NotDumped::NotALine(1_000_001)),
             "line 1000001: not a line of a dump",
         ),
         (
-            DumpFault::Line(NotDumped::Star(2)),
+            ExplainFault::Line(NotDumped::Star(2)),
             "line 2: repeated lines left out (*): dump with -v",
         ),
-        (DumpFault::Read, "read"),
-        (DumpFault::Write, "write"),
-        (DumpFault::Memory, "memory"),
+        (ExplainFault::Read, "read"),
+        (ExplainFault::Write, "write"),
+        (ExplainFault::Memory, "memory"),
     ];
     for (fault, text) in rows {
         reads(&rt, &fault, text)?;

@@ -152,6 +152,8 @@ impl Devices for KnownDevices {
         Transfer::Bytes(n)
     }
 
+    fn report_read(&mut self, _session: &mut Session) {}
+
     fn write_line(&mut self, bytes: &[u8]) -> Transfer {
         let Ok(taken) = bytes.to_vec(self.alloc) else {
             return Transfer::Nothing;

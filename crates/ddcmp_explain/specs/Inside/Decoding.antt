@@ -4,16 +4,17 @@ use Rattle.std.specs.Prelude.{option_to_list, Option, Some, None}
 use Rattle.std.specs.Simd.Lanes.{Each1, chunk}
 use Rattle.std.specs.Option.{option_map}
 use Rattle.ddcmp_explain.specs.declared.form.Form.{Form}
-use Rattle.ddcmp_explain.specs.declared.form.Form.TheVariants.{Hex, Text, Raw}
+use Rattle.ddcmp_explain.specs.declared.form.Form.TheVariants.{Hex, Text, Raw, Dump}
 use Rattle.ddcmp_explain.specs.declared.decoder.Decoded.{Decoded}
 use Rattle.ddcmp_explain.specs.declared.hex_digits.TheConstants.{HEX_VALUES}
 use Rattle.ddcmp_explain.specs.Digits.{bytes_of, hex_value, left_in, pairs, unexpected_in}
 
--- where the decoded bytes are: raw ones in the chunk itself, those of digits in another array
-abbrev pub place_of : Form → List ℕ → List ℕ → List ℕ
-place_of Hex piece bytes = bytes
-place_of Text piece bytes = bytes
-place_of Raw piece bytes = piece
+-- where a chunk is read to: raw bytes need no decoding
+abbrev pub chunk_in : Form → List ℕ → List ℕ → List ℕ
+chunk_in Raw piece bytes = bytes
+chunk_in Hex piece bytes = piece
+chunk_in Text piece bytes = piece
+chunk_in Dump piece bytes = piece
 
 -- A chunk was decoded after `seen`: how many bytes it adds, its first unexpected byte, and if there
 -- is none, the digit that is left over.

@@ -1,17 +1,21 @@
 -- How far an input has been explained.
-use Rattle.std.specs.Prelude.{◌≡◌, ℕ, ◌+◌, Bool, true, false, List, length, option_to_list, None}
-use Rattle.std.specs.Prelude.{Result, Ok, Err}
+use Rattle.std.specs.Prelude.{◌≡◌, ℕ, ◌+◌, Bool, true, false, List, length, Result, Ok}
+use Rattle.std.specs.Prelude.{Err}
 use Rattle.std.specs.Io.KnownBytes.{Appends}
 use Rattle.ddcmp_frame.specs.Reader.{StandsFor}
 use Rattle.ddcmp_frame.specs.Reading.{ReadItem, ending, good_frames_in, items}
 use Rattle.ddcmp_io.specs.Written.{Holds, Known}
-use Rattle.ddcmp_explain.specs.declared.explain_fault.ExplainFault.{ExplainFault}
+use Rattle.ddcmp_io.specs.declared.device.WriteFailed.{WriteFailed}
+use Rattle.ddcmp_explain.specs.declared.explain_fault.ExplainFault.TheVariants.{Write}
+use Rattle.ddcmp_explain.specs.declared.form.InputForm.{InputForm}
+use Rattle.ddcmp_explain.specs.declared.input_bytes.InputBytes.{InputBytes}
 use Rattle.ddcmp_explain.specs.declared.lines.Lines.{Lines}
-use Rattle.ddcmp_explain.specs.declared.explainer.Explainer.{Explainer}
-use Rattle.ddcmp_explain.specs.Digits.{bytes_of, left_in, spot_in, unexpected_in}
+use Rattle.ddcmp_explain.specs.Detection.{form_in}
+use Rattle.ddcmp_explain.specs.Digits.{bytes_of}
 use Rattle.ddcmp_explain.specs.Discarded.{has_frame, lines_in, reached}
-use Rattle.ddcmp_explain.specs.Explains.{Tells}
+use Rattle.ddcmp_explain.specs.Explains.{Answer}
 use Rattle.ddcmp_explain.specs.Inside.Heads.{Heads}
+use Rattle.ddcmp_explain.specs.Reads.{Reads}
 use Rattle.ddcmp_explain.specs.declared.head.Head.{Head}
 
 -- if skipped bytes are reported: the offset at which the last item ends
@@ -43,18 +47,15 @@ pub record HasTold (max : ℕ) (start : Known) (text : List ℕ) (at : Lines) (b
       (record { broken = broken; sink = sink; waiting = at.page })
 
 -- All that was read of an input was decoded, and the lines of its complete bytes were written.
-pub record Progress (max : ℕ) (start : Known) (seen : List ℕ) (at : Explainer) (broken : Bool)
-    (sink : Known) : Type 0 where
-  pub expected : unexpected_in at.decoder.form seen ≡ None
-  pub left : left_in at.decoder.form seen ≡ option_to_list at.decoder.high
-  pub spot : spot_in at.decoder.form seen ≡ at.decoder.spot
-  pub long : length seen ≡ at.seen
-  pub told : HasTold max start (bytes_of at.decoder.form seen) at.lines broken sink
-  pub written : Appends start sink (lines_in at.lines.style max (bytes_of at.decoder.form seen))
+pub record Progress (written : InputForm) (max : ℕ) (start : Known) (input : List ℕ) (left : Known)
+    (at : InputBytes) (lines : Lines) (broken : Bool) (sink : Known) : Type 0 where
+  pub seen : List ℕ
+  pub reads : Reads written input seen left at
+  pub told : HasTold max start (bytes_of (form_in written input) seen) lines broken sink
+  pub appends : Appends start sink
+      (lines_in lines.style max (bytes_of (form_in written input) seen))
 
--- What was read was explained, or a fault was returned.
-abbrev pub Takes : ℕ → Known → List ℕ → Explainer → Bool → Known
-    → Result (Unit {0}) ExplainFault → Type 0
-Takes max start seen at broken sink (Ok u) = Progress max start seen at broken sink
-Takes max start seen at broken sink (Err fault) =
-    (left : Known) → Tells at.decoder.form at.lines.style max seen left start sink (Err fault)
+-- what is returned after the last write
+abbrev pub answer_of : Result (Unit {0}) WriteFailed → Answer
+answer_of (Ok u) = Ok u
+answer_of (Err failed) = Err Write

@@ -2,6 +2,8 @@
 ghost use Rattle.std.specs.Prelude.{◌≡◌, ◌≢◌, ◌&&◌, ◌⊎◌, Err, Ok, is_ok};
 ghost use Rattle.ddcmp_session.specs.Devices.{BuffersView, GoesOn, Reports};
 ghost use Rattle.ddcmp_session.specs.Finishing.{Drains, Finishes, IsDrained};
+ghost use Rattle.ddcmp_session.specs.Logged.{LogView};
+ghost use Rattle.ddcmp_session.specs.Telling.{TellsLast, TellsUnread};
 ghost use Rattle.ddcmp_session.specs.declared.devices.DeviceFault.{DeviceFault as FaultValue};
 
 use crate::buffers::Buffers;
@@ -109,11 +111,22 @@ fn deliver_rest<D: Devices>(session: &mut Session, devices: &mut D) -> Result<()
       trace = session.new.log.trace;
     } }
     ensures emptied { result ≡ Ok tt → IsDrained session.new.state }
+    ensures told { (last : LogView) × TellsLast session.new.state session.old.log last
+        × TellsUnread result last session.new.log }
 {
     let drained = drain_output(session, devices);
     session.finish();
-    if drained == Err(DeviceFault::Time) {
-        session.report_unread();
-    }
+    tell_unread(session, drained);
     drained
+}
+
+/// Reports that received messages are lost since the output isn't read, if that is the fault.
+fn tell_unread(session: &mut Session, drained: Result<(), DeviceFault>)
+    ensures state { session.new.state ≡ session.old.state }
+    ensures told { TellsUnread drained session.old.log session.new.log }
+{
+    match drained {
+        Err(DeviceFault::Time) => session.report_unread(),
+        Ok(()) | Err(DeviceFault::Line(_) | DeviceFault::Input | DeviceFault::Output) => {}
+    }
 }

@@ -5,6 +5,7 @@ ghost use Rattle.ddcmp_session.specs.Devices.{BuffersView, GoesOn, HoldsMail, On
 ghost use Rattle.ddcmp_session.specs.Devices.{Reports};
 ghost use Rattle.ddcmp_session.specs.Traffic.{Traffic};
 ghost use Rattle.ddcmp_session.specs.Finishing.{Drains, HasRoomIfEmpty};
+ghost use Rattle.ddcmp_session.specs.Telling.{WritesQueued};
 ghost use Rattle.ddcmp_session.specs.declared.devices.DeviceFault.{DeviceFault as FaultValue};
 
 use crate::buffers::Buffers;
@@ -261,6 +262,7 @@ impl Buffers {
         }
         let got = self.received.read_line(devices);
         session.log_received(self.received.rest());
+        devices.report_read(session);
         self.after_read(got)
     }
 
@@ -373,6 +375,7 @@ pub(super) fn write_errors<D: Devices>(session: &mut Session, devices: &mut D) -
     ensures log { session.new.log
         ≡ record session.old.log { errors = session.new.log.errors } }
     ensures devices { D.traffic devices.new ≡ D.traffic devices.old }
+    ensures written { WritesQueued session.old.log.errors session.new.log.errors }
 {
     if session.to_errors().is_empty() {
         return false;

@@ -4,6 +4,7 @@ ghost use Rattle.ddcmp_session.specs.Course.{lost_more};
 ghost use Rattle.ddcmp_session.specs.Devices.{BuffersView, GoesOn, HoldsMail, OnlyDelivers};
 ghost use Rattle.ddcmp_session.specs.Devices.{Reports};
 ghost use Rattle.ddcmp_session.specs.Finishing.{Drains, IsDrained};
+ghost use Rattle.ddcmp_session.specs.Telling.{WritesQueued};
 ghost use Rattle.ddcmp_session.specs.Session.{lost_by_end};
 ghost use Rattle.ddcmp_session.specs.Lines.{IsReady, ReportsOver, StaysOver};
 ghost use Rattle.ddcmp_session.specs.declared.devices.DeviceFault.{DeviceFault as FaultValue};
@@ -146,6 +147,7 @@ pub fn drain_errors<D: Devices>(session: &mut Session, devices: &mut D, most_ms:
     ensures session { session.new.state ≡ session.old.state }
     ensures log { session.new.log
         ≡ record session.old.log { errors = session.new.log.errors } }
+    ensures written { WritesQueued session.old.log.errors session.new.log.errors }
 {
     let mut last = devices.now();
     for _write in 0..u64::MAX {

@@ -15,10 +15,10 @@ impl Session {
     ghost use Rattle.ddcmp_session.specs.declared.text.TheConstants.{END_ROOM};
     ghost use Rattle.ddcmp_session.specs.EndText.{end_line, end_text};
     ghost use Rattle.ddcmp_streams.specs.Queued.{queued};
-    ghost use Rattle.ddcmp_streams.specs.Errors.{ErrorsView, HasLine};
-    ghost use Rattle.ddcmp_session.specs.Logged.{HasEnd, ReportsEcho, Traces, confirmed};
+    ghost use Rattle.ddcmp_streams.specs.Errors.{HasLine};
+    ghost use Rattle.ddcmp_session.specs.Telling.{TellsLast};
+    ghost use Rattle.ddcmp_session.specs.Logged.{HasEnd, ReportsEcho, confirmed};
     ghost use Rattle.ddcmp_session.specs.Reported.{ClosesLog};
-    ghost use Rattle.ddcmp_streams.specs.Trace.{LogsEnd};
     ghost use Rattle.ddcmp_session.specs.Text.{Wrote, reported_lost};
 
     /// Ends the run and halts the station. The messages left in the input, and those that were sent
@@ -54,10 +54,7 @@ impl Session {
     /// Writes the last lines, once all received messages are delivered.
     pub fn finish(&mut self)
         ensures state { self.new.state ≡ self.old.state }
-        ensures traced { (mid : ErrorsView)
-            × ReportsEcho self.old.state self.old.log.echo self.old.log.errors mid
-            × Traces LogsEnd self.old.log.trace (record self.old.log { errors = mid })
-            self.new.log }
+        ensures traced { TellsLast self.old.state self.old.log self.new.log }
         ensures log { self.new.log
             ≡ record self.old.log { errors = self.new.log.errors; trace = self.new.log.trace } }
     {

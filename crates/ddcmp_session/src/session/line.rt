@@ -31,7 +31,8 @@ impl Session {
     ghost use Rattle.ddcmp_session.specs.Session.{form_of, has_gone, lost_by_end};
     ghost use Rattle.ddcmp_session.specs.Session.{reports_loss, wants_line};
     ghost use Rattle.ddcmp_streams.specs.Errors.{ErrorsView};
-    ghost use Rattle.ddcmp_session.specs.Logged.{HasLost, HasNotice, HasNotices, Traces};
+    ghost use Rattle.ddcmp_session.specs.Logged.{HasLost, HasNotice, HasNotices, ReportsTelnet};
+    ghost use Rattle.ddcmp_session.specs.Logged.{Traces};
     ghost use Rattle.ddcmp_session.specs.Logged.{echo_came, echo_sent};
     ghost use Rattle.ddcmp_streams.specs.Trace.{BeginsAnew, Logs};
     ghost use Rattle.ddcmp_session.specs.Course.{after_notice, lost_more};
@@ -150,14 +151,17 @@ impl Session {
 
     /// Logs bytes received from the line: each once, before `received`.
     pub fn log_received(&mut self, bytes: &[u8])
-        ensures traced { Traces (Logs Way.FromLine bytes.now) self.old.log.trace
-            (echo_came bytes.now self.old.log) self.new.log }
+        ensures traced { (told : ErrorsView)
+            × ReportsTelnet bytes.now self.old.state self.old.log.errors told
+            × Traces (Logs Way.FromLine bytes.now) self.old.log.trace
+            (record (echo_came bytes.now self.old.log) { errors = told }) self.new.log }
         ensures state { self.new.state ≡ self.old.state }
         ensures log { self.new.log ≡ record (echo_came bytes.now self.old.log) {
           errors = self.new.log.errors;
           trace = self.new.log.trace;
         } }
     {
+        self.tell_telnet(bytes);
         self.echo.came(bytes);
         self.trace_received(bytes);
     }

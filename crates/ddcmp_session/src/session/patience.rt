@@ -20,9 +20,11 @@ const SILENT_TRIES: u32 = 7;
 const SILENT_MS: u64 = 300_000;
 
 impl Session {
-    ghost use Rattle.std.specs.Prelude.{◌≡◌};
-    ghost use Rattle.ddcmp_session.specs.Logged.{ReportsGivenUp, ReportsSilence, ReportsWrong};
-    ghost use Rattle.ddcmp_session.specs.Reports.{wrong_text};
+    ghost use Rattle.std.specs.Prelude.{◌≡◌, MatchBool, Some};
+    ghost use Rattle.ddcmp_session.specs.Logged.{ReportsGivenUp, ReportsRefusals, ReportsSilence};
+    ghost use Rattle.ddcmp_session.specs.Logged.{ReportsWrong};
+    ghost use Rattle.ddcmp_session.specs.Session.{after_refusals, refusals_of};
+    ghost use Rattle.ddcmp_session.specs.Reports.{no_buffer_text, wrong_text};
     ghost use Rattle.ddcmp_session.specs.Session.{after_telling, has_damaged, has_too_long, untold};
     ghost use Rattle.ddcmp_session.specs.Timing.{is_given_up, is_gone, is_silent};
     ghost use Rattle.ddcmp_streams.specs.Errors.{HasLine};
@@ -149,6 +151,48 @@ impl Session {
             text,
             b"\n",
         );
+    }
+
+    /// Reports that the peer refuses messages as too long, or has no buffer: each once, and then
+    /// each minute.
+    pub(super) fn tell_refusals(&mut self)
+        ensures state { self.new.state ≡ after_refusals self.old.state }
+        ensures errors { ReportsRefusals (refusals_of self.old.state) self.old.state.course
+            self.old.log.errors self.new.log.errors }
+        ensures log { self.new.log ≡ record self.old.log { errors = self.new.log.errors } }
+    {
+        let naks = self.link.counters().nak_received;
+        let is_too_long = self.course.tells_refused_long(&naks);
+        let has_no_buffer = self.course.tells_no_buffer(&naks);
+        self.report_refused_long(is_too_long);
+        self.report_no_buffer(has_no_buffer);
+        self.course.tell_refusals(&naks);
+    }
+
+    /// Reports that the peer refuses messages as too long, if `tells`.
+    fn report_refused_long(&mut self, tells: bool)
+        ensures state { self.new.state ≡ self.old.state }
+        ensures errors { MatchBool tells (HasLine SHORT_LINE (given_up_text (Some Nak.TooLong))
+            self.old.log.errors self.new.log.errors) (self.new.log.errors ≡ self.old.log.errors) }
+        ensures log { self.new.log ≡ record self.old.log { errors = self.new.log.errors } }
+    {
+        if tells {
+            let (before, why) = given_up_words(Some(Nak::TooLong));
+            self.errors.write_line(before, why, b"\n");
+        }
+    }
+
+    /// Reports that the peer has no buffer, if `tells`.
+    fn report_no_buffer(&mut self, tells: bool)
+        ensures state { self.new.state ≡ self.old.state }
+        ensures errors { MatchBool tells (HasLine SHORT_LINE no_buffer_text self.old.log.errors
+            self.new.log.errors) (self.new.log.errors ≡ self.old.log.errors) }
+        ensures log { self.new.log ≡ record self.old.log { errors = self.new.log.errors } }
+    {
+        if tells {
+            self.errors
+                .write_line(b"ddcmp: ", b"peer has no buffer", b"\n");
+        }
     }
 
     /// Reports why the line is left, if the peer doesn't reply or refuses messages.

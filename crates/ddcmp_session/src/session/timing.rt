@@ -6,8 +6,9 @@ use ddcmp_io::LineKind;
 impl Session {
     ghost use Rattle.std.specs.Prelude.{◌≡◌, Some, if◌then◌else◌};
     ghost use Rattle.ddcmp_session.specs.Course.{after_opening_failed};
-    ghost use Rattle.ddcmp_session.specs.Logged.{HandlesTimeout, PassesMoment};
-    ghost use Rattle.ddcmp_session.specs.Session.{after_time, after_timeout, after_tried};
+    ghost use Rattle.ddcmp_session.specs.Logged.{HandlesTimeout, PassesMoment, TellsPeer};
+    ghost use Rattle.ddcmp_session.specs.Session.{after_time, after_timeout, after_told};
+    ghost use Rattle.ddcmp_session.specs.Session.{after_tried};
     ghost use Rattle.ddcmp_session.specs.Session.{awaits_peer, is_delivered, is_sending};
     ghost use Rattle.ddcmp_session.specs.Session.{unless_read};
     ghost use Rattle.ddcmp_session.specs.Timing.{after_line, end, is_done, is_spent};
@@ -84,13 +85,25 @@ impl Session {
         self.course.note_written(written, self.options.speed());
         let has_expired = self.link.wake(now);
         self.count_expiry(has_expired);
-        self.report_given_up();
-        self.report_silence(has_expired);
-        self.tell_wrong();
+        self.tell_peer(has_expired);
         self.note_unheard();
         if let Some(trace) = &mut self.trace {
             trace.wake(now, has_expired, &mut self.errors);
         }
+    }
+
+    /// Reports what is to be told of the peer.
+    fn tell_peer(&mut self, has_expired: bool)
+        ensures state { self.new.state ≡ after_told has_expired self.old.state }
+        ensures errors { TellsPeer has_expired self.old.state self.old.log.errors
+            self.new.log.errors }
+        ensures log { self.new.log ≡ record self.old.log { errors = self.new.log.errors } }
+    {
+        self.report_given_up();
+        self.report_silence(has_expired);
+        self.tell_start(has_expired);
+        self.tell_wrong();
+        self.tell_refusals();
     }
 
     /// Counts an expiry of the reply timer as a try, if a peer is there and has all that was sent.
@@ -196,12 +209,14 @@ impl Session {
         self.course.quiet_since.saturating_add(linger)
     }
 
-    /// Returns whether no peer has started yet: on a line that is no connection it may start at any
-    /// time.
+    /// Returns whether no peer has started yet, on a line that is no connection: it may start at
+    /// any time, unless a number of tries is set.
     fn awaits_peer(&self) -> bool
         ensures { result ≡ awaits_peer self.now.state }
     {
-        !self.kind.is_connection() && !self.course.peer_has_started
+        self.options.attempts == u32::MAX
+            && !self.kind.is_connection()
+            && !self.course.peer_has_started
     }
 
     /// Returns whether all is done, but for a peer that may have more to send.

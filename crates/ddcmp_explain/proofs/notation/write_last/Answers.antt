@@ -3,4 +3,4 @@ use Rattle.ddcmp_explain.proofs.PuttingLaws.{puts-rest}
 use Rattle.ddcmp_explain.proofs.notation.write_last.Goals as goal
 
 pub returns : goal.returns
-returns g c = sends-as (puts-rest c.args.from c.put_totals-end.ensures.puts) c.write.ensures.sends
+returns g c = sends-as (puts-rest c.args.part.from c.put_totals-end.ensures.puts) c.write.ensures.sends

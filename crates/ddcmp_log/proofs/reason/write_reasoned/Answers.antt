@@ -1,4 +1,5 @@
-use Rattle.std.proofs.Common.{◌∙◌, ◌++◌, ap, sym, Some}
+use Rattle.std.proofs.Common.{◌∙◌, ◌++◌, ap, drop, sym, Some}
+use Rattle.ddcmp_explain.specs.Output.{line_in}
 use Rattle.ddcmp_io.proofs.WrittenLaws.{sends-then}
 use Rattle.ddcmp_io.proofs.TextLaws.{sends-as}
 use Rattle.ddcmp_frame.specs.Reading.{ReadItem}
@@ -9,7 +10,7 @@ use Rattle.ddcmp_log.proofs.reason.write_reasoned.Goals as goal
 pub returns-in-Some : goal.returns-in-Some
 returns-in-Some g c =
     let given : ReadItem = (c.args.item.now, c.args.data.now) in
-    let front = plain_front c.args.stamp c.args.side in
+    let front = plain_front c.args.origin.stamp c.args.origin.side in
     sends-as
     (ap (λ r. front ++ with_reason r given) (sym c.in-Some.is ∙ c.reason_in.ensures))
     (sends-then c.write_plain_front.ensures
@@ -21,6 +22,8 @@ pub returns-in-None : goal.returns-in-None
 returns-in-None g c =
     let given : ReadItem = (c.args.item.now, c.args.data.now) in
     sends-as
-    (ap (λ r. plain_front c.args.stamp c.args.side ++ with_reason r given)
+    (ap (λ r. plain_front c.args.origin.stamp c.args.origin.side ++ with_reason r given)
     (sym c.in-None.is ∙ c.reason_in.ensures))
-    (sends-then c.write_plain_front.ensures c.write_item.ensures)
+    (sends-then c.write_plain_front.ensures
+    (sends-as (ap (λ part. drop part.from (line_in part.notation given)) c.whole.ensures)
+    c.write_item.ensures))

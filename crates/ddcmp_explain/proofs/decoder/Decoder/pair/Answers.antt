@@ -50,7 +50,6 @@ loop-i-preserved c =
     ] in
     elim c.match-hex_value.branch [
       | in-Some+in-Some-high w ↦ record {
-        form = ap (λ s. s.form) w.self-is ∙ c.loop-i.invariant.form;
         spot = ap (λ s. s.spot) w.self-is ∙ c.loop-i.invariant.spot;
         within = omega (arith, w.count-is, w.i-is, c.loop-i.invariant.within);
         inside = omega (arith, w.i-is, inside);
@@ -76,7 +75,6 @@ loop-i-preserved c =
             w.count-is w.bytes-is (ap (λ s. s.high) w.self-is));
       }
       | in-Some+in-None-high+in-Some-value_at w ↦ record {
-        form = ap (λ s. s.form) w.self-is ∙ c.loop-i.invariant.form;
         spot = ap (λ s. s.spot) w.self-is ∙ c.loop-i.invariant.spot;
         within = omega (arith, w.count-is, w.i-is, c.loop-i.invariant.within);
         inside = omega (arith, w.i-is, w.in-Some-value_at.ensures.inside.1);
@@ -103,7 +101,6 @@ loop-i-preserved c =
             w.count-is w.bytes-is (ap (λ s. s.high) w.self-is ∙ w.in-None-high.is));
       }
       | in-Some+in-None-high+in-None-value_at w ↦ record {
-        form = ap (λ s. s.form) w.self-is ∙ c.loop-i.invariant.form;
         spot = ap (λ s. s.spot) w.self-is ∙ c.loop-i.invariant.spot;
         within = omega (arith, w.count-is, w.i-is, c.loop-i.invariant.within);
         inside = omega (arith, w.i-is, inside);
@@ -121,7 +118,6 @@ loop-i-preserved c =
             (ap (λ s. s.high) w.self-is));
       }
       | in-None+else-not-is_blank w ↦ record {
-        form = ap (λ s. s.form) w.self-is ∙ c.loop-i.invariant.form;
         spot = ap (λ s. s.spot) w.self-is ∙ c.loop-i.invariant.spot;
         within = omega (arith, w.count-is, w.i-is, c.loop-i.invariant.within);
         inside = omega (arith, w.i-is, inside);
@@ -144,7 +140,6 @@ pub loop-i-preserved-then-put_eight : goal.loop-i-preserved-then-put_eight
 loop-i-preserved-then-put_eight c =
     let put = c.put_eight.ensures.put c.if-put_eight.true in
     record {
-      form = c.loop-i.invariant.form;
       spot = c.loop-i.invariant.spot;
       within = omega (arith, c.loop-i.invariant.within);
       inside = put.inside;

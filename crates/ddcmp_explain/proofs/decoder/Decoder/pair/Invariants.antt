@@ -7,7 +7,6 @@ use Rattle.ddcmp_explain.proofs.decoder.Decoder.pair.Given as goal
 
 abbrev pub invariant-loop-i : goal.invariant-loop-i
 invariant-loop-i l = record {
-  form : l.self.form ≡ l.initial.self.form;
   spot : l.self.spot ≡ l.initial.self.spot;
   within : l.count ≤ l.i;
   inside : l.i ≤ length l.piece;

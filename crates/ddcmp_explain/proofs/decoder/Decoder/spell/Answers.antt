@@ -1,4 +1,4 @@
-use Rattle.std.proofs.Common.{◌++◌, ap, arith, refl, sym, take, ◌∙◌}
+use Rattle.std.proofs.Common.{◌++◌, ap, arith, sym, take, ◌∙◌}
 use Rattle.std.specs.Prelude.{option_to_list}
 use Rattle.std.proofs.lemmas.List.{take_all}
 use Rattle.ddcmp_explain.proofs.LogLaws.{decodes-logged, decodes-wrong, logs-more, logs-none}
@@ -7,7 +7,6 @@ use Rattle.ddcmp_explain.proofs.decoder.Decoder.spell.Goals as goal
 
 pub loop-i-init : goal.loop-i-init
 loop-i-init c = record {
-  form = refl;
   within = omega arith;
   inside = omega arith;
   logs = λ seen e s. logs-none seen c.args.piece.now _ _ e s;
@@ -15,7 +14,6 @@ loop-i-init c = record {
 
 pub loop-i-preserved : goal.loop-i-preserved
 loop-i-preserved c = record {
-  form = c.loop-i.invariant.form;
   within = omega (arith, c.put-count.ensures.within, c.loop-i.invariant.within);
   inside = omega (arith, c.loop-i-test.true);
   logs = λ seen e s.

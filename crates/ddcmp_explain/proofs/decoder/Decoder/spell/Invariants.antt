@@ -6,7 +6,6 @@ use Rattle.ddcmp_explain.proofs.decoder.Decoder.spell.Given as goal
 
 abbrev pub invariant-loop-i : goal.invariant-loop-i
 invariant-loop-i l = record {
-  form : l.self.form ≡ l.initial.self.form;
   within : l.count ≤ l.i;
   inside : l.i ≤ length l.piece;
   logs : (seen : List ℕ) → unexpected_in Text seen ≡ None

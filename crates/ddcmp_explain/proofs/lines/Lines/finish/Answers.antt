@@ -1,4 +1,4 @@
-use Rattle.std.proofs.Common.{length, ap, ◌∙◌}
+use Rattle.std.proofs.Common.{drop, length, ap, ◌∙◌}
 use Rattle.std.proofs.lemmas.List.{append-nil}
 use Rattle.ddcmp_io.proofs.WrittenLaws.{sends-then}
 use Rattle.ddcmp_io.proofs.TextLaws.{sends-as}
@@ -15,7 +15,10 @@ returns-clause-told g c = λ max start text h.
     let left_open =
     c.open-left_open.ensures.text text h.stands ∙ ap (λ m. open_at_end m text) h.max_is in
     let last =
-    ap (λ s. totals_in s.notation c.write_end.new.self.items c.offset-bytes.result
+    ap (λ part. drop part.from (totals_in part.notation c.write_end.new.self.items
+    c.offset-bytes.result c.open-left_open.result))
+    c.whole-part.ensures
+    ∙ ap (λ s. totals_in s.notation c.write_end.new.self.items c.offset-bytes.result
     c.open-left_open.result)
     c.write_end.ensures.style
     ∙ ap (λ n. totals_in was.style.notation n c.offset-bytes.result c.open-left_open.result)

@@ -21,7 +21,9 @@ returns-in-Some-item-clause-told g c = λ max start text h.
     let lent = p.new.self.lent in
     let given = (c.in-Some-item.item, lent) ∷ [] in
     let line =
-    ap (λ d. line_in was.style.notation (c.in-Some-item.item, d)) c.data-data.ensures
+    ap (λ p. drop p.from (line_in p.notation (c.in-Some-item.item, c.data-data.result.now)))
+    c.whole-part.ensures
+    ∙ ap (λ d. line_in was.style.notation (c.in-Some-item.item, d)) c.data-data.ensures
     ∙ sym (append-nil (line_in was.style.notation (c.in-Some-item.item, lent))) in
     told-items max start _ _ text (take p.result.used c.args.bytes.now) given was _ _ _ h
     c.if-self.false e.max refl (e.stands text h.stands)
@@ -55,7 +57,12 @@ returns-in-Some-clause-told g c = λ max start text h.
     let size : c.fields.inside.count + 8 - 8 ≡ fields.count = omega (arith, count) in
     let total : fields.count + 10 ≡ c.fields.inside.count + 8 + 2 = omega (arith, count) in
     let line =
-    ap (λ o. line_in was.style.notation
+    ap (λ part. drop part.from (line_in part.notation (
+      Good c.offset-at.result (Data fields),
+      take (c.fields.inside.count + 8 - 8) (drop 8 bytes),
+    )))
+    c.whole-part.ensures
+    ∙ ap (λ o. line_in was.style.notation
     (Good o (Data fields), take (c.fields.inside.count + 8 - 8) (drop 8 bytes)))
     c.offset-at.ensures.value
     ∙ ap (λ n. line_in was.style.notation (item, take n (drop 8 bytes))) size

@@ -1,4 +1,4 @@
-use Rattle.std.proofs.Common.{[], ◌∷◌, ◌++◌, ap, refl, subst, sym, ◌∙◌}
+use Rattle.std.proofs.Common.{[], ◌∷◌, ◌++◌, ap, drop, refl, subst, sym, ◌∙◌}
 use Rattle.ddcmp_frame.specs.Reader.{StandsFor, items_given}
 use Rattle.ddcmp_frame.specs.Reading.{items, open_at_end}
 use Rattle.ddcmp_explain.specs.Inside.Heads.{Heads}
@@ -15,7 +15,9 @@ returns-in-Some-clause-told g c = λ max start text h.
     let lent = p.new.self.lent in
     let now = text ++ c.args.byte ∷ [] in
     let line =
-    ap (λ s. line_in s.notation (c.in-Some.item, c.data-data.result.now)) c.reach.ensures.style
+    ap (λ part. drop part.from (line_in part.notation (c.in-Some.item, c.data-data.result.now)))
+    c.whole-part.ensures
+    ∙ ap (λ s. line_in s.notation (c.in-Some.item, c.data-data.result.now)) c.reach.ensures.style
     ∙ ap (λ d. line_in was.style.notation (c.in-Some.item, d))
     (c.data-data.ensures ∙ ap (λ f. f.lent) c.reach.ensures.frames) in
     told-one max start _ _ text c.args.byte was _ _ _ h c.requires.discarded c.in-Some.item lent

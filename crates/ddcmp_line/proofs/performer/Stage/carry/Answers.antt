@@ -26,18 +26,18 @@ returns-in_default-clause-ends g c =
     let p = c.args.pair.now in
     let lines = c.args.self.now.lines in
     let none =
-    front-none c.front.result (frames_of c.args.from lines)
+    front-none c.front.result (frames_of c.args.part.from lines)
     c.front.ensures c.in_default.not-Some in
-    carry-empty c.args.from c.args.most p p lines lines _ _ (g.C.Carrier.direct c.args.carrier.now)
+    carry-empty c.args.part.from c.args.part.most p p lines lines _ _ (g.C.Carrier.direct c.args.carrier.now)
     (g.C.Carrier.told c.args.carrier.now) none refl refl
     (sends-as (ap (λ w. w ++ codes "empty\n") c.end_name.ensures) c.write_plain.ensures)
-    (no-frames c.args.from lines none)
+    (no-frames c.args.part.from lines none)
 
 pub returns-in_default-from_elem-clause-ends : goal.returns-in_default-from_elem-clause-ends
 returns-in_default-from_elem-clause-ends g c =
     let p = c.args.pair.now in
     let lines = c.args.self.now.lines in
-    carry-refused c.args.from c.args.most p p lines lines _ _
+    carry-refused c.args.part.from c.args.part.most p p lines lines _ _
     (g.C.Carrier.direct c.args.carrier.now) (g.C.Carrier.told c.args.carrier.now) refl
     (sends-nothing _)
 
@@ -45,7 +45,7 @@ pub returns-in-Ok-arrive-clause-ends : goal.returns-in-Ok-arrive-clause-ends
 returns-in-Ok-arrive-clause-ends g c =
     let p = c.args.pair.now in
     let lines = c.args.self.now.lines in
-    let from = c.args.from in
+    let from = c.args.part.from in
     let front = c.in-Some.front.now in
     let n = c.in-Ok-carry.came in
     let came = c.new-came.result in
@@ -67,7 +67,7 @@ returns-in-Ok-arrive-clause-ends g c =
     (record { from = from; bytes = c.first_of-bytes.result.now; came = x })) (sym came_is)
     c.in-Ok-carry.ensures.carried) in
     let within =
-    came-within n c.carry.new.out c.first_of-bytes.result.now front came c.args.most came_is
+    came-within n c.carry.new.out c.first_of-bytes.result.now front came c.args.part.most came_is
     c.in-Ok-carry.ensures.within c.first_of-bytes.ensures in
     let q = c.arrive.new.pair in
     let to_is = c.other.ensures in
@@ -82,7 +82,7 @@ returns-in-Ok-arrive-clause-ends g c =
     output_of g.W.Sink.broken g.W.Sink.contents c.args.writer.now c.args.self.now.page in
     let after =
     output_of g.W.Sink.broken g.W.Sink.contents c.arrive.new.writer c.arrive.new.self.page in
-    carry-well from c.args.most p q lines c.take_off.new.self before after d log now front
+    carry-well from c.args.part.most p q lines c.take_off.new.self before after d log now front
     (drop 1 (frames_of from lines)) came c.in-Some.ensures carried within
     (c.in-Ok-arrive.ensures.pair refl ∙ ap (λ e. after_event (event.Arrive e came) p) to_is)
     later
@@ -93,7 +93,7 @@ pub returns-in-Err-arrive-clause-ends : goal.returns-in-Err-arrive-clause-ends
 returns-in-Err-arrive-clause-ends g c =
     let p = c.args.pair.now in
     let lines = c.args.self.now.lines in
-    let from = c.args.from in
+    let from = c.args.part.from in
     let front = c.in-Some.front.now in
     let n = c.in-Ok-carry.came in
     let came = c.new-came.result in
@@ -115,7 +115,7 @@ returns-in-Err-arrive-clause-ends g c =
     (record { from = from; bytes = c.first_of-bytes.result.now; came = x })) (sym came_is)
     c.in-Ok-carry.ensures.carried) in
     let within =
-    came-within n c.carry.new.out c.first_of-bytes.result.now front came c.args.most came_is
+    came-within n c.carry.new.out c.first_of-bytes.result.now front came c.args.part.most came_is
     c.in-Ok-carry.ensures.within c.first_of-bytes.ensures in
     let refused = c.in-Err-arrive.ensures.memory in
     let asks =
@@ -126,7 +126,7 @@ returns-in-Err-arrive-clause-ends g c =
     output_of g.W.Sink.broken g.W.Sink.contents c.args.writer.now c.args.self.now.page in
     let after =
     output_of g.W.Sink.broken g.W.Sink.contents c.arrive.new.writer c.arrive.new.self.page in
-    carry-lost from c.args.most p c.arrive.new.pair lines c.arrive.new.self.lines before after d log
+    carry-lost from c.args.part.most p c.arrive.new.pair lines c.arrive.new.self.lines before after d log
     now front (drop 1 (frames_of from lines))
     came c.in-Some.ensures carried within refused.0 asks
     (sends-then c.flush_before.ensures.sends

@@ -1,6 +1,7 @@
 use Rattle.std.proofs.Common.{◌≡◌}
 use Rattle.ddcmp_session.specs.Devices.{BuffersView, GoesOn}
 use Rattle.ddcmp_session.specs.Finishing.{Drains}
+use Rattle.ddcmp_session.specs.Telling.{WritesQueued}
 use Rattle.ddcmp_session.proofs.buffers.runner.drain_errors.Given as goal
 
 abbrev pub invariant-loop-write : goal.invariant-loop-write
@@ -12,4 +13,5 @@ invariant-loop-write g l = record {
       (g.D.Devices.traffic l.devices);
   session : l.session.state ≡ l.fn.session.state;
   log : l.session.log ≡ record l.fn.session.log { errors = l.session.log.errors };
+  written : WritesQueued l.fn.session.log.errors l.session.log.errors;
 }
