@@ -100,8 +100,8 @@ def refusing(reason, *options):
 
 @pytest.mark.parametrize("reason, line", [*REFUSED.items(), (2, None)])
 def test_refused_there(reason, line):
-    """That the peer refuses a message as too long, or has no buffer, is told at the first NAK,
-    once, and the message is delivered if it is taken later."""
+    """That the peer refuses a message as too long is reported at the first NAK, that it has no
+    buffer at the first refused try; once, and the message is delivered if it is taken later."""
     link, peer = refusing(reason)
     assert line is None or link.waits(lambda it: line in it.errors(), 2)
     assert peer.waits(lambda it: len(it.named("DATA")) >= 8, 5)

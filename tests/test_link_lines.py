@@ -406,22 +406,24 @@ def test_pace():
     """A peer that refuses each message gets a window after each pause, and with the defaults 8 in
     the first second."""
     links = []
-    for reason, timer, least in ((16, 0.2, 12), (8, 0.2, 12), (3, 0.2, 2), (16, 3, 8), (8, 3, 8)):
+    for reason, timer, least, line in ((16, 0.2, 12, REFUSED[16]), (8, 0.2, 12, REFUSED[8]),
+                                       (3, 0.2, 2, None), (16, 3, 8, REFUSED[16]), (8, 3, 8, None)):
         options = ("--timer-ms", "200") if timer < 3 else ()
         link, peer = running("--window", "7", *options, answer=Refusing(reason))
         link.give(b"61\n" * 7)
-        links.append((reason, timer, least, link, peer, time.monotonic()))
+        links.append((reason, timer, least, line, link, peer, time.monotonic()))
     time.sleep(1)
-    for reason, timer, _least, _link, peer, begun in links:
+    for _reason, timer, _least, _line, _link, peer, begun in links:
         count, span = len(peer.named("DATA")), time.monotonic() - begun
         assert count <= 7 * most_windows(span, timer)
     time.sleep(2)
-    for reason, timer, least, link, peer, begun in links:
+    for reason, timer, least, line, link, peer, begun in links:
         count, span = len(peer.named("DATA")), time.monotonic() - begun
         assert 7 * least <= count <= 7 * most_windows(span, timer)
         assert link.processor_time() <= 0.6
         peer.answer.takes = True
-        must_end(f"NAK {reason}", link, 0, REFUSED.get(reason), seconds=8)
+        must_end(f"NAK {reason}", link, 0, line, seconds=8)
+        assert [it for it in link.errors() if "peer" in it] == ([line] if line else [])
         assert peer.mail == [b"a"] * 7
 
 
@@ -443,13 +445,15 @@ class Buffers:
 
 @times
 def test_few_buffers():
-    """With the defaults a peer that is out of buffers for a moment gets its messages soon."""
+    """With the defaults a peer that is out of buffers for a moment gets its messages soon, and
+    nothing is said of it."""
     link, peer = running(answer=Buffers(7, 0.005))
     begun = time.monotonic()
     link.give(b"".join(b"%04x\n" % it for it in range(140)))
     assert peer.waits(lambda it: len(it.mail) == 140, 20)
     assert time.monotonic() - begun <= 3, f"{time.monotonic() - begun:.1f} s"
-    must_end("140 messages", link, 0, REFUSED[8], seconds=5)
+    must_end("140 messages", link, 0, seconds=5)
+    assert not any("peer" in it for it in link.errors())
     assert peer.mail == [it.to_bytes(2, "big") for it in range(140)], "the messages are others"
 
 

@@ -39,7 +39,7 @@ def incarnations(node, neighbour):
     """The adjacencies that a node has printed, each as the packets of one process of the neighbour,
     numbered from 0; and how many of them are down."""
     found, downs = [], 0
-    assert node.err == b"", node
+    assert all(it.endswith(", still trying") for it in node.errors()), node
     for line in node.lines():
         if line == f"up {neighbour}":
             assert downs == len(found), node

@@ -8,7 +8,7 @@ NODE is AREA.NUMBER, as 1.5, and LINE listen:HOST:PORT, connect:HOST:PORT or udp
 `ddcmp link` has them. A hello goes S seconds after the last message [default: 15], and while the
 adjacency is up N packets a second, which are numbered [default: 0]. The reply timer has --timer S
 seconds [default: 3]. Standard output has, a line each: `up NODE`, `packet NODE TEXT`, and
-`down REASON`, after which the circuit starts again.
+`down REASON`, after which the circuit starts again. A connection is tried again each second.
 
 A routing layer must tell the incarnations of a circuit apart: the first message of each is the
 initialization message, and none of the one before may follow. So this feeds a station itself: each
@@ -18,10 +18,10 @@ room in the window is dropped by whatever starts the circuit again.
 import argparse
 import asyncio
 import collections
-import contextlib
 import math
 import os
 import struct
+import sys
 import time
 from typing import Any, Deque, List, Optional
 
@@ -47,6 +47,14 @@ def node_text(node: int) -> str:
     return f"{node >> 10}.{node & 1023}"
 
 
+def report(*words: object) -> None:
+    """Prints a line; if nobody reads it, that is the end."""
+    try:
+        print(*words, flush=True)
+    except BrokenPipeError:
+        os._exit(1)
+
+
 class Circuit(asyncio.Protocol, asyncio.DatagramProtocol):
     """A circuit over one line after another: a connection, or datagrams of one peer."""
 
@@ -69,7 +77,7 @@ class Circuit(asyncio.Protocol, asyncio.DatagramProtocol):
     def down(self, reason: str) -> None:
         """Ends the adjacency, if it is up."""
         if self.neighbour is not None:
-            print("down", reason, flush=True)
+            report("down", reason)
         self.begin()
 
     def restart(self, reason: str) -> None:
@@ -172,7 +180,7 @@ class Circuit(asyncio.Protocol, asyncio.DatagramProtocol):
             pass
         elif kind == PACKET and is_up and len(message) >= 6:
             source = struct.unpack_from("<H", message, 3)[0]
-            print("packet", node_text(source), message[6:].decode("ascii", "replace"), flush=True)
+            report("packet", node_text(source), message[6:].decode("ascii", "replace"))
         elif kind != VERIFICATION:
             self.restart(f"unexpected message of type {kind}")
 
@@ -184,7 +192,7 @@ class Circuit(asyncio.Protocol, asyncio.DatagramProtocol):
         if info & WANTS_VERIFICATION:
             self.send(struct.pack("<BHB", VERIFICATION, self.node, 0))
         self.neighbour, self.patience = node, float(MULTIPLIER * hello)
-        print("up", node_text(node), flush=True)
+        report("up", node_text(node))
 
     async def run(self) -> None:
         """Sends hellos and packets, and restarts a circuit on which nothing comes."""
@@ -212,7 +220,8 @@ def line_of(text: str) -> List[Any]:
     kind, _, names = text.partition(":")
     found = [it.rpartition(":") for it in names.split(",")]
     wanted = {"listen": 1, "connect": 1, "udp": 2}.get(kind)
-    if len(found) != wanted or not all(host and port.isdigit() for host, _, port in found):
+    if len(found) != wanted or not all(
+            host and port.isdigit() and int(port) < 1 << 16 for host, _, port in found):
         raise argparse.ArgumentTypeError("a line is listen:HOST:PORT, connect:HOST:PORT or udp:..")
     return [kind, *((host, int(port)) for host, _, port in found)]
 
@@ -225,9 +234,11 @@ async def lines(circuit: Circuit, kind: str, here: Any, there: Any = None) -> No
     elif kind == "listen":
         await loop.create_server(lambda: circuit, *here)
     while kind == "connect":
-        with contextlib.suppress(OSError):
+        try:
             await loop.create_connection(lambda: circuit, *here)
             await circuit.is_over.wait()
+        except OSError as it:
+            print(f"phase4: {it}, still trying", file=sys.stderr, flush=True)
         await asyncio.sleep(RETRY)
 
 
@@ -244,5 +255,9 @@ async def main() -> None:
 
 
 if __name__ == "__main__":
-    with contextlib.suppress(KeyboardInterrupt):
+    try:
         asyncio.run(main())
+    except OSError as it:
+        sys.exit(f"phase4: {it}")
+    except KeyboardInterrupt:
+        pass

@@ -137,10 +137,10 @@ abbrev pub joined : Bool → List ℕ → List ℕ
 joined true bytes = bytes
 joined false bytes = []
 
--- What its history says something of: both ways, how far each line is open, why nothing more is read
--- from it and written to it, what was asked for, the phase, whether both lines were open at once,
--- whether it had other lines before, why and when it left these, when its time is over, how it ended,
--- and the counters of the lines before.
+-- What its history says something of: both ways, how far each line is open, why nothing more is
+-- read from it and written to it, what was asked for, the phase, whether both lines were open at
+-- once, whether it had other lines before, why and when it left these, when its time is over, how it
+-- ended, and the counters of the lines before.
 pub record CrossView : Type 0 where
   pub there : DirectionView
   pub back : DirectionView
@@ -198,7 +198,7 @@ pub record FitsPhase (now : Phase) (was_joined : Bool) : Type 0 where
   pub joined : is_joined now ≡ true → was_joined ≡ true
   pub opening : is_opening now ≡ true → was_joined ≡ false
 
--- A line has ended; if the other hasn't, nothing that was used of the first is left to be passed on.
+-- A line has ended; if the other hasn't, nothing that was used of the first is left to pass on.
 pub record IsOver (first second : Option Down) (there back : Frames) : Type 0 where
   pub some : (is_some first || is_some second) ≡ true
   pub first_passed : is_some second ≡ false → there ≡ []

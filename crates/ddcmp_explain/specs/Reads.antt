@@ -81,8 +81,8 @@ Gives written input seen left at bytes (Err fault) =
 abbrev pub turns : InputBytes → ℕ
 turns at = if at.detects then 2 ^ 64 else 2 ^ 64 - 1 - at.seen
 
--- Each time more is read, or there is no more. It is a failed read if the source's state isn't Fine;
--- and only then, or if 2^64 - 1 bytes were read.
+-- Each time more is read, or there is no more. It is a failed read if the source's state isn't
+-- Fine; and only then, or if 2^64 - 1 bytes were read.
 abbrev pub IsNext : InputBytes → InputBytes → Worst → Result (Option ℕ) ExplainFault → Type 0
 IsNext old new state (Ok (Some n)) =
     (state ≡ Fine) × (n ≤ 16384) × (old.seen + n ≤ new.seen) × (turns new < turns old)

@@ -321,8 +321,8 @@ frame_of MessagePends state reply s = Data s.r s.t (message_at_next s)
 frame_of AckPends state reply s = Acked s.r
 frame_of MaintenancePends state reply s = Maint (first_of s.out)
 
--- The station once it was sent: STRT, STACK and REP start the reply timer anew, a message starts one
--- that is off, and any frame with RESP is the reply. Unsure: when the timer starts.
+-- The station once it was sent: STRT, STACK and REP start the reply timer anew, a message starts
+-- one that is off, and any frame with RESP is the reply. Unsure: when the timer starts.
 abbrev pub after_sending : Pending → StationState → StationState
 after_sending StartPends s = record s { due = false; timer = Fresh }
 after_sending NakPends s = record s { reply = Quiet }

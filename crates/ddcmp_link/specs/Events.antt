@@ -21,8 +21,8 @@ abbrev pub Reports : Option LineEvent → ErrorsView → ErrorsView → Type 0
 Reports None old new = new ≡ old
 Reports (Some event) old new = HasReported (event_text event) old new
 
--- How far the opening of a line came was reported, and of a device, which has no address, that it is
--- open.
+-- How far the opening of a line came was reported, and of a device, which has no address, that it
+-- is open.
 abbrev pub ReportsOpened : LineName → Opened → ErrorsView → ErrorsView → Type 0
 ReportsOpened (Device path) (Line it) old new =
     HasReported (device_text (record { path = path })) old new

@@ -46,7 +46,7 @@ fn decode(input: &[u8], form: InputForm, kept: &mut Vec<u8>) -> Result<(), Expla
 }
 
 /// Puts the bytes that an input encodes, up to a fault, into the front of `out`, and returns 0, or
-/// the code of the fault, of which `at` tells the place. If they don't fit, `written` is their
+/// the code of the fault, whose place is `at`. If they don't fit, `written` is their
 /// number.
 #[unsafe(no_mangle)]
 pub extern "C" fn page_bytes(

@@ -40,7 +40,7 @@ fn explain_form(
 }
 
 /// Explains an input: puts the lines of its items into the front of `out`, and returns 0, or the
-/// code of a fault, of which `at` tells the place. If they don't fit, `written` is their length.
+/// code of a fault, whose place is `at`. If they don't fit, `written` is their length.
 #[unsafe(no_mangle)]
 pub extern "C" fn page_explain(
     alloc: Global,

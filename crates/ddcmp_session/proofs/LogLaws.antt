@@ -1,7 +1,7 @@
 -- What a session has for standard error, over calls one after another.
 use Rattle.std.proofs.Common.{◌≡◌, ◌∙◌, ℕ, List, [], ◌∷◌, ◌++◌, ap, refl, subst}
 use Rattle.ddcmp_session.specs.Logged.{LogView}
-use Rattle.ddcmp_session.specs.Telling.{TookEach, WritesQueued}
+use Rattle.ddcmp_session.specs.LastReports.{TookEach, WritesQueued}
 use Rattle.ddcmp_streams.specs.Errors.{ErrorsView, Took}
 
 -- Lines were written.

@@ -46,7 +46,6 @@ course_begun report_ms = record {
   read_before = 0;
   told_refused_long = 0;
   refused_long_at = 0;
-  told_no_buffer = 0;
   no_buffer_at = 0;
   silence_at = 0;
   noise_at = 0;
@@ -274,22 +273,24 @@ after_looked timer_ms before d c =
 
 -- ---- what the peer refuses
 
--- There were more NAKs of a reason than when that was told, which it is each minute at most.
-abbrev pub is_untold : ℕ → ℕ → ℕ → ℕ → Bool
-is_untold told naks at now = not (naks == told) && nat_le at now
-
+-- There were more NAKs for length than when that was reported, which it is each minute at most.
 abbrev pub tells_refused_long : NakCounts → Course → Bool
-tells_refused_long n c = is_untold c.told_refused_long n.too_long c.refused_long_at c.moment
+tells_refused_long n c =
+    not (n.too_long == c.told_refused_long) && nat_le c.refused_long_at c.moment
 
-abbrev pub tells_no_buffer : NakCounts → Course → Bool
-tells_no_buffer n c = is_untold c.told_no_buffer n.no_buffer c.no_buffer_at c.moment
+abbrev pub is_no_buffer : Option Nak → Bool
+is_no_buffer (Some nak.NoBuffer) = true
+is_no_buffer _ = false
+
+-- What was sent again after a pause was refused for want of a buffer.
+abbrev pub tells_no_buffer : Course → Bool
+tells_no_buffer c = is_no_buffer c.refusal && nat_le c.no_buffer_at c.moment
 
 abbrev pub after_refusals_told : NakCounts → Course → Course
 after_refusals_told n c = record c {
   told_refused_long = if tells_refused_long n c then n.too_long else c.told_refused_long;
   refused_long_at = if tells_refused_long n c then later c.moment 60000 else c.refused_long_at;
-  told_no_buffer = if tells_no_buffer n c then n.no_buffer else c.told_no_buffer;
-  no_buffer_at = if tells_no_buffer n c then later c.moment 60000 else c.no_buffer_at;
+  no_buffer_at = if tells_no_buffer c then later c.moment 60000 else c.no_buffer_at;
 }
 
 -- ---- before the peer's start

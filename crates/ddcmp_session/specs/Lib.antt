@@ -13,9 +13,9 @@ pub mod Reported
 pub mod Reports
 pub mod Session
 pub mod Stopping
-pub mod Telling
+pub mod LastReports
 pub mod Text
 pub mod Timing
 pub mod Traffic
-pub mod Waiting
+pub mod Wanted
 pub use Rattle.ddcmp_io.specs.Queue

@@ -146,7 +146,7 @@ ReportsDown why s old new =
     MatchBool (is_delivered s && not (stays s)) (new ≡ old)
     (HasLine SHORT_LINE (line_down_text why) old new)
 
--- What the peer sends wrong is told, if it wasn't before.
+-- What the peer sends wrong is reported, if it wasn't before.
 abbrev pub ReportsWrong : SessionView → ErrorsView → ErrorsView → Type 0
 ReportsWrong s old new =
     MatchOption (untold s) (new ≡ old)
@@ -164,7 +164,7 @@ pub record ReportsRefusals (n : NakCounts) (c : Course) (old new : ErrorsView) :
   pub told : ErrorsView
   pub too_long : MatchBool (tells_refused_long n c)
       (HasLine SHORT_LINE (given_up_text (Some nak.TooLong)) old told) (told ≡ old)
-  pub no_buffer : MatchBool (tells_no_buffer n c)
+  pub no_buffer : MatchBool (tells_no_buffer c)
       (HasLine SHORT_LINE no_buffer_text told new) (new ≡ told)
 
 -- The first bytes of a line are those of telnet.
@@ -194,13 +194,13 @@ confirmed s =
 abbrev pub SeemsToEcho : SessionView → EchoView → Type 0
 SeemsToEcho s e = (confirmed s ≢ 0) × IsEcho e
 
--- If so, that is told.
+-- If so, that is reported.
 abbrev pub ReportsEcho : SessionView → EchoView → ErrorsView → ErrorsView → Type 0
 ReportsEcho s e old new =
     (SeemsToEcho s e × HasLine SHORT_LINE echo_text old new)
     ⊎ ((SeemsToEcho s e → ⊥) × (new ≡ old))
 
--- What is to be told of the peer was told, when the timer had expired or not.
+-- What is to be reported of the peer was reported, when the timer had expired or not.
 pub record TellsPeer (has_expired : Bool) (s : SessionView) (old new : ErrorsView) : Type 0 where
   pub left : ErrorsView
   pub given_up : ReportsGivenUp s old left

@@ -262,8 +262,8 @@ timed_out now s = after_tried (expires now s) (record s {
       (after_pauses (after_moment (report_ms s.options) now s.course));
 })
 
--- What the peer sends wrong is told once for each kind: its messages are too long, or for so long
--- that NAKs are held back for as long as the reply timer all that it sends is damaged.
+-- What the peer sends wrong is reported once for each kind: its messages are too long, or for so
+-- long that NAKs are held back for as long as the reply timer all that it sends is damaged.
 abbrev pub has_too_long : SessionView → Bool
 has_too_long s = nat_lt 0 s.link.station.core.counters.too_longs
 
@@ -310,7 +310,7 @@ refusals_of s = s.link.station.core.counters.nak_received
 abbrev pub after_refusals : SessionView → SessionView
 after_refusals s = record s { course = after_refusals_told (refusals_of s) s.course }
 
--- what is to be told of the peer was told
+-- what is to be reported of the peer was reported
 abbrev pub after_told : Bool → SessionView → SessionView
 after_told has_expired s = after_refusals (after_telling (after_start has_expired s))
 

@@ -59,7 +59,7 @@ impl Buffers {
     ghost use Rattle.std.specs.Prelude.{◌≡◌, Option, true, false, [], is_ok};
     ghost use Rattle.ddcmp_core.specs.Table.{after_halt, answer_to_start};
     ghost use Rattle.ddcmp_session.specs.Traffic.{Becomes, Traffic, line_begun};
-    ghost use Rattle.ddcmp_session.specs.Waiting.{reads_input, reads_line, wanted};
+    ghost use Rattle.ddcmp_session.specs.Wanted.{reads_input, reads_line, wanted};
     ghost use Rattle.ddcmp_session.specs.Lines.{Closes, GoesOver, none_received};
     ghost use Rattle.ddcmp_session.specs.Session.{after_connected};
 

@@ -96,11 +96,10 @@ pub(crate) struct Course {
     /// How many bytes had been received when the link was fed last, and when it got this line.
     pub(crate) read: u64,
     pub(crate) read_before: u64,
-    /// How many NAKs with reason 16 (message too long) and 8 (no buffer) had been received when
-    /// that was reported last, and from when on it is reported again.
+    /// How many NAKs with reason 16 (message too long) had been received when that was reported
+    /// last, and from when on it is reported again, as NAK 8 (no buffer) is.
     pub(crate) told_refused_long: u32,
     pub(crate) refused_long_at: u64,
-    pub(crate) told_no_buffer: u32,
     pub(crate) no_buffer_at: u64,
     /// From when on silence, and noise, before the peer's start are reported again.
     pub(crate) silence_at: u64,
@@ -155,7 +154,6 @@ impl Course {
             read_before: 0,
             told_refused_long: 0,
             refused_long_at: 0,
-            told_no_buffer: 0,
             no_buffer_at: 0,
             silence_at: 0,
             noise_at: 0,

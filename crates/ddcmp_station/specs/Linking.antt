@@ -180,8 +180,8 @@ is_message (Some f) = is_data (header_of f)
 abbrev pub carries_message : LinkView → Bool
 carries_message d = is_message (frame_of_link d)
 
--- whether the next frame is a NAK of a frame that came damaged or too long: neither one that replies
--- to a REP nor one that waits for a buffer
+-- whether the next frame is a NAK of a frame that came damaged or too long: neither one that
+-- replies to a REP nor one that waits for a buffer
 abbrev pub refuses_frame : Header → Bool
 refuses_frame (header.Control h) =
     is_nak h.kind && (not (h.sub == 3) && not (h.sub == NO_BUFFER_REASON))

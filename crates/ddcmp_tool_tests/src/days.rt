@@ -93,7 +93,7 @@ fn takes_report(rt: &impl Abort, session: &mut Session) -> bool {
 }
 
 /// Wakes a session whose peer never replies at each of its moments until it ends; returns how often
-/// it woke, reported and told that there is no reply, and when it ended. It sends when its timer
+/// it woke, reported, also that there is no reply, and when it ended. It sends when its timer
 /// expires, and reports periodically.
 fn sleeps(rt: &(impl Abort + AllocGlobal), options: Options) -> (u64, u64, u64, u64) {
     let mut session = begun(rt, options);
@@ -121,7 +121,7 @@ fn sleeps(rt: &(impl Abort + AllocGlobal), options: Options) -> (u64, u64, u64, 
 }
 
 /// A peer that never replies gets a STRT every three seconds, and the run ends in time. That there
-/// is no reply is told after 12 seconds, and then each minute.
+/// is no reply is reported after 12 seconds, and then each minute.
 #[test]
 fn a_day_of_silence(rt: HostRuntime) {
     assert!(&rt; sleeps(&rt, options(3000, DAY, 0)) == (28_800, 0, 1440, DAY_MS));

@@ -25,7 +25,8 @@ impl Line {
     fn read(&mut self, space: &mut [u8]) -> usize
         ensures fits { result ≤ length space.new }
         ensures passage { passage_of self.new.came.items self.new.gone.items self.new.is_open
-            ≡ after_read (Transfer.Bytes result) space.new (passage_of self.old.came.items self.old.gone.items self.old.is_open) }
+            ≡ after_read (Transfer.Bytes result) space.new
+            (passage_of self.old.came.items self.old.gone.items self.old.is_open) }
         ensures later { self.new.opens_later ≡ self.old.opens_later }
     {
         let rest = self.text.as_slice().get(self.came.len()..).unwrap_or(&[]);
@@ -41,7 +42,8 @@ impl Line {
     fn write(&mut self, bytes: &[u8]) -> usize
         ensures fits { result ≤ length bytes.now }
         ensures passage { passage_of self.new.came.items self.new.gone.items self.new.is_open
-            ≡ after_written (Transfer.Bytes result) bytes.now (passage_of self.old.came.items self.old.gone.items self.old.is_open) }
+            ≡ after_written (Transfer.Bytes result) bytes.now
+            (passage_of self.old.came.items self.old.gone.items self.old.is_open) }
         ensures later { self.new.opens_later ≡ self.old.opens_later }
     {
         let n = bytes.len().min(5);
@@ -54,7 +56,8 @@ impl Line {
     /// Opens it, once.
     fn open(&mut self) -> Opening
         ensures passage { passage_of self.new.came.items self.new.gone.items self.new.is_open
-            ≡ after_opening result (passage_of self.old.came.items self.old.gone.items self.old.is_open) }
+            ≡ after_opening result
+            (passage_of self.old.came.items self.old.gone.items self.old.is_open) }
         ensures later { self.new.opens_later ≡ is_later result }
     {
         self.opens_later = self.is_open;

@@ -1,5 +1,5 @@
-//! Endings that no command line leads to. The head of an example says why the program ends; its line
-//! and its status are printed.
+//! Endings that no command line leads to. The head of an example says why the program ends; its
+//! line and its status are printed.
 use ddcmp_cli::{Ending, Fault, run_args};
 use ddcmp_frame::{FromRead, ToWrite};
 use std::io::{self, ErrorKind};

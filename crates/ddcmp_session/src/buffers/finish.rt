@@ -3,7 +3,7 @@ ghost use Rattle.std.specs.Prelude.{◌≡◌, ◌≢◌, ◌&&◌, ◌⊎◌, E
 ghost use Rattle.ddcmp_session.specs.Devices.{BuffersView, GoesOn, Reports};
 ghost use Rattle.ddcmp_session.specs.Finishing.{Drains, Finishes, IsDrained};
 ghost use Rattle.ddcmp_session.specs.Logged.{LogView};
-ghost use Rattle.ddcmp_session.specs.Telling.{TellsLast, TellsUnread};
+ghost use Rattle.ddcmp_session.specs.LastReports.{WritesLastReports, ReportsUnread};
 ghost use Rattle.ddcmp_session.specs.declared.devices.DeviceFault.{DeviceFault as FaultValue};
 
 use crate::buffers::Buffers;
@@ -111,19 +111,19 @@ fn deliver_rest<D: Devices>(session: &mut Session, devices: &mut D) -> Result<()
       trace = session.new.log.trace;
     } }
     ensures emptied { result ≡ Ok tt → IsDrained session.new.state }
-    ensures told { (last : LogView) × TellsLast session.new.state session.old.log last
-        × TellsUnread result last session.new.log }
+    ensures told { (last : LogView) × WritesLastReports session.new.state session.old.log last
+        × ReportsUnread result last session.new.log }
 {
     let drained = drain_output(session, devices);
     session.finish();
-    tell_unread(session, drained);
+    report_if_unread(session, drained);
     drained
 }
 
 /// Reports that received messages are lost since the output isn't read, if that is the fault.
-fn tell_unread(session: &mut Session, drained: Result<(), DeviceFault>)
+fn report_if_unread(session: &mut Session, drained: Result<(), DeviceFault>)
     ensures state { session.new.state ≡ session.old.state }
-    ensures told { TellsUnread drained session.old.log session.new.log }
+    ensures told { ReportsUnread drained session.old.log session.new.log }
 {
     match drained {
         Err(DeviceFault::Time) => session.report_unread(),

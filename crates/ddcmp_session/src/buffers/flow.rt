@@ -5,7 +5,7 @@ ghost use Rattle.ddcmp_session.specs.Devices.{BuffersView, GoesOn, HoldsMail, On
 ghost use Rattle.ddcmp_session.specs.Devices.{Reports};
 ghost use Rattle.ddcmp_session.specs.Traffic.{Traffic};
 ghost use Rattle.ddcmp_session.specs.Finishing.{Drains, HasRoomIfEmpty};
-ghost use Rattle.ddcmp_session.specs.Telling.{WritesQueued};
+ghost use Rattle.ddcmp_session.specs.LastReports.{WritesQueued};
 ghost use Rattle.ddcmp_session.specs.declared.devices.DeviceFault.{DeviceFault as FaultValue};
 
 use crate::buffers::Buffers;

@@ -4,7 +4,7 @@ ghost use Rattle.ddcmp_session.specs.Course.{lost_more};
 ghost use Rattle.ddcmp_session.specs.Devices.{BuffersView, GoesOn, HoldsMail, OnlyDelivers};
 ghost use Rattle.ddcmp_session.specs.Devices.{Reports};
 ghost use Rattle.ddcmp_session.specs.Finishing.{Drains, IsDrained};
-ghost use Rattle.ddcmp_session.specs.Telling.{WritesQueued};
+ghost use Rattle.ddcmp_session.specs.LastReports.{WritesQueued};
 ghost use Rattle.ddcmp_session.specs.Session.{lost_by_end};
 ghost use Rattle.ddcmp_session.specs.Lines.{IsReady, ReportsOver, StaysOver};
 ghost use Rattle.ddcmp_session.specs.declared.devices.DeviceFault.{DeviceFault as FaultValue};

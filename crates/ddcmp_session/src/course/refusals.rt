@@ -1,7 +1,7 @@
-//! What is told of the messages that a peer refuses.
+//! What is reported of the messages that a peer refuses.
 use crate::course::Course;
 use crate::course::start::TELLING_MS;
-use ddcmp_station::NakCounts;
+use ddcmp_station::{Nak, NakCounts};
 
 impl Course {
     ghost use Rattle.std.specs.Prelude.{◌≡◌};
@@ -15,11 +15,15 @@ impl Course {
         naks.too_long != self.told_refused_long && self.refused_long_at <= self.moment
     }
 
-    /// Returns whether it is to be reported that the peer has no buffer.
-    pub(crate) fn tells_no_buffer(&self, naks: &NakCounts) -> bool
-        ensures { result ≡ tells_no_buffer naks.now self.now }
+    /// Returns whether it is to be reported that the peer has no buffer: what was sent again after
+    /// a pause was refused for it. A healthy peer that reads slowly may refuse a message once.
+    pub(crate) fn tells_no_buffer(&self) -> bool
+        ensures { result ≡ tells_no_buffer self.now }
     {
-        naks.no_buffer != self.told_no_buffer && self.no_buffer_at <= self.moment
+        match self.refusal {
+            Some(Nak::NoBuffer) => self.no_buffer_at <= self.moment,
+            _ => false,
+        }
     }
 
     /// Notes that this was reported, if it was to be.
@@ -31,8 +35,7 @@ impl Course {
             self.told_refused_long = naks.too_long;
             self.refused_long_at = again_at;
         }
-        if self.tells_no_buffer(naks) {
-            self.told_no_buffer = naks.no_buffer;
+        if self.tells_no_buffer() {
             self.no_buffer_at = again_at;
         }
     }

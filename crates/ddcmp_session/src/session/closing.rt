@@ -16,7 +16,7 @@ impl Session {
     ghost use Rattle.ddcmp_session.specs.EndText.{end_line, end_text};
     ghost use Rattle.ddcmp_streams.specs.Queued.{queued};
     ghost use Rattle.ddcmp_streams.specs.Errors.{HasLine};
-    ghost use Rattle.ddcmp_session.specs.Telling.{TellsLast};
+    ghost use Rattle.ddcmp_session.specs.LastReports.{WritesLastReports};
     ghost use Rattle.ddcmp_session.specs.Logged.{HasEnd, ReportsEcho, confirmed};
     ghost use Rattle.ddcmp_session.specs.Reported.{ClosesLog};
     ghost use Rattle.ddcmp_session.specs.Text.{Wrote, reported_lost};
@@ -54,7 +54,7 @@ impl Session {
     /// Writes the last lines, once all received messages are delivered.
     pub fn finish(&mut self)
         ensures state { self.new.state ≡ self.old.state }
-        ensures traced { TellsLast self.old.state self.old.log self.new.log }
+        ensures traced { WritesLastReports self.old.state self.old.log self.new.log }
         ensures log { self.new.log
             ≡ record self.old.log { errors = self.new.log.errors; trace = self.new.log.trace } }
     {

@@ -163,7 +163,7 @@ impl Session {
     {
         let naks = self.link.counters().nak_received;
         let is_too_long = self.course.tells_refused_long(&naks);
-        let has_no_buffer = self.course.tells_no_buffer(&naks);
+        let has_no_buffer = self.course.tells_no_buffer();
         self.report_refused_long(is_too_long);
         self.report_no_buffer(has_no_buffer);
         self.course.tell_refusals(&naks);

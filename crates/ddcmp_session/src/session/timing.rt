@@ -92,7 +92,7 @@ impl Session {
         }
     }
 
-    /// Reports what is to be told of the peer.
+    /// Reports what is to be reported of the peer.
     fn tell_peer(&mut self, has_expired: bool)
         ensures state { self.new.state ≡ after_told has_expired self.old.state }
         ensures errors { TellsPeer has_expired self.old.state self.old.log.errors

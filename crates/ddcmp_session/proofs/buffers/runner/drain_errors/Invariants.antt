@@ -1,7 +1,7 @@
 use Rattle.std.proofs.Common.{◌≡◌}
 use Rattle.ddcmp_session.specs.Devices.{BuffersView, GoesOn}
 use Rattle.ddcmp_session.specs.Finishing.{Drains}
-use Rattle.ddcmp_session.specs.Telling.{WritesQueued}
+use Rattle.ddcmp_session.specs.LastReports.{WritesQueued}
 use Rattle.ddcmp_session.proofs.buffers.runner.drain_errors.Given as goal
 
 abbrev pub invariant-loop-write : goal.invariant-loop-write

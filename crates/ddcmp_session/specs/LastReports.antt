@@ -19,14 +19,14 @@ abbrev pub WritesQueued : ErrorsView → ErrorsView → Type 0
 WritesQueued old new = (pieces : List ℕ) × TookEach pieces old new
 
 -- The line echoes, or the trace has discarded bytes left.
-abbrev pub TellsLast : SessionView → LogView → LogView → Type 0
-TellsLast s old new =
+abbrev pub WritesLastReports : SessionView → LogView → LogView → Type 0
+WritesLastReports s old new =
     (mid : ErrorsView) × ReportsEcho s old.echo old.errors mid
     × Traces LogsEnd old.trace (record old { errors = mid }) new
 
 -- The output was blocked for so long that it isn't read.
-abbrev pub TellsUnread : Result (Unit {0}) DeviceFault → LogView → LogView → Type 0
-TellsUnread (Err Time) old new =
+abbrev pub ReportsUnread : Result (Unit {0}) DeviceFault → LogView → LogView → Type 0
+ReportsUnread (Err Time) old new =
     HasLine SHORT_LINE unread_text old.errors new.errors
     × (new ≡ record old { errors = new.errors })
-TellsUnread _ old new = new ≡ old
+ReportsUnread _ old new = new ≡ old
