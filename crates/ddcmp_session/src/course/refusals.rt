@@ -1,7 +1,8 @@
 //! What is reported of the messages that a peer refuses.
 use crate::course::Course;
 use crate::course::start::TELLING_MS;
-use ddcmp_station::{Nak, NakCounts};
+use ddcmp_frame::Nak;
+use ddcmp_station::NakCounts;
 
 impl Course {
     ghost use Rattle.std.specs.Prelude.{◌≡◌};
