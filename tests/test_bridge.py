@@ -150,6 +150,19 @@ def unread(name):
                and it[3] != "0A")
 
 
+def fills(sock, octets):
+    """Sends of these octets until nothing more was taken for a while."""
+    sock.setblocking(False)
+    sent, until = 0, time.monotonic() + 0.3
+    while sent < len(octets) and time.monotonic() < until:
+        try:
+            sent += sock.send(octets[sent:sent + (1 << 16)])
+            until = time.monotonic() + 0.3
+        except BlockingIOError:
+            time.sleep(0.01)
+    time.sleep(0.2)
+
+
 def test_bridged_rest():
     """What a line has given is passed on, though it takes nothing any more."""
     bridge, one, two = bridged()
@@ -160,9 +173,7 @@ def test_bridged_rest():
     sending.join(LONG)
     bridge.run.send_signal(signal.SIGSTOP)
     two.sendall(data(b"unwanted", 1))
-    one.setblocking(False)
-    one.send(b"".join(frames[:250]))
-    time.sleep(0.2)
+    fills(one, b"".join(frames))
     had = unread(one.getsockname()) // 1000
     reset_at_close(one)
     one.close()
