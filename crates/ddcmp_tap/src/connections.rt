@@ -15,13 +15,22 @@ use crate::sockets::{Socket, Sockets, ToSocket};
 use crate::tap_fault::{CarrierFault, Stage, TapFault};
 use ddcmp_io::{FromRead, Sink, WriteFailed, write_all};
 use ddcmp_log::{LogNotation, Side};
-use ddcmp_station::Elapsed;
 use mio::net::TcpStream;
 use std::alloc::Global;
 use std::io::{self, Eprint, ErrorKind};
 use std::net::{self, Net, OpenListener, SocketAddr, TcpListener, ToSocketAddrs};
 use std::os::fd::AsRawFd;
 use std::time;
+
+/// How a tap logs what passes.
+#[derive(Clone, Copy)]
+pub struct TapLog {
+    pub notation: LogNotation,
+    /// Whether each line has the milliseconds since the connections were made.
+    pub timed: bool,
+    /// The maximum number of bytes of a message.
+    pub max: u16,
+}
 
 /// The heading of a ladder: which side is which.
 const LADDER_HEAD: &[u8] =
@@ -135,22 +144,20 @@ pub fn tap<S: Net<Stream = net::TcpStream> + Eprint + time::Clock, W: Sink>(
     alloc: Global,
     listen: &str,
     connect: &str,
-    notation: LogNotation,
-    timed: bool,
-    max: u16,
+    log: TapLog,
     writer: &mut W,
 ) -> Result<(), TapFault>
     requires whole { W.broken writer.old ≡ false }
-    requires low { 0 < max }
-    requires high { max ≤ MAX_COUNT }
-    ensures says { Says (head_of notation) notation timed max
+    requires low { 0 < log.max }
+    requires high { log.max ≤ MAX_COUNT }
+    ensures says { Says (head_of log.notation) log.notation log.timed log.max
         (W.contents writer.old) (W.contents writer.new) result }
     ensures carrier { (why : CarrierFault) → result ≡ Err (TapFault.Carrier why)
         → writer.new ≡ writer.old }
     ensures broken { (result ≡ Err TapFault.Report) ↔ IsTrue (W.broken writer.new) }
 {
     match accept_first(system, listen) {
-        Ok(caller) => carry(system, alloc, caller, connect, notation, timed, max, writer),
+        Ok(caller) => carry(system, alloc, caller, connect, log, writer),
         Err(error) => Err(TapFault::Carrier(carrier_fault(system, Stage::Listen, listen, &error))),
     }
 }
@@ -161,15 +168,13 @@ fn carry<S: Net<Stream = net::TcpStream> + Eprint + time::Clock, W: Sink>(
     alloc: Global,
     caller: Caller,
     connect: &str,
-    notation: LogNotation,
-    timed: bool,
-    max: u16,
+    log: TapLog,
     writer: &mut W,
 ) -> Result<(), TapFault>
     requires whole { W.broken writer.old ≡ false }
-    requires low { 0 < max }
-    requires high { max ≤ MAX_COUNT }
-    ensures says { Says (head_of notation) notation timed max
+    requires low { 0 < log.max }
+    requires high { log.max ≤ MAX_COUNT }
+    ensures says { Says (head_of log.notation) log.notation log.timed log.max
         (W.contents writer.old) (W.contents writer.new) result }
     ensures carrier { (why : CarrierFault) → result ≡ Err (TapFault.Carrier why)
         → writer.new ≡ writer.old }
@@ -191,17 +196,7 @@ fn carry<S: Net<Stream = net::TcpStream> + Eprint + time::Clock, W: Sink>(
         Err(error) => return Err(no_waiting(&error)),
     };
     let (caller, called) = (Socket::new(caller), Socket::new(called));
-    let ended = between(
-        system,
-        alloc,
-        &caller,
-        &called,
-        &mut sockets,
-        notation,
-        timed,
-        max,
-        writer,
-    );
+    let ended = between(alloc, &caller, &called, &mut sockets, log, writer);
     caller.report(system, "caller", &peer);
     called.report(system, "called", &connect);
     ended
@@ -235,16 +230,14 @@ pub fn tap_again<S: Net<Stream = net::TcpStream> + Eprint + time::Clock, W: Sink
     alloc: Global,
     listen: &str,
     connect: &str,
-    notation: LogNotation,
-    timed: bool,
-    max: u16,
+    log: TapLog,
     writer: &mut W,
 ) -> TapFault
     requires whole { W.broken writer.old ≡ false }
-    requires low { 0 < max }
-    requires high { max ≤ MAX_COUNT }
-    ensures says { SaysInTurn notation timed max (W.contents writer.old) (W.contents writer.new)
-        result }
+    requires low { 0 < log.max }
+    requires high { log.max ≤ MAX_COUNT }
+    ensures says { SaysInTurn log.notation log.timed log.max
+        (W.contents writer.old) (W.contents writer.new) result }
     ensures lasts { Lasts result }
     ensures broken { (result ≡ TapFault.Report) ↔ IsTrue (W.broken writer.new) }
 {
@@ -265,7 +258,7 @@ pub fn tap_again<S: Net<Stream = net::TcpStream> + Eprint + time::Clock, W: Sink
                 return TapFault::Carrier(carrier_fault(system, Stage::Listen, listen, &error));
             }
         };
-        let ended = carry(system, alloc, caller, connect, notation, timed, max, writer);
+        let ended = carry(system, alloc, caller, connect, log, writer);
         if let Some(fault) = lasting(system, connect, ended) {
             return fault;
         }
@@ -277,25 +270,27 @@ pub fn tap_again<S: Net<Stream = net::TcpStream> + Eprint + time::Clock, W: Sink
 }
 
 /// Forwards between two sockets.
-fn between<C: time::Clock, W: Sink>(
-    clock: &C,
+fn between<S: Net + time::Clock, W: Sink>(
     alloc: Global,
     caller: &Socket,
     called: &Socket,
-    sockets: &mut Sockets,
-    notation: LogNotation,
-    timed: bool,
-    max: u16,
+    sockets: &mut Sockets<'_, S>,
+    log: TapLog,
     writer: &mut W,
 ) -> Result<(), TapFault>
     requires whole { W.broken writer.old ≡ false }
-    requires low { 0 < max }
-    requires high { max ≤ MAX_COUNT }
-    ensures says { Says (head_of notation) notation timed max
+    requires low { 0 < log.max }
+    requires high { log.max ≤ MAX_COUNT }
+    ensures says { Says (head_of log.notation) log.notation log.timed log.max
         (W.contents writer.old) (W.contents writer.new) result }
     ensures met { (why : CarrierFault) → result ≢ Err (TapFault.Carrier why) }
     ensures broken { (result ≡ Err TapFault.Report) ↔ IsTrue (W.broken writer.new) }
 {
+    let TapLog {
+        notation,
+        timed,
+        max,
+    } = log;
     let Ok(up) = Direction::new(alloc, Side::Caller, notation, max) else {
         return Err(TapFault::Memory);
     };
@@ -312,7 +307,6 @@ fn between<C: time::Clock, W: Sink>(
         &mut Flow::new(up, FromRead::new(caller), ToSocket::new(called)),
         &mut Flow::new(down, FromRead::new(called), ToSocket::new(caller)),
         sockets,
-        &mut Elapsed::new(clock),
         timed,
         buffer.as_mut_slice(),
         writer,

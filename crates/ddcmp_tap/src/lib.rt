@@ -16,7 +16,7 @@ mod sockets;
 pub mod tap_fault;
 
 pub use captures::{Capture, DrawFault, draw_captures};
-pub use connections::{tap, tap_again};
+pub use connections::{TapLog, tap, tap_again};
 pub use direction::{Direction, ROOM};
 pub use flow::Flow;
 pub use order::{ItemSummary, Order, SideSummary};

@@ -17,8 +17,8 @@ use crate::tap_fault::{CarrierFault, TapFault};
 use ddcmp_io::{Sink, Source, Worst};
 use ddcmp_station::Clock;
 
-/// Waits until a read or write may succeed.
-pub trait Readiness {
+/// The clock of a tap, which also waits until a read or write may succeed.
+pub trait Readiness: Clock {
     /// Waits until a side may have bytes or room; returns whether it could wait.
     fn wait(&mut self) -> bool;
 }
@@ -91,11 +91,10 @@ fn turn<R: Source, O: Outlet, W: Sink>(
 }
 
 /// Moves bytes and logs those received, until both directions have ended.
-fn until_over<R: Source, O: Outlet, K: Readiness, C: Clock, W: Sink>(
+fn until_over<R: Source, O: Outlet, K: Readiness, W: Sink>(
     up: &mut Flow<R, O>,
     down: &mut Flow<R, O>,
     readiness: &mut K,
-    clock: &mut C,
     timed: bool,
     buffer: &mut [u8],
     writer: &mut W,
@@ -116,7 +115,7 @@ fn until_over<R: Source, O: Outlet, K: Readiness, C: Clock, W: Sink>(
         → (O.closed up.new.outlet ≡ true) × (O.closed down.new.outlet ≡ true) }
 {
     for round in 0..u64::MAX {
-        let at = stamp(clock, timed);
+        let at = stamp(readiness, timed);
         let moved = match turn(up, down, buffer, writer, at) {
             Ok(moved) => moved,
             Err(fault) => return Err(fault),
@@ -176,11 +175,10 @@ fn conclude<R: Source, O: Outlet, C: Clock, W: Sink>(
 
 /// Forwards the bytes of each side to the other and logs them, until both have ended or one has
 /// failed; then writes the two last lines.
-pub fn pump<R: Source, O: Outlet, K: Readiness, C: Clock, W: Sink>(
+pub fn pump<R: Source, O: Outlet, K: Readiness, W: Sink>(
     up: &mut Flow<R, O>,
     down: &mut Flow<R, O>,
     readiness: &mut K,
-    clock: &mut C,
     timed: bool,
     buffer: &mut [u8],
     writer: &mut W,
@@ -199,9 +197,9 @@ pub fn pump<R: Source, O: Outlet, K: Readiness, C: Clock, W: Sink>(
     ensures met { (why : CarrierFault) → result ≢ Err (TapFault.Carrier why) }
     ensures broken { (result ≡ Err TapFault.Report) ↔ IsTrue (W.broken writer.new) }
 {
-    let ended = until_over(up, down, readiness, clock, timed, buffer, writer);
+    let ended = until_over(up, down, readiness, timed, buffer, writer);
     if has_reported(&ended) {
-        conclude(up, down, clock, timed, writer, ended)
+        conclude(up, down, readiness, timed, writer, ended)
     } else {
         ended
     }

@@ -4,6 +4,7 @@ ghost use Rattle.std.specs.Prelude.{◌≡◌, false};
 use crate::outlet::Outlet;
 use crate::proxy::Readiness;
 use ddcmp_io::cause::failure_words_of;
+use ddcmp_station::{Clock, Elapsed};
 use mio::net::TcpStream;
 use mio::{Events, Interest, Poll, Token};
 use std::alloc::Global;
@@ -11,6 +12,7 @@ use std::cell::Cell;
 use std::fmt::Display;
 use std::io::{self, Eprint, ErrorKind, Read, Write};
 use std::net::{Net, Shutdown};
+use std::time;
 
 /// The connection to a side, and why it failed, if it did.
 #[derive(Drop)]
@@ -104,32 +106,40 @@ impl Outlet for ToSocket<'_> {
     }
 }
 
-/// Waits for two sockets.
+/// Waits for two sockets, and measures the time.
 #[derive(Drop)]
-pub(crate) struct Sockets {
+pub(crate) struct Sockets<'a, S> {
     poll: Poll,
     events: Events,
+    clock: Elapsed<'a, S>,
 }
 
-impl Sockets {
-    pub(crate) fn new<N: Net>(
-        net: &N,
+impl<'a, S: Net + time::Clock> Sockets<'a, S> {
+    pub(crate) fn new(
+        system: &'a S,
         alloc: Global,
         caller: &mut TcpStream,
         called: &mut TcpStream,
-    ) -> io::Result<Sockets> {
-        let poll = Poll::new(net)?;
+    ) -> io::Result<Self> {
+        let poll = Poll::new(system)?;
         let both = Interest::READABLE | Interest::WRITABLE;
         poll.registry().register(caller, Token(0), both)?;
         poll.registry().register(called, Token(1), both)?;
         Ok(Sockets {
             poll,
             events: Events::with_capacity(alloc, 2)?,
+            clock: Elapsed::new(system),
         })
     }
 }
 
-impl Readiness for Sockets {
+impl<S: time::Clock> Clock for Sockets<'_, S> {
+    fn now(&mut self) -> u64 {
+        self.clock.now()
+    }
+}
+
+impl<S: time::Clock> Readiness for Sockets<'_, S> {
     fn wait(&mut self) -> bool {
         self.poll.poll(&mut self.events, None).is_ok()
     }

@@ -54,23 +54,19 @@ impl Outlet for Way<'_> {
     }
 }
 
-/// Waits for nothing.
+/// Waits for nothing, with a clock at its start.
 #[derive(Drop)]
 struct Ready;
+
+impl Clock for Ready {
+    fn now(&mut self) -> u64 {
+        0
+    }
+}
 
 impl Readiness for Ready {
     fn wait(&mut self) -> bool {
         true
-    }
-}
-
-/// A clock at its start.
-#[derive(Drop)]
-struct Beginning;
-
-impl Clock for Beginning {
-    fn now(&mut self) -> u64 {
-        0
     }
 }
 
@@ -93,7 +89,6 @@ fn tapped(
         &mut Flow::new(up, Pieces::of(BYTES).at_most(9), Way::new(&ways[0])),
         &mut Flow::new(down, Pieces::of(BYTES).at_most(5), Way::new(&ways[1])),
         &mut Ready,
-        &mut Beginning,
         true,
         &mut [0u8; 64],
         log,
