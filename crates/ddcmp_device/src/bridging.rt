@@ -23,6 +23,7 @@ pub enum BridgeFault<'a> {
 }
 
 /// A line by its name, and the file that what comes over it is saved in, if there is one.
+#[derive(Drop)]
 struct SavedLine<'a> {
     name: LineName<'a>,
     save: Option<Save>,

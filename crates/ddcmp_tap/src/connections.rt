@@ -4,33 +4,25 @@ ghost use Rattle.std.specs.Prelude.{◌≡◌, ◌≢◌, ◌<◌, ◌≤◌, �
 ghost use Rattle.std.specs.Prelude.{is_err};
 ghost use Rattle.ddcmp_io.specs.Written.{Writes};
 ghost use Rattle.ddcmp_frame.specs.Limits.{MAX_COUNT};
-ghost use Rattle.ddcmp_tap.specs.Pumping.{Says, head_of};
+ghost use Rattle.ddcmp_tap.specs.Logging.{Says, head_of};
 ghost use Rattle.ddcmp_tap.specs.InTurn.{Lasts, PassesOver, SaysInTurn};
 
-use crate::direction::{Direction, ROOM};
-use crate::flow::Flow;
-use crate::proxy::pump;
+use crate::direction::ROOM;
+use crate::machine::Tap;
+use crate::running::run_tap;
 use crate::socket_options::keep_alive;
-use crate::sockets::{Socket, Sockets, ToSocket};
+use crate::sockets::Sides;
 use crate::tap_fault::{CarrierFault, Stage, TapFault};
-use ddcmp_io::{FromRead, Sink, WriteFailed, write_all};
-use ddcmp_log::{LogNotation, Side};
+use crate::tap_log::TapLog;
+use ddcmp_io::{Sink, WriteFailed, write_all};
+use ddcmp_log::LogNotation;
+use ddcmp_ports::Buffers;
 use mio::net::TcpStream;
 use std::alloc::Global;
 use std::io::{self, Eprint, ErrorKind};
 use std::net::{self, Net, OpenListener, SocketAddr, TcpListener, ToSocketAddrs};
 use std::os::fd::AsRawFd;
 use std::time;
-
-/// How a tap logs what passes.
-#[derive(Clone, Copy)]
-pub struct TapLog {
-    pub notation: LogNotation,
-    /// Whether each line has the milliseconds since the connections were made.
-    pub timed: bool,
-    /// The maximum number of bytes of a message.
-    pub max: u16,
-}
 
 /// The heading of a ladder: which side is which.
 const LADDER_HEAD: &[u8] =
@@ -180,25 +172,20 @@ fn carry<S: Net<Stream = net::TcpStream> + Eprint + time::Clock, W: Sink>(
         → writer.new ≡ writer.old }
     ensures broken { (result ≡ Err TapFault.Report) ↔ IsTrue (W.broken writer.new) }
 {
-    let Caller {
-        stream: mut caller,
-        peer,
-    } = caller;
-    let mut called = match connect_to(system, connect) {
+    let Caller { stream, peer } = caller;
+    let called = match connect_to(system, connect) {
         Ok(called) => called,
         Err(error) => {
             let why = carrier_fault(system, Stage::Connect, connect, &error);
             return Err(TapFault::Carrier(why));
         }
     };
-    let mut sockets = match Sockets::new(system, alloc, &mut caller, &mut called) {
-        Ok(sockets) => sockets,
+    let mut sides = match Sides::new(system, alloc, stream, called) {
+        Ok(sides) => sides,
         Err(error) => return Err(no_waiting(&error)),
     };
-    let (caller, called) = (Socket::new(caller), Socket::new(called));
-    let ended = between(alloc, &caller, &called, &mut sockets, log, writer);
-    caller.report(system, "caller", &peer);
-    called.report(system, "called", &connect);
+    let ended = between(alloc, &mut sides, log, writer);
+    sides.report(system, &peer, &connect);
     ended
 }
 
@@ -269,12 +256,10 @@ pub fn tap_again<S: Net<Stream = net::TcpStream> + Eprint + time::Clock, W: Sink
     })
 }
 
-/// Forwards between two sockets.
+/// Forwards between two sides, below the heading of the log.
 fn between<S: Net + time::Clock, W: Sink>(
     alloc: Global,
-    caller: &Socket,
-    called: &Socket,
-    sockets: &mut Sockets<'_, S>,
+    sides: &mut Sides<'_, S>,
     log: TapLog,
     writer: &mut W,
 ) -> Result<(), TapFault>
@@ -286,29 +271,14 @@ fn between<S: Net + time::Clock, W: Sink>(
     ensures met { (why : CarrierFault) → result ≢ Err (TapFault.Carrier why) }
     ensures broken { (result ≡ Err TapFault.Report) ↔ IsTrue (W.broken writer.new) }
 {
-    let TapLog {
-        notation,
-        timed,
-        max,
-    } = log;
-    let Ok(up) = Direction::new(alloc, Side::Caller, notation, max) else {
+    let Ok(mut tap) = Tap::new(alloc, log) else {
         return Err(TapFault::Memory);
     };
-    let Ok(down) = Direction::new(alloc, Side::Called, notation, max) else {
+    let Ok(mut buffers) = Buffers::new(alloc, 0, ROOM) else {
         return Err(TapFault::Memory);
     };
-    let Ok(mut buffer) = Vec::from_elem(alloc, 0u8, ROOM) else {
-        return Err(TapFault::Memory);
-    };
-    if write_head(writer, notation).is_err() {
+    if write_head(writer, log.notation).is_err() {
         return Err(TapFault::Report);
     }
-    pump(
-        &mut Flow::new(up, FromRead::new(caller), ToSocket::new(called)),
-        &mut Flow::new(down, FromRead::new(called), ToSocket::new(caller)),
-        sockets,
-        timed,
-        buffer.as_mut_slice(),
-        writer,
-    )
+    run_tap(&mut buffers, &mut tap, sides, writer)
 }

@@ -1,5 +1,8 @@
 // For how many bytes a direction of a tap has room. What it forwards and logs is tried by
 // `tests/test_tap.py`.
+ghost use Rattle.std.specs.Prelude.{◌≡◌, ◌<◌, false, length};
+
+use ddcmp_io::MemorySink;
 use ddcmp_log::{LogNotation, Side};
 use ddcmp_tap::{Direction, ROOM};
 use std::process::Abort;
@@ -11,11 +14,15 @@ fn direction(rt: &(impl Abort + AllocGlobal)) -> Direction {
     }
 }
 
-/// Has a direction receive and explain bytes.
-fn comes(rt: &(impl Abort + AllocGlobal), direction: &mut Direction, bytes: &[u8]) {
-    assert!(rt; bytes.len() <= direction.room());
-    direction.push(bytes);
-    assert!(rt; direction.explain(None).is_ok());
+/// Has a direction receive and log bytes, of which it takes so many.
+fn comes(rt: &(impl Abort + AllocGlobal), direction: &mut Direction, bytes: &[u8], used: usize)
+    requires some { 0 < length bytes.now }
+    requires going { direction.old.ended ≡ false }
+{
+    let mut text = MemorySink::new(rt.alloc());
+    assert!(rt; direction.room() > 0);
+    let taken = direction.push(&mut text, None, bytes);
+    assert!(rt; taken.is_logged && taken.used == used);
 }
 
 /// Checks for how many bytes a direction has room, and how many are queued.
@@ -33,13 +40,11 @@ fn forwards(rt: &impl Abort, made: &mut Direction, n: usize) {
 #[test]
 fn room_until_all_is_written(rt: HostRuntime) {
     let mut made = direction(&rt);
-    comes(&rt, &mut made, &[0; ROOM]);
+    comes(&rt, &mut made, &[0; ROOM - 1], ROOM - 1);
+    comes(&rt, &mut made, &[0; 2], 1);
     holds(&rt, &made, 0, ROOM);
     forwards(&rt, &mut made, ROOM - 1);
     holds(&rt, &made, 0, 1);
     forwards(&rt, &mut made, 1);
     holds(&rt, &made, ROOM, 0);
-    assert!(&rt; !made.has_ended());
-    made.end();
-    assert!(&rt; made.has_ended());
 }

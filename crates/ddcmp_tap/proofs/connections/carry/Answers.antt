@@ -1,4 +1,4 @@
-use Rattle.ddcmp_tap.specs.Pumping.{head_of}
+use Rattle.ddcmp_tap.specs.Logging.{head_of}
 use Rattle.ddcmp_tap.proofs.HeadLaws.{no-carrier, not-begun}
 use Rattle.ddcmp_tap.proofs.connections.carry.Goals as goal
 
