@@ -9,3 +9,7 @@ Hands output code room after written result =
     (written ≡ length output)
     × (((length output ≤ length room) × (result ≡ code) × (after ≡ output ++ drop written room))
     ⊎ ((length room < length output) × (result ≡ ROOM) × (after ≡ room)))
+
+-- There is no output, and no place of a fault; the room is as it was.
+abbrev pub HandsNothing : List ℕ → List ℕ → ℕ → ℕ → Type 0
+HandsNothing room after written place = (written ≡ 0) × (place ≡ 0) × (after ≡ room)

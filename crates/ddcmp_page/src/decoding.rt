@@ -5,7 +5,7 @@ ghost use Rattle.ddcmp_page.specs.Codes.{code_of_input, place_of_input};
 ghost use Rattle.ddcmp_page.specs.Explained.{IsDecoded, form_by};
 ghost use Rattle.ddcmp_page.specs.Handed.{Hands};
 
-use crate::codes::{MEMORY, OK, input_code};
+use crate::codes::input_code;
 use crate::output::hand;
 use ddcmp_explain::{ExplainFault, Form, InputBytes, InputForm, PIECE};
 use ddcmp_io::failing::Pieces;

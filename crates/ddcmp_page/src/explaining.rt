@@ -1,10 +1,10 @@
 //! `explain`, over memory.
-ghost use Rattle.std.specs.Prelude.{◌≡◌, ◌<◌, ◌≤◌, [], List, ℕ, Result, false};
+ghost use Rattle.std.specs.Prelude.{◌≡◌, ◌⊎◌, ◌<◌, ◌≤◌, [], List, ℕ, Result, false};
 ghost use Rattle.ddcmp_frame.specs.Limits.{MAX_COUNT as MOST};
 ghost use Rattle.ddcmp_explain.specs.declared.explain_fault.ExplainFault.{ExplainFault as Fault};
 ghost use Rattle.ddcmp_page.specs.Codes.{code_of_input, place_of_input};
 ghost use Rattle.ddcmp_page.specs.Explained.{IsExplainedBy, style_of};
-ghost use Rattle.ddcmp_page.specs.Handed.{Hands};
+ghost use Rattle.ddcmp_page.specs.Handed.{Hands, HandsNothing};
 
 use crate::codes::{MAX, input_code};
 use crate::decoding::form_of;
@@ -55,6 +55,8 @@ pub extern "C" fn page_explain(
 ) -> u32
     ensures zero { max ≡ 0 → result ≡ MAX }
     ensures above { MOST < max → result ≡ MAX }
+    ensures nothing { (max ≡ 0) ⊎ (MOST < max)
+        → HandsNothing out.old out.new written.new at.new }
     ensures explains { 0 < max → max ≤ MOST → (by : Result (Unit {0}) Fault) × (output : List ℕ)
         × IsExplainedBy form (style_of json discarded) max input.now output by
         × (at.new ≡ place_of_input by)

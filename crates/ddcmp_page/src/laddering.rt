@@ -1,8 +1,11 @@
 //! `explain --ladder`: two captured directions of one line.
-ghost use Rattle.std.specs.Prelude.{◌≡◌, ◌<◌, ◌≤◌, false};
+ghost use Rattle.std.specs.Prelude.{◌≡◌, ◌⊎◌, ◌<◌, ◌≤◌, IsOk, List, ℕ, Result, false};
 ghost use Rattle.ddcmp_frame.specs.Limits.{MAX_COUNT as MOST};
+ghost use Rattle.ddcmp_explain.specs.declared.explain_fault.ExplainFault.{ExplainFault as Fault};
+ghost use Rattle.ddcmp_page.specs.Codes.{code_of_input, place_of_input};
+ghost use Rattle.ddcmp_page.specs.Handed.{Hands, HandsNothing};
 
-use crate::codes::{MAX, MEMORY, OK, input_code};
+use crate::codes::{MAX, input_code};
 use crate::decoding::form_of;
 use crate::output::hand;
 use ddcmp_explain::ExplainFault;
@@ -32,6 +35,9 @@ fn draw(
 ) -> Result<(), ExplainFault>
     requires max { (0 < reading.max) × (reading.max ≤ MOST) }
     requires whole { kept.old.refused ≡ false }
+    requires first { of.old ≡ 0 }
+    ensures side { of.new ≤ 1 }
+    ensures first { IsOk result → of.new ≡ 0 }
 {
     let Reading {
         form,
@@ -81,6 +87,12 @@ pub extern "C" fn page_ladder(
 ) -> u32
     ensures zero { max ≡ 0 → result ≡ MAX }
     ensures above { MOST < max → result ≡ MAX }
+    ensures nothing { (max ≡ 0) ⊎ (MOST < max)
+        → HandsNothing out.old out.new written.new at.new × (of.new ≡ 0) }
+    ensures draws { 0 < max → max ≤ MOST → (by : Result (Unit {0}) Fault) × (output : List ℕ)
+        × (IsOk by → of.new ≡ 0) × (at.new ≡ place_of_input by)
+        × Hands output (code_of_input by) out.old out.new written.new result }
+    ensures side { of.new ≤ 1 }
 {
     *written = 0;
     *at = 0;

@@ -1,7 +1,9 @@
-// There is a reader for every maximum length of data, and a direction of a tap.
+// There is a reader for every maximum length of data, and a direction of a tap; and buffers of
+// ports have the room that was asked for.
 use ddcmp_explain::{Form, explain};
 use ddcmp_frame::failing::{BoundedSink, Pieces};
 use ddcmp_log::{LogNotation, Side};
+use ddcmp_ports::{Buffers, Chunk, Machine, Opening, Port, System, Transfer};
 use ddcmp_tap::Direction;
 use std::process::Abort;
 
@@ -31,4 +33,62 @@ fn directions_of_every_maximum(rt: HostRuntime) {
         let made = Direction::new(rt.alloc(), Side::Called, LogNotation::Plain, max);
         assert!(&rt; made.is_ok());
     }
+}
+
+/// Ports at which each call moves as many bytes as it can.
+#[derive(Drop)]
+struct Brisk;
+
+impl System for Brisk {
+    ghost use Rattle.std.specs.Prelude.{None, false};
+
+    ghost trace = { λ _ _. None };
+
+    ghost stuck = { λ _ _. record { read = false; write = false; opening = false } };
+
+    ghost moment = { λ _. 0 };
+
+    fn read(&mut self, _port: Port, space: &mut [u8]) -> Transfer {
+        Transfer::Bytes(space.len())
+    }
+
+    fn write(&mut self, _port: Port, bytes: &[u8]) -> Transfer {
+        Transfer::Bytes(bytes.len())
+    }
+
+    fn open(&mut self, _port: Port) -> Opening {
+        Opening::Done(None)
+    }
+
+    fn shut(&mut self, _port: Port) {}
+
+    fn close(&mut self, _port: Port) {}
+
+    fn poll(&mut self) {}
+
+    fn wait<M: Machine>(&mut self, _machine: &M, _held: &Buffers, _most_ms: u64) -> bool {
+        true
+    }
+
+    fn now(&mut self) -> u64 {
+        0
+    }
+}
+
+/// Returns for how many bytes a new buffer has room.
+fn room(rt: &impl Abort, made: &mut Chunk) -> usize {
+    assert!(rt; made.is_empty());
+    made.read(Port::Input, &mut Brisk).count()
+}
+
+#[test]
+fn buffers_of_ports(rt: HostRuntime) {
+    let Ok(mut made) = Buffers::new(rt.alloc(), 300, 70) else {
+        panic!(&rt; "no memory");
+    };
+    assert!(&rt; room(&rt, &mut made.input) == 300);
+    assert!(&rt; room(&rt, &mut made.output) == 1);
+    assert!(&rt; room(&rt, &mut made.errors) == 1);
+    assert!(&rt; room(&rt, &mut made.first) == 70);
+    assert!(&rt; room(&rt, &mut made.second) == 70);
 }
