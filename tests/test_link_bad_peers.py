@@ -41,7 +41,7 @@ def is_told_once(name, link, line):
     assert [it for it in link.errors() if it in (TOO_LONG, DAMAGED)] == [line]
 
 
-@pytest.mark.parametrize("timer, most", [((), 12), (("--timer-ms", "100"), 36)])
+@pytest.mark.parametrize("timer, most", [((), 16), (("--timer-ms", "100"), 36)])
 def test_too_long(timer, most):
     """A message that is too long is refused at once, and then at a pace that slows down, anew after
     a message was acknowledged; it is told once, and the status is 3 though all of the input is

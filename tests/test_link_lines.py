@@ -417,11 +417,12 @@ def test_pace():
         count, span = len(peer.named("DATA")), time.monotonic() - begun
         assert count <= 7 * most_windows(span, timer)
     time.sleep(2)
-    for reason, timer, least, line, link, peer, begun in links:
+    for _reason, timer, least, _line, link, peer, begun in links:
         count, span = len(peer.named("DATA")), time.monotonic() - begun
         assert 7 * least <= count <= 7 * most_windows(span, timer)
         assert link.processor_time() <= 0.6
         peer.answer.takes = True
+    for reason, _timer, _least, line, link, peer, _begun in links:
         must_end(f"NAK {reason}", link, 0, line, seconds=8)
         assert [it for it in link.errors() if "peer" in it] == ([line] if line else [])
         assert peer.mail == [b"a"] * 7
