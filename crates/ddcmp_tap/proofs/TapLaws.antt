@@ -9,7 +9,7 @@ use Rattle.ddcmp_log.specs.Items.{HasTold}
 use Rattle.ddcmp_log.specs.Logged.{items_added, logged_lines}
 use Rattle.ddcmp_ports.specs.declared.port.Down.{Down}
 use Rattle.ddcmp_ports.specs.declared.port.Need.{Need}
-use Rattle.ddcmp_ports.specs.declared.port.Need.TheVariants.{Bytes, Nothing, Opening, Shutting}
+use Rattle.ddcmp_ports.specs.declared.port.Need.TheVariants.{Bytes, Closing, Nothing, Opening, Shutting}
 use Rattle.ddcmp_ports.specs.declared.port.News.TheVariants.{Ended}
 use Rattle.ddcmp_ports.specs.declared.port.Port.{Port}
 use Rattle.ddcmp_ports.specs.declared.port.Port.TheVariants.{Input, Output, Errors, First, Second}
@@ -240,7 +240,7 @@ told-ended t Errors why h k = record {
 
 -- where bytes are needed it hasn't failed
 idle : (fault : Option TapFault) (n : Need)
-    → (if is_some fault then Nothing else n) ≡ Bytes → fault ≡ None
+    → (if is_some fault then Closing else n) ≡ Bytes → fault ≡ None
 idle None n e = refl
 idle (Some f) n e = cc
 
@@ -252,7 +252,7 @@ bytes-second t e = idle t.fault (need_of t.down t.up) e
 
 -- Its lines are open.
 no-opening : {A : Type 0} (b c d : Bool)
-    → (if b then Nothing else if c then Shutting else if d then Bytes else Nothing) ≡ Opening → A
+    → (if b then Closing else if c then Shutting else if d then Bytes else Nothing) ≡ Opening → A
 no-opening true c d e = cc
 no-opening false true d e = cc
 no-opening false false true e = cc

@@ -4,7 +4,7 @@ use Rattle.std.specs.Prelude.{⊤, Option, Some, None, Result, Ok, Err, drop, is
 use Rattle.ddcmp_ports.specs.declared.port.Port.{Port}
 use Rattle.ddcmp_ports.specs.declared.port.Port.TheVariants.{Input, Output, Errors, First, Second}
 use Rattle.ddcmp_ports.specs.declared.port.Need.{Need}
-use Rattle.ddcmp_ports.specs.declared.port.Need.TheVariants.{Nothing}
+use Rattle.ddcmp_ports.specs.declared.port.Need.TheVariants.{Closing, Nothing}
 use Rattle.ddcmp_ports.specs.Running.{Event, Gave, Left, Passage, Passed, Rested, Shut, Stopped, Told}
 use Rattle.ddcmp_ports.specs.Running.{Took, Trace, taken, used, used_whole}
 use Rattle.ddcmp_log.specs.Items.{ItemLogView}
@@ -55,10 +55,10 @@ stamp_of t = if t.log.timed then Some t.moment else None
 abbrev pub asked_of : TapView → TapLog × ℕ
 asked_of t = (t.log, t.written)
 
--- The first line is that of the caller.
+-- The first line is that of the caller. A tap that failed needs neither any more.
 abbrev pub needs_of : TapView → Port → Need
-needs_of t First = if is_some t.fault then Nothing else need_of t.up t.down
-needs_of t Second = if is_some t.fault then Nothing else need_of t.down t.up
+needs_of t First = if is_some t.fault then Closing else need_of t.up t.down
+needs_of t Second = if is_some t.fault then Closing else need_of t.down t.up
 needs_of t Input = Nothing
 needs_of t Output = Nothing
 needs_of t Errors = Nothing

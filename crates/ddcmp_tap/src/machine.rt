@@ -197,12 +197,10 @@ impl Machine for Tap {
     type Outcome = TapPause;
 
     fn needs(&self, port: Port) -> Need {
-        if self.fault.is_some() {
-            return Need::Nothing;
-        }
         match port {
-            Port::First => self.up.need(&self.down),
-            Port::Second => self.down.need(&self.up),
+            Port::First if self.fault.is_none() => self.up.need(&self.down),
+            Port::Second if self.fault.is_none() => self.down.need(&self.up),
+            Port::First | Port::Second => Need::Closing,
             Port::Input | Port::Output | Port::Errors => Need::Nothing,
         }
     }
