@@ -18,7 +18,7 @@ use Rattle.ddcmp_ports.specs.Running.{Shut, Stopped, Told, Took, Trace}
 use Rattle.ddcmp_tap.specs.Logging.{AreStamped, Piece, Says, WritesText, said, tap_text}
 use Rattle.ddcmp_tap.specs.Tapping.{IsRest, PassesBetween, TapView, Taps, asked_of, end_of, last_lines}
 use Rattle.ddcmp_tap.specs.Tapping.{log_of, moment_of, outcome_of, piece_of, pieces_of, stamp_of}
-use Rattle.ddcmp_tap.specs.Tapping.{EndsItself, IsOwn}
+use Rattle.ddcmp_tap.specs.Tapping.{EndsItself, HasEnded, IsOwn}
 use Rattle.ddcmp_tap.specs.declared.machine.TapPause.{TapPause}
 use Rattle.ddcmp_tap.specs.declared.machine.TapPause.TheVariants.{Ended, Logging}
 use Rattle.ddcmp_tap.specs.declared.tap_fault.CarrierFault.{CarrierFault}
@@ -143,6 +143,8 @@ logged log t t' held trace old mid new pauses wrote is k =
             moment = k.taps.moment;
             caller = k.taps.caller;
             called = k.taps.called;
+            caller_ended = k.taps.caller_ended;
+            called_ended = k.taps.called_ended;
             up = k.taps.up;
             down = k.taps.down;
             written = omega arith;
@@ -214,6 +216,8 @@ passes t h held trace result k agrees over one two first second =
             down.0,
             one-agrees.whole ∙ k.up.at_end up.1 ∙ sym k.caller,
             two-agrees.whole ∙ k.down.at_end down.1 ∙ sym k.called,
+            subst HasEnded (sym one-agrees.said) (k.caller_ended up.1),
+            subst HasEnded (sym two-agrees.said) (k.called_ended down.1),
           );
     }
 

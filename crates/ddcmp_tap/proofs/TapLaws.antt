@@ -23,6 +23,9 @@ use Rattle.ddcmp_tap.specs.declared.tap_fault.TapFault.TheVariants.{Memory}
 use Rattle.ddcmp_tap.proofs.PieceLaws.{lines-as, said-called, said-caller, said-more, said-none}
 use Rattle.ddcmp_tap.proofs.PieceLaws.{text-more, text-none}
 
+pub true-false : {A : Type 0} (b : Bool) → b ≡ false → b ≡ true → A
+true-false b f t = let bad : ◌≡◌ {A = Bool} true false = sym t ∙ f in cc
+
 -- A direction takes bytes.
 abbrev pub Takes : DirectionView → DirectionView → List ℕ → Type 0
 Takes old new bytes = (came gone whole : List ℕ) → Forwards old came gone whole
@@ -64,13 +67,13 @@ none-rest fault rest text none is = subst (λ f. IsRest f rest text) (sym none) 
 
 pub gave-first : (t : TapView) (up : DirectionView) (text bytes : List ℕ) (h : List Event)
     → t.fault ≡ None → IsOf Caller t.log.notation t.log.max t.up.log
-    → Takes t.up up bytes
+    → Takes t.up up bytes → up.ended ≡ false
     → (stamp : Option ℕ) → stamp ≡ stamp_of t
     → ((came : List ℕ) → HasTold t.up.log.frames t.up.log.items came
     → text ≡ t.text ++ logged_lines t.up.log.notation stamp t.up.log.side
     (items_added t.up.log.frames.max came bytes))
     → Taps t h → Taps (record t { up = up; text = text }) (Gave First bytes ∷ h)
-gave-first t up text bytes h none is takes stamp stamped lines k =
+gave-first t up text bytes h none is takes going stamp stamped lines k =
     let p = piece_of Caller t.log.timed (moment_of h) bytes in
     let is-moment = stamped ∙ ap (λ m. if t.log.timed then Some m else None) k.moment in
     record {
@@ -79,6 +82,8 @@ gave-first t up text bytes h none is takes stamp stamped lines k =
       called = said-called p.stamp bytes (pieces_of t.log.timed h) ∙ k.called;
       up = takes (used First h) (taken Second h) (used_whole First h) k.up;
       down = k.down;
+      caller_ended = λ e. true-false up.ended going e;
+      called_ended = k.called_ended;
       written = longer t h p k.written;
       rest = none-rest t.fault _ text none
           (lines (used First h) k.up.logged
@@ -93,13 +98,13 @@ gave-first t up text bytes h none is takes stamp stamped lines k =
 
 pub gave-second : (t : TapView) (down : DirectionView) (text bytes : List ℕ) (h : List Event)
     → t.fault ≡ None → IsOf Called t.log.notation t.log.max t.down.log
-    → Takes t.down down bytes
+    → Takes t.down down bytes → down.ended ≡ false
     → (stamp : Option ℕ) → stamp ≡ stamp_of t
     → ((came : List ℕ) → HasTold t.down.log.frames t.down.log.items came
     → text ≡ t.text ++ logged_lines t.down.log.notation stamp t.down.log.side
     (items_added t.down.log.frames.max came bytes))
     → Taps t h → Taps (record t { down = down; text = text }) (Gave Second bytes ∷ h)
-gave-second t down text bytes h none is takes stamp stamped lines k =
+gave-second t down text bytes h none is takes going stamp stamped lines k =
     let p = piece_of Called t.log.timed (moment_of h) bytes in
     let is-moment = stamped ∙ ap (λ m. if t.log.timed then Some m else None) k.moment in
     record {
@@ -108,6 +113,8 @@ gave-second t down text bytes h none is takes stamp stamped lines k =
       called = said-more Called p.stamp bytes (pieces_of t.log.timed h) ∙ ap (λ x. x ++ bytes) k.called;
       up = k.up;
       down = takes (used Second h) (taken First h) (used_whole Second h) k.down;
+      caller_ended = k.caller_ended;
+      called_ended = λ e. true-false down.ended going e;
       written = longer t h p k.written;
       rest = none-rest t.fault _ text none
           (lines (used Second h) k.down.logged
@@ -122,9 +129,9 @@ gave-second t down text bytes h none is takes stamp stamped lines k =
 
 -- an allocation failed
 pub lost-first : (t : TapView) (up : DirectionView) (text bytes : List ℕ) (h : List Event)
-    → text ≡ [] → Takes t.up up bytes → Taps t h
+    → text ≡ [] → Takes t.up up bytes → up.ended ≡ false → Taps t h
     → Taps (record t { up = up; text = text; fault = Some Memory }) (Gave First bytes ∷ h)
-lost-first t up text bytes h none takes k =
+lost-first t up text bytes h none takes going k =
     let p = piece_of Caller t.log.timed (moment_of h) bytes in
     record {
       moment = k.moment;
@@ -132,14 +139,16 @@ lost-first t up text bytes h none takes k =
       called = said-called p.stamp bytes (pieces_of t.log.timed h) ∙ k.called;
       up = takes (used First h) (taken Second h) (used_whole First h) k.up;
       down = k.down;
+      caller_ended = λ e. true-false up.ended going e;
+      called_ended = k.called_ended;
       written = longer t h p k.written;
       rest = none;
     }
 
 pub lost-second : (t : TapView) (down : DirectionView) (text bytes : List ℕ) (h : List Event)
-    → text ≡ [] → Takes t.down down bytes → Taps t h
+    → text ≡ [] → Takes t.down down bytes → down.ended ≡ false → Taps t h
     → Taps (record t { down = down; text = text; fault = Some Memory }) (Gave Second bytes ∷ h)
-lost-second t down text bytes h none takes k =
+lost-second t down text bytes h none takes going k =
     let p = piece_of Called t.log.timed (moment_of h) bytes in
     record {
       moment = k.moment;
@@ -147,6 +156,8 @@ lost-second t down text bytes h none takes k =
       called = said-more Called p.stamp bytes (pieces_of t.log.timed h) ∙ ap (λ x. x ++ bytes) k.called;
       up = k.up;
       down = takes (used Second h) (taken First h) (used_whole Second h) k.down;
+      caller_ended = k.caller_ended;
+      called_ended = λ e. true-false down.ended going e;
       written = longer t h p k.written;
       rest = none;
     }
@@ -154,13 +165,15 @@ lost-second t down text bytes h none takes k =
 pub took-first : (t : TapView) (down : DirectionView) (bytes : List ℕ) (h : List Event)
     → ((came gone whole : List ℕ) → Forwards t.down came gone whole
     → Forwards down came (gone ++ bytes) whole)
-    → Taps t h → Taps (record t { down = down }) (Took First bytes ∷ h)
-took-first t down bytes h took k = record {
+    → down.ended ≡ t.down.ended → Taps t h → Taps (record t { down = down }) (Took First bytes ∷ h)
+took-first t down bytes h took same k = record {
   moment = k.moment;
   caller = k.caller;
   called = k.called;
   up = k.up;
   down = took (used Second h) (taken First h) (used_whole Second h) k.down;
+  caller_ended = k.caller_ended;
+  called_ended = λ e. k.called_ended (sym same ∙ e);
   written = k.written;
   rest = k.rest;
 }
@@ -168,13 +181,15 @@ took-first t down bytes h took k = record {
 pub took-second : (t : TapView) (up : DirectionView) (bytes : List ℕ) (h : List Event)
     → ((came gone whole : List ℕ) → Forwards t.up came gone whole
     → Forwards up came (gone ++ bytes) whole)
-    → Taps t h → Taps (record t { up = up }) (Took Second bytes ∷ h)
-took-second t up bytes h took k = record {
+    → up.ended ≡ t.up.ended → Taps t h → Taps (record t { up = up }) (Took Second bytes ∷ h)
+took-second t up bytes h took same k = record {
   moment = k.moment;
   caller = k.caller;
   called = k.called;
   up = took (used First h) (taken Second h) (used_whole First h) k.up;
   down = k.down;
+  caller_ended = λ e. k.caller_ended (sym same ∙ e);
+  called_ended = k.called_ended;
   written = k.written;
   rest = k.rest;
 }
@@ -193,6 +208,8 @@ told-ended t First why h k = record {
     over = k.up.over;
   };
   down = k.down;
+  caller_ended = λ e. tt;
+  called_ended = k.called_ended;
   written = k.written;
   rest = k.rest;
 }
@@ -207,6 +224,8 @@ told-ended t Second why h k = record {
     at_end = λ ended. refl;
     over = k.down.over;
   };
+  caller_ended = k.caller_ended;
+  called_ended = λ e. tt;
   written = k.written;
   rest = k.rest;
 }
@@ -216,6 +235,8 @@ told-ended t Input why h k = record {
   called = k.called;
   up = k.up;
   down = k.down;
+  caller_ended = k.caller_ended;
+  called_ended = k.called_ended;
   written = k.written;
   rest = k.rest;
 }
@@ -225,6 +246,8 @@ told-ended t Output why h k = record {
   called = k.called;
   up = k.up;
   down = k.down;
+  caller_ended = k.caller_ended;
+  called_ended = k.called_ended;
   written = k.written;
   rest = k.rest;
 }
@@ -234,6 +257,8 @@ told-ended t Errors why h k = record {
   called = k.called;
   up = k.up;
   down = k.down;
+  caller_ended = k.caller_ended;
+  called_ended = k.called_ended;
   written = k.written;
   rest = k.rest;
 }

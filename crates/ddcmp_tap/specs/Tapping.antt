@@ -1,12 +1,14 @@
 -- A tap as a machine: what it needs and has pending, its history, and what passes through it.
 use Rattle.std.specs.Prelude.{◌≡◌, ◌≤◌, ℕ, Bool, if◌then◌else◌, ◌&&◌, ◌==◌, List, [], ◌∷◌, ◌++◌}
-use Rattle.std.specs.Prelude.{⊤, Option, Some, None, Result, Ok, Err, drop, is_some, length}
+use Rattle.std.specs.Prelude.{⊤, true, Option, Some, None, Result, Ok, Err, drop, is_some, length}
 use Rattle.ddcmp_ports.specs.declared.port.Port.{Port}
 use Rattle.ddcmp_ports.specs.declared.port.Port.TheVariants.{Input, Output, Errors, First, Second}
 use Rattle.ddcmp_ports.specs.declared.port.Need.{Need}
 use Rattle.ddcmp_ports.specs.declared.port.Need.TheVariants.{Closing, Nothing}
 use Rattle.ddcmp_ports.specs.Running.{Event, Gave, Left, Passage, Passed, Rested, Shut, Stopped, Told}
-use Rattle.ddcmp_ports.specs.Running.{Took, Trace, taken, used, used_whole}
+use Rattle.ddcmp_ports.specs.Running.{Took, Trace, taken, told, used, used_whole}
+use Rattle.ddcmp_ports.specs.declared.port.News.{News}
+use Rattle.ddcmp_ports.specs.declared.port.News.TheVariants as news
 use Rattle.ddcmp_log.specs.Items.{ItemLogView}
 use Rattle.ddcmp_log.specs.Logged.{logged_last}
 use Rattle.ddcmp_log.specs.declared.side.Side.{Side}
@@ -134,6 +136,15 @@ IsRest (Some fault.Read) rest text = text ≡ rest
 IsRest (Some fault.Write) rest text = text ≡ rest
 IsRest None rest text = text ≡ rest
 
+-- its end was reported
+abbrev pub HasEnded : List News → Type 0
+HasEnded [] = ⊥
+HasEnded (news.Opened peer ∷ before) = HasEnded before
+HasEnded (news.Reported event ∷ before) = HasEnded before
+HasEnded (news.Refused why ∷ before) = HasEnded before
+HasEnded (news.Ended why ∷ before) = ⊤
+HasEnded (news.Broken why ∷ before) = HasEnded before
+
 -- This may be the history of a tap, latest event first.
 pub record Taps (t : TapView) (h : List Event) : Type 0 where
   pub moment : t.moment ≡ moment_of h
@@ -141,6 +152,8 @@ pub record Taps (t : TapView) (h : List Event) : Type 0 where
   pub called : said Called (pieces_of t.log.timed h) ≡ used Second h
   pub up : Forwards t.up (used First h) (taken Second h) (used_whole First h)
   pub down : Forwards t.down (used Second h) (taken First h) (used_whole Second h)
+  pub caller_ended : t.up.ended ≡ true → HasEnded (told First h)
+  pub called_ended : t.down.ended ≡ true → HasEnded (told Second h)
   pub written : t.written ≤ length (log_of t.log h)
   pub rest : IsRest t.fault (drop t.written (log_of t.log h)) t.text
 
@@ -160,3 +173,4 @@ pub record PassesBetween (pieces : List Piece) (result : Result (Unit {0}) TapFa
   pub gone_back : said Called pieces ≡ one.gone ++ waiting_back
   pub done : result ≡ Ok tt → (waiting ≡ []) × (waiting_back ≡ [])
       × (one.whole ≡ said Caller pieces) × (two.whole ≡ said Called pieces)
+      × HasEnded one.said × HasEnded two.said

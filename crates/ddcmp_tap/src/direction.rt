@@ -75,6 +75,7 @@ impl Direction {
         requires high { max ≤ MAX_COUNT }
         ensures forwards { IfOk result (λ made. Forwards made [] [] []) }
         ensures log { IfOk result (λ made. IsOf side notation max made.log) }
+        ensures open { IfOk result (λ made. (made.ended ≡ false) × (made.over ≡ false)) }
     {
         let Ok(waiting) = ByteQueue::new(alloc, ROOM) else {
             return Err(NoMemory);
@@ -139,6 +140,7 @@ impl Direction {
         requires whole { text.old.refused ≡ false }
         ensures some { 0 < result.used }
         ensures fits { result.used ≤ length bytes.now }
+        ensures going { self.new.ended ≡ false }
         ensures forwards { (came gone whole : List ℕ) → Forwards self.old came gone whole
             → Forwards self.new (came ++ take result.used bytes.now) gone whole }
         ensures log { (side : Side) (notation : LogNotation) (max : ℕ)
@@ -172,6 +174,7 @@ impl Direction {
         ensures waiting { self.new.waiting ≡ drop n self.old.waiting }
         ensures room { self.old.room ≤ self.new.room }
         ensures log { self.new.log ≡ self.old.log }
+        ensures ended { self.new.ended ≡ self.old.ended }
     {
         self.waiting.took(n);
     }

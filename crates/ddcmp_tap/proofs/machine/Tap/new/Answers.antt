@@ -1,5 +1,6 @@
 use Rattle.std.proofs.Common.{◌≡◌, ◌∙◌, arith, refl, sym}
 use Rattle.ddcmp_log.specs.declared.side.Side.TheVariants.{Caller, Called}
+use Rattle.ddcmp_tap.proofs.TapLaws.{true-false}
 use Rattle.ddcmp_tap.proofs.PieceLaws.{said-none, text-none}
 use Rattle.ddcmp_tap.proofs.machine.Tap.new.Goals as goal
 
@@ -10,6 +11,8 @@ returns-clause-taps c = record {
   called = said-none Called;
   up = c.in_ok-new.ensures.forwards;
   down = c.in_ok-new-2.ensures.forwards;
+  caller_ended = λ e. true-false _ c.in_ok-new.ensures.open.0 e;
+  called_ended = λ e. true-false _ c.in_ok-new-2.ensures.open.0 e;
   written = omega arith;
   rest = c.new-3.ensures.empty ∙ sym (text-none c.args.log.notation c.args.log.max);
 }

@@ -11,6 +11,8 @@ returns-then-is_counted_out-clause-has c = rw (sym c.self.view_is) (record {
         called = k.called;
         up = k.up;
         down = k.down;
+        caller_ended = k.caller_ended;
+        called_ended = k.called_ended;
         written = k.written;
         rest = k.rest;
       });
