@@ -6,7 +6,7 @@ use Rattle.ddcmp_input.specs.declared.entry.Entry.TheVariants.{Message}
 use Rattle.ddcmp_input.specs.Told.{Told, Got, Refused}
 use Rattle.ddcmp_station.specs.Linking.{LinkView, after_frame}
 use Rattle.ddcmp_streams.specs.declared.messages.MessageForm.{MessageForm}
-use Rattle.ddcmp_streams.specs.declared.messages.MessageForm.TheVariants.{Digits, Binary}
+use Rattle.ddcmp_streams.specs.declared.messages.MessageForm.TheVariants.{Digits, Binary, Events}
 use Rattle.ddcmp_streams.specs.Messages.{message_in, after_input, entries_of_input, after_last}
 use Rattle.ddcmp_streams.specs.Messages.{entry_of_last}
 use Rattle.ddcmp_session.specs.Session.{SessionView, takes_end}
@@ -38,6 +38,7 @@ abbrev pub messages_of : MessageForm → ℕ → List ℕ → List (List ℕ)
 messages_of Digits max input =
     got_in (map (λ (told : ℕ × Told). told.1) (lines.told_in input (hex.begun max)))
 messages_of Binary max input = got_in (binary.told_in input (lengths.begun max))
+messages_of Events max input = got_in (binary.told_in input (lengths.begun max))
 
 abbrev pub mail_of : Shown → List (List ℕ)
 mail_of (Mail message) = message ∷ []
