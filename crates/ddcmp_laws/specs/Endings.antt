@@ -1,5 +1,5 @@
 -- Runs over devices to their end: all received messages are delivered and written to the output.
-use Rattle.std.specs.Prelude.{◌≡◌, ◌⊎◌, ℕ, Bool, true, false, List, [], ◌++◌, map, Some}
+use Rattle.std.specs.Prelude.{◌≡◌, ◌≢◌, ◌⊎◌, ℕ, Bool, true, false, List, [], ◌++◌, map, Some}
 use Rattle.std.specs.List.{All}
 use Rattle.ddcmp_input.specs.InBinary.{in_binary, Fits}
 use Rattle.ddcmp_streams.specs.declared.messages.MessageForm.{MessageForm}

@@ -72,7 +72,8 @@ impl Messages {
     {
         match self {
             Messages::Digits(lines) => lines.push_all(bytes),
-            Messages::Binary(lengths) | Messages::Events(lengths) => lengths.push_all(bytes),
+            Messages::Binary(lengths) => lengths.push_all(bytes),
+            Messages::Events(lengths) => lengths.push_all(bytes),
         }
     }
 
