@@ -5,7 +5,7 @@ use Rattle.hex.specs.Hex.{encode_lower}
 use Rattle.ddcmp_core.specs.declared.notice.Notice.{Notice}
 use Rattle.ddcmp_core.specs.declared.notice.Notice.TheVariants as notice
 use Rattle.ddcmp_input.specs.InBinary.{behind_length}
-use Rattle.ddcmp_station.specs.StationText.{notice_line, notice_word, number_text}
+use Rattle.ddcmp_station.specs.StationText.{notice_line, notice_number, notice_word, number_text}
 use Rattle.ddcmp_streams.specs.declared.messages.MessageForm.{MessageForm}
 use Rattle.ddcmp_streams.specs.declared.messages.MessageForm.TheVariants.{Digits, Binary, Events}
 use Rattle.ddcmp_io.specs.Queue.{QueueView, after_pushed}
