@@ -148,6 +148,7 @@ const EVENT_TEXT: usize = NOTICE_ROOM - 1;
 fn write_event(out: &mut ByteQueue, text: &[u8], name: &[u8], number: Option<u8>)
     requires { length text.now + length name.now ≤ EVENT_TEXT }
     ensures puts { Puts (event_text (text.now ++ name.now ++ number_text number)) out.old out.new }
+    ensures short { length (number_text number) ≤ 3 }
 {
     let mut buffer = Buffer::new();
     let digits = match number {
