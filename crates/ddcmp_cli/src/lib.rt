@@ -23,7 +23,7 @@ pub use ddcmp_explain::{
     ExplainFault, Form, InputForm, NotDumped, Notation, Style, explain, explain_fault,
     explain_with, explanation, form, notation, style,
 };
-pub use ddcmp_link::{LinkFailure, LinkOutcome, Options};
+pub use ddcmp_link::{LinkFailure, LinkLine, LinkOutcome, Options};
 pub use ddcmp_net::{SERVED_MAX, ServeFault, serve, serve_fault, server};
 pub use ddcmp_ports::LineName;
 pub use ddcmp_tap::{TapFault, tap_fault};

@@ -9,7 +9,7 @@ use ddcmp_commands::usage::{no_line, usage};
 use ddcmp_commands::{Ending, Fault};
 use ddcmp_device::{BridgeFault, bridge_lines};
 use ddcmp_io::{LineKind, Sink, Source};
-use ddcmp_link::{LinkFailure, LinkOutcome, Options, link_line};
+use ddcmp_link::{LinkFailure, LinkLine, LinkOutcome, Options, link_line};
 use ddcmp_ports::LineName;
 use ddcmp_proto::Config;
 use std::alloc::Global;
@@ -79,19 +79,18 @@ pub trait LineSystem {
     ghost lines: { Self → LinesKnown };
 
     /// Opens a line and runs a link over it, between standard input and output, which `reader` and
-    /// `writer` read and write. Of callers it accepts those of the host `only`, or all.
+    /// `writer` read and write.
     fn link<'a, R: Source, W: Sink>(
         &self,
         alloc: Global,
-        line: LineName<'a>,
-        only: Option<&'a str>,
+        line: LinkLine<'a>,
         options: Options,
         reader: &mut R,
         writer: &mut W,
     ) -> Result<LinkOutcome, LinkFailure<'a>>
         ensures broken { (result ≡ Err Write) ↔ IsTrue (W.broken writer.new) }
         ensures known { (ended : Result OutcomeValue FaultValue)
-            → (lines self.now).links (word_of line.entry) (text_of only.entry) options ≡ Some ended
+            → (lines self.now).links (word_of line.entry.name) (text_of line.entry.only) options ≡ Some ended
             → result ≡ ended };
 
     /// Opens two lines and passes frames on between them.
@@ -115,13 +114,12 @@ impl LineSystem for HostRuntime {
     fn link<'a, R: Source, W: Sink>(
         &self,
         alloc: Global,
-        line: LineName<'a>,
-        only: Option<&'a str>,
+        line: LinkLine<'a>,
         options: Options,
         reader: &mut R,
         writer: &mut W,
     ) -> Result<LinkOutcome, LinkFailure<'a>> {
-        link_line(self, alloc, line, only, options, reader, writer)
+        link_line(self, alloc, line, options, reader, writer)
     }
 
     fn bridge<'a>(
@@ -165,19 +163,23 @@ pub(crate) fn link<S: LineSystem, R: Source, W: Sink>(
     ensures links { Links (S.lines system.now) args.now result }
     ensures write { (result ≡ Ending.Fault Fault.Write) ↔ IsTrue (W.broken writer.new) }
 {
-    let Some(line) = LineName::read(args.line) else {
+    let Some(name) = LineName::read(args.line) else {
         return usage(alloc, NO_LINE);
     };
-    if has_no_callers(line, args.only) {
+    if has_no_callers(name, args.only) {
         return usage(alloc, NO_CALLERS);
     }
-    if has_no_speed(line, &args.options) {
+    if has_no_speed(name, &args.options) {
         return usage(alloc, NO_DEVICE);
     }
     if means_nothing(args) {
         return usage(alloc, NOT_IN_MAINTENANCE);
     }
-    let ended = system.link(alloc, line, args.only, args.options, reader, writer);
+    let line = LinkLine {
+        name,
+        only: args.only,
+    };
+    let ended = system.link(alloc, line, args.options, reader, writer);
     ending_of(alloc, ended)
 }
 

@@ -17,7 +17,7 @@ use ddcmp_io::{Sink, Source, Worst};
 use ddcmp_line::{Carrier, Direct, ScriptFault, script_with};
 use ddcmp_net::Sockets;
 use ddcmp_pair::{End, Event, Memory, Pair};
-use ddcmp_picture::{Picture, draw};
+use ddcmp_picture::{DrawOptions, Picture, draw};
 use std::alloc::Global;
 use std::net::{Net, TcpStream};
 
@@ -31,6 +31,15 @@ pub enum Way {
     Simulated,
     /// Over a TCP connection, as in `pair`.
     Paired,
+}
+
+/// A script run that is requested.
+#[derive(Clone, Copy)]
+struct ScriptRun {
+    way: Way,
+    from: Beginning,
+    picture: Option<Picture>,
+    counted: bool,
 }
 
 /// Returns the picture that is requested, if any, or the usage error for two.
@@ -84,8 +93,7 @@ fn ended(played: Result<(), ScriptFault>) -> Ending
 /// Runs a script over a carrier, and writes its text or a picture.
 fn play<R: Source, W: Sink, C: Carrier>(
     alloc: Global,
-    args: &ScriptArgs<'_>,
-    picture: Option<Picture>,
+    run: ScriptRun,
     carrier: &mut C,
     reader: &mut R,
     writer: &mut W,
@@ -94,22 +102,23 @@ fn play<R: Source, W: Sink, C: Carrier>(
     requires whole { W.broken writer.old ≡ false }
     requires carrier { C.broken carrier.old ≡ false }
     requires silent { (c : C) → C.told c ≡ None }
-    requires sizes { first_refusal args.now.from.config ≡ None }
+    requires sizes { first_refusal run.from.config ≡ None }
     ensures runs { (input : List ℕ) → R.left reader.old ≡ Some input
-        → RunsBetween (C.direct carrier.old) args.now.from args.now.view.counters (is_some picture)
+        → RunsBetween (C.direct carrier.old) run.from run.counted (is_some run.picture)
         (streams input (R.left reader.new) (W.contents writer.old) (W.contents writer.new)) result }
     ensures devices { TellsDevices (source_change (R.left reader.old) (R.left reader.new)
         (R.state reader.new)) (W.broken writer.new) result }
     ensures carried { result ≡ Ending.Fault Fault.Carrier → IsTrue (C.broken carrier.new) }
 {
-    let counted = args.view.counters;
-    let Some(mut pair) = pair_of(alloc, args.from) else {
+    let counted = run.counted;
+    let Some(mut pair) = pair_of(alloc, run.from) else {
         return Ending::Fault(Fault::Memory);
     };
-    match picture {
+    match run.picture {
         None => ended(script_with(alloc, &mut pair, reader, writer, carrier, counted)),
         Some(picture) => {
-            ended(draw(alloc, &mut pair, reader, writer, carrier, picture, counted))
+            let options = DrawOptions { picture, counted };
+            ended(draw(alloc, &mut pair, reader, writer, carrier, options))
         }
     }
 }
@@ -118,25 +127,23 @@ fn play<R: Source, W: Sink, C: Carrier>(
 fn play_by<N: Net<Stream = TcpStream>, R: Source, W: Sink>(
     net: &N,
     alloc: Global,
-    way: Way,
-    args: &ScriptArgs<'_>,
-    picture: Option<Picture>,
+    run: ScriptRun,
     reader: &mut R,
     writer: &mut W,
 ) -> Ending
     requires fine { R.state reader.old ≡ Worst.Fine }
     requires whole { W.broken writer.old ≡ false }
-    requires sizes { first_refusal args.now.from.config ≡ None }
+    requires sizes { first_refusal run.from.config ≡ None }
     ensures runs { (input : List ℕ) → R.left reader.old ≡ Some input
-        → RunsBy way args.now.from args.now.view.counters (is_some picture) (streams input
+        → RunsBy run.way run.from run.counted (is_some run.picture) (streams input
         (R.left reader.new) (W.contents writer.old) (W.contents writer.new)) result }
     ensures devices { TellsDevices (source_change (R.left reader.old) (R.left reader.new)
         (R.state reader.new)) (W.broken writer.new) result }
 {
-    match way {
-        Way::Simulated => play(alloc, args, picture, &mut Direct, reader, writer),
+    match run.way {
+        Way::Simulated => play(alloc, run, &mut Direct, reader, writer),
         Way::Paired => match Sockets::new(net) {
-            Ok(mut sockets) => play(alloc, args, picture, &mut sockets, reader, writer),
+            Ok(mut sockets) => play(alloc, run, &mut sockets, reader, writer),
             Err(_unmade) => Ending::Fault(Fault::Carrier),
         },
     }
@@ -169,11 +176,17 @@ pub fn script_asked<S: Net<Stream = TcpStream> + Inputs, R: Source, W: Sink>(
         Ok(picture) => picture,
         Err(refused) => return refused,
     };
+    let run = ScriptRun {
+        way,
+        from: args.from,
+        picture,
+        counted: args.view.counters,
+    };
     let Some(name) = args.file else {
-        return play_by(system, alloc, way, args, picture, reader, writer);
+        return play_by(system, alloc, run, reader, writer);
     };
     match system.open(name) {
-        Ok(mut opened) => play_by(system, alloc, way, args, picture, &mut opened, writer),
+        Ok(mut opened) => play_by(system, alloc, run, &mut opened, writer),
         Err(why) => unopened(alloc, name, why),
     }
 }

@@ -15,7 +15,7 @@ use Rattle.ddcmp_tap.specs.declared.tap_fault.TapFault.TheVariants as tapping
 use Rattle.ddcmp_tap.specs.declared.tap_fault.Stage.{Stage}
 use Rattle.ddcmp_tap.specs.declared.tap_fault.Stage.TheVariants as stage
 use Rattle.ddcmp_tap.specs.InTurn.{Lasts, SaysInTurn}
-use Rattle.ddcmp_tap.specs.Pumping.{Says, head_of}
+use Rattle.ddcmp_tap.specs.Logging.{Says, head_of}
 use Rattle.ddcmp_ports.specs.declared.fault.Attempt.{Attempt}
 use Rattle.ddcmp_ports.specs.declared.fault.Attempt.TheVariants as attempt
 use Rattle.ddcmp_ports.specs.declared.fault.Cause.{Cause}

@@ -14,7 +14,7 @@ use ddcmp_explain::Notation;
 use ddcmp_io::Sink;
 use ddcmp_log::LogNotation;
 use ddcmp_ports::{Attempt, Cause, OpenFault};
-use ddcmp_tap::{CarrierFault, Stage, TapFault, tap_again};
+use ddcmp_tap::{CarrierFault, Stage, TapFault, TapLog, tap_again};
 use std::alloc::Global;
 use std::io::Eprint;
 use std::net::{Net, TcpStream};
@@ -76,6 +76,19 @@ fn notation_of(args: &TapArgs<'_>) -> LogNotation
     }
 }
 
+/// Returns how the traffic is logged.
+fn log_of(args: &TapArgs<'_>) -> TapLog
+    ensures notation { result.notation ≡ notation args.now }
+    ensures timed { result.timed ≡ args.now.time }
+    ensures max { result.max ≡ args.now.max }
+{
+    TapLog {
+        notation: notation_of(args),
+        timed: args.time,
+        max: args.max,
+    }
+}
+
 /// Opens both connections, and forwards between them until both sides have ended.
 fn tap_between<S: Net<Stream = TcpStream> + Eprint + time::Clock, W: Sink>(
     system: &S,
@@ -89,16 +102,8 @@ fn tap_between<S: Net<Stream = TcpStream> + Eprint + time::Clock, W: Sink>(
     ensures taps { Taps args.now (W.contents writer.old) (W.contents writer.new) result }
     ensures written { IsTrue (W.broken writer.new) → result ≡ Ending.Fault Fault.Write }
 {
-    match ddcmp_tap::tap(
-        system,
-        alloc,
-        args.listen,
-        args.connect,
-        notation_of(args),
-        args.time,
-        args.max,
-        writer,
-    ) {
+    let log = log_of(args);
+    match ddcmp_tap::tap(system, alloc, args.listen, args.connect, log, writer) {
         Ok(()) => Ending::Done,
         Err(fault) => ending_of_fault(alloc, args, fault),
     }
@@ -117,15 +122,8 @@ fn tap_in_turn<S: Net<Stream = TcpStream> + Eprint + time::Clock, W: Sink>(
     ensures taps { TapsInTurn args.now (W.contents writer.old) (W.contents writer.new) result }
     ensures written { IsTrue (W.broken writer.new) → result ≡ Ending.Fault Fault.Write }
 {
-    let TapArgs {
-        listen,
-        connect,
-        time,
-        max,
-        ..
-    } = *args;
-    let notation = notation_of(args);
-    let fault = tap_again(system, alloc, listen, connect, notation, time, max, writer);
+    let log = log_of(args);
+    let fault = tap_again(system, alloc, args.listen, args.connect, log, writer);
     ending_of_fault(alloc, args, fault)
 }
 

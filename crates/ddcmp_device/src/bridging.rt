@@ -22,6 +22,13 @@ pub enum BridgeFault<'a> {
     Memory,
 }
 
+/// A line by its name, and the file that what comes over it is saved in, if there is one.
+#[derive(Drop)]
+struct SavedLine<'a> {
+    name: LineName<'a>,
+    save: Option<Save>,
+}
+
 /// Passes the good frames received over each line on to the other, with the faults that are set,
 /// until a line ends, and isn't opened again, or the time is over.
 pub fn bridge_lines<'a, S: System>(
@@ -31,23 +38,18 @@ pub fn bridge_lines<'a, S: System>(
     second: LineName<'a>,
     options: BridgeOptions<'a>,
 ) -> Result<BridgeEnd, BridgeFault<'a>> {
-    let save_first = save_in(system, options.save_first)?;
-    let save_second = match save_in(system, options.save_second) {
-        Ok(save) => save,
+    let first = SavedLine {
+        name: first,
+        save: save_in(system, options.save_first)?,
+    };
+    let second = match save_in(system, options.save_second) {
+        Ok(save) => SavedLine { name: second, save },
         Err(fault) => {
             remove(system, options.save_first);
             return Err(fault);
         }
     };
-    let ended = bridge(
-        system,
-        alloc,
-        first,
-        second,
-        &options,
-        save_first,
-        save_second,
-    );
+    let ended = bridge(system, alloc, first, second, &options);
     if ended.is_err() {
         remove(system, options.save_first);
         remove(system, options.save_second);
@@ -77,21 +79,19 @@ fn save_in<'a, S: Files<File = File>>(
 fn bridge<'a, S: System>(
     system: &S,
     alloc: Global,
-    first: LineName<'a>,
-    second: LineName<'a>,
+    first: SavedLine<'a>,
+    second: SavedLine<'a>,
     options: &BridgeOptions<'a>,
-    save_first: Option<Save>,
-    save_second: Option<Save>,
 ) -> Result<BridgeEnd, BridgeFault<'a>> {
-    let Some(mut bridge) = Bridge::new(alloc, first, second, options) else {
+    let Some(mut bridge) = Bridge::new(alloc, first.name, second.name, options) else {
         return Err(BridgeFault::Memory);
     };
     let Ok(mut buffers) = Buffers::new(alloc, 0, MOST) else {
         return Err(BridgeFault::Memory);
     };
     let baud = options.baud;
-    let first = LiveLine::new(alloc, first, baud, save_first, (Token(1), Token(2)));
-    let second = LiveLine::new(alloc, second, baud, save_second, (Token(3), Token(4)));
+    let first = LiveLine::new(alloc, first.name, baud, first.save, (Token(1), Token(2)));
+    let second = LiveLine::new(alloc, second.name, baud, second.save, (Token(3), Token(4)));
     let (Some(first), Some(second)) = (first, second) else {
         return Err(BridgeFault::Memory);
     };

@@ -2,14 +2,13 @@
 ghost use Rattle.std.specs.Prelude.{◌≡◌, ◌≤◌, IfOk, length};
 ghost use Rattle.ddcmp_device.specs.Inside.Lives.{plan};
 ghost use Rattle.ddcmp_ports.specs.Moving.{count_moved};
-ghost use Rattle.ddcmp_ports.specs.Running.{is_later, moves_nothing};
 
 use crate::live_line::{LiveLine, moved_by, wanted_of};
 use crate::poller::{Descriptor, reported_by};
 use crate::standard_stream::{StandardStream, write_errors};
 use crate::system::System;
 use ddcmp_bridge::{BridgeEnd, TwoLines};
-use ddcmp_ports::{self as ports, Buffers, LineEvent, Machine, Opening, Port, Transfer};
+use ddcmp_ports::{self as ports, Buffers, LastCalls, LineEvent, Machine, Opening, Port, Transfer};
 use ddcmp_station::{Clock, Elapsed};
 use mio::{Events, Interest, Poll, Token};
 use std::alloc::Global;
@@ -24,50 +23,6 @@ const EVENT_ROOM: usize = 256;
 
 /// The longest single wait, in milliseconds.
 const HOUR_MS: u64 = 3_600_000;
-
-/// Whether the last call of each kind at a port could do nothing.
-#[derive(Clone, Copy)]
-struct LastCalls {
-    read: bool,
-    write: bool,
-    opening: bool,
-}
-
-impl LastCalls {
-    /// There was no call that could do nothing.
-    const NONE: LastCalls = LastCalls {
-        read: false,
-        write: false,
-        opening: false,
-    };
-
-    /// Notes a read.
-    fn read(&mut self, got: Transfer) -> Transfer
-        ensures last { self.new ≡ record self.old { read = moves_nothing got } }
-        ensures got { result ≡ got }
-    {
-        self.read = matches!(got, Transfer::Nothing);
-        got
-    }
-
-    /// Notes a write.
-    fn write(&mut self, took: Transfer) -> Transfer
-        ensures last { self.new ≡ record self.old { write = moves_nothing took } }
-        ensures took { result ≡ took }
-    {
-        self.write = matches!(took, Transfer::Nothing);
-        took
-    }
-
-    /// Notes an opening.
-    fn opening(&mut self, opening: Opening) -> Opening
-        ensures last { self.new ≡ record self.old { opening = is_later opening } }
-        ensures opening { result ≡ opening }
-    {
-        self.opening = matches!(opening, Opening::Later);
-        opening
-    }
-}
 
 /// Two lines, standard error and a clock, on the system's devices.
 pub(crate) struct Live<'a, S> {

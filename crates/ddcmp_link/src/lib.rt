@@ -9,4 +9,4 @@ mod live;
 
 pub use ddcmp_session::{LinkOutcome, Options};
 pub use fault::LinkFailure;
-pub use link::link_line;
+pub use link::{LinkLine, link_line};

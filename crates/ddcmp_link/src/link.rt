@@ -15,15 +15,21 @@ use std::io::{Eprint, ErrorKind};
 use std::net::{self, Net};
 use std::time;
 
+/// The line of a link.
+#[derive(Clone, Copy)]
+pub struct LinkLine<'a> {
+    pub name: LineName<'a>,
+    /// The host whose callers alone are accepted, if not all are.
+    pub only: Option<&'a str>,
+}
+
 /// Runs a link between a line and standard input and output, which `reader` and `writer` read and
 /// write, until all of the input is delivered, or the line ends. The end of the input is waited for
-/// only if it has one; with `stay` a FIFO has none. If the line is one for callers, only those of
-/// the host `only` are accepted, or all.
+/// only if it has one; with `stay` a FIFO has none.
 pub fn link_line<'a, S, R: Source, W: Sink>(
     system: &S,
     alloc: Global,
-    line: LineName<'a>,
-    only: Option<&'a str>,
+    line: LinkLine<'a>,
     options: Options,
     reader: &mut R,
     writer: &mut W,
@@ -42,8 +48,8 @@ where
         awaits_end: options.awaits_end && input.has_end(),
         ..options
     };
-    let ended = run_over_devices(system, alloc, line, only, options, reader, writer);
-    ending_of(ended, line, reader, writer)
+    let ended = run_over_devices(system, alloc, line, options, reader, writer);
+    ending_of(ended, line.name, reader, writer)
 }
 
 /// Returns how a link over a line of this name ends: with a fault of the output if there is one,
@@ -74,8 +80,7 @@ fn ending_of<'a, R: Source, W: Sink>(
 fn run_over_devices<S: System, R: Source, W: Sink>(
     system: &S,
     alloc: Global,
-    line: LineName<'_>,
-    only: Option<&str>,
+    line: LinkLine<'_>,
     options: Options,
     reader: &mut R,
     writer: &mut W,
@@ -87,21 +92,22 @@ fn run_over_devices<S: System, R: Source, W: Sink>(
     let parts = Parts {
         system,
         poller,
-        name: line,
-        only,
+        name: line.name,
+        only: line.only,
         baud: options.baud,
         clock: Elapsed::new(system),
         reader,
         writer,
     };
-    let datagrams = match line.kind() {
+    let kind = line.name.kind();
+    let datagrams = match kind {
         LineKind::Datagrams => Some(options.config.max),
         LineKind::Connect | LineKind::Listen | LineKind::Device => None,
     };
     let Ok(mut devices) = Live::new(parts, alloc, datagrams) else {
         return Err(LinkStop::Memory);
     };
-    match run_link(alloc, options, line.kind(), &mut devices) {
+    match run_link(alloc, options, kind, &mut devices) {
         Ok(outcome) => Ok(outcome),
         Err(LinkFault::Refused(_)) => Err(LinkStop::Memory),
         Err(LinkFault::Stopped(stop)) => Err(LinkStop::Stopped(stop)),

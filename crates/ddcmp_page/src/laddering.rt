@@ -16,23 +16,34 @@ use ddcmp_log::Side;
 use ddcmp_tap::{Capture, DrawFault, draw_captures};
 use std::alloc::Global;
 
-/// Draws two captures, up to a fault, and sets `of` to 1 if it is of the second.
-fn draw(
-    alloc: Global,
+/// How captures are read, and what is drawn of them.
+#[derive(Clone, Copy)]
+struct Reading {
     form: u8,
     discarded: bool,
     max: u16,
+}
+
+/// Draws two captures, up to a fault, and sets `of` to 1 if it is of the second.
+fn draw(
+    alloc: Global,
+    reading: Reading,
     first: &[u8],
     second: &[u8],
     kept: &mut MemorySink,
     of: &mut u8,
 ) -> Result<(), ExplainFault>
-    requires max { (0 < max) × (max ≤ MOST) }
+    requires max { (0 < reading.max) × (reading.max ≤ MOST) }
     requires whole { kept.old.refused ≡ false }
     requires first { of.old ≡ 0 }
     ensures side { of.new ≤ 1 }
     ensures first { IsOk result → of.new ≡ 0 }
 {
+    let Reading {
+        form,
+        discarded,
+        max,
+    } = reading;
     let form = form_of(form);
     let Ok(mut one) = Capture::new(alloc, Pieces::of(first), form, Side::Caller, discarded, max)
     else {
@@ -90,7 +101,12 @@ pub extern "C" fn page_ladder(
         return MAX;
     }
     let mut kept = MemorySink::new(alloc);
-    let by = draw(alloc, form, discarded, max, first, second, &mut kept, of);
+    let reading = Reading {
+        form,
+        discarded,
+        max,
+    };
+    let by = draw(alloc, reading, first, second, &mut kept, of);
     let code = input_code(by, at);
     hand(&kept.bytes, code, out, written)
 }

@@ -19,7 +19,7 @@ use ddcmp_io::MemorySink;
 use ddcmp_io::failing::Pieces;
 use ddcmp_line::{ScriptFault, script_with};
 use ddcmp_pair::{Config, Direct, End, Event, Memory, Pair};
-use ddcmp_picture::{Picture, draw};
+use ddcmp_picture::{DrawOptions, Picture, draw};
 use std::alloc::Global;
 
 /// What a script begins with and how it is shown, for a page.
@@ -108,14 +108,14 @@ fn depict(
     requires whole { kept.old.refused ≡ false }
     ensures { DrawsScript script.now (around_by pair.old pair.new) result }
 {
+    let options = DrawOptions { picture, counted };
     draw(
         alloc,
         pair,
         &mut Pieces::of(script),
         kept,
         &mut Direct,
-        picture,
-        counted,
+        options,
     )
 }
 

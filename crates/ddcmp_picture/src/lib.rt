@@ -32,5 +32,5 @@ pub use canvas::Picture;
 pub use drawing::Drawing;
 pub use mark::{Mark, Trip, TripEnd};
 pub use paper::Paper;
-pub use player::draw;
+pub use player::{DrawOptions, draw};
 pub use short_text::ShortText;

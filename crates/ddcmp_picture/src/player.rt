@@ -12,6 +12,14 @@ use ddcmp_line::{ScriptFault, script_viewed};
 use ddcmp_pair::{Carrier, Pair};
 use std::alloc::Global;
 
+/// What is drawn of a script.
+#[derive(Clone, Copy)]
+pub struct DrawOptions {
+    pub picture: Picture,
+    /// Whether the counters of both stations are below it.
+    pub counted: bool,
+}
+
 /// Returns the result for a picture of a script with the result `done`, unless the picture is
 /// incomplete or the writer failed.
 fn answer_of(
@@ -46,8 +54,7 @@ pub fn draw<R: Source, W: Sink, C: Carrier>(
     reader: &mut R,
     writer: &mut W,
     carrier: &mut C,
-    picture: Picture,
-    counted: bool,
+    options: DrawOptions,
 ) -> Result<(), ScriptFault>
     requires fine { R.state reader.old ≡ Worst.Fine }
     requires whole { W.broken writer.old ≡ false }
@@ -64,12 +71,12 @@ pub fn draw<R: Source, W: Sink, C: Carrier>(
     // Whatever the result, messages are in order.
     ensures order { IsInOrder pair.new }
 {
-    let mut drawing = Drawing::new(alloc, Canvas::new(alloc, picture), pair);
+    let mut drawing = Drawing::new(alloc, Canvas::new(alloc, options.picture), pair);
     let done = script_viewed(alloc, pair, &mut drawing, reader, writer, carrier);
     if done == Err(ScriptFault::Read) {
         return Err(ScriptFault::Read);
     }
     let closing = if done.is_ok() { Some(&*pair) } else { None };
-    let is_whole = drawing.end(alloc, writer, closing, counted);
+    let is_whole = drawing.end(alloc, writer, closing, options.counted);
     answer_of(done, is_whole, writer.failed())
 }

@@ -1,4 +1,5 @@
 pub mod Events
+pub mod LastCalls
 pub mod LineNames
 pub mod Moving
 pub mod Running

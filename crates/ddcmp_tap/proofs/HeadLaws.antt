@@ -1,18 +1,19 @@
 -- What a tap says below a head.
-use Rattle.std.proofs.Common.{◌≡◌, ◌≢◌, ℕ, List, [], ◌++◌, refl, Bool, true, false, Option, Some}
+use Rattle.std.proofs.Common.{◌≡◌, ◌≢◌, ℕ, List, [], ◌++◌, length, refl, Bool, true, false, Option, Some}
 use Rattle.std.proofs.Common.{None, Result, Ok, Err, is_err, is_some, inl, inr, ◌⊎◌, subst, sym}
 use Rattle.std.specs.Io.KnownBytes.{Appends}
 use Rattle.std.proofs.KnownBytes.{Appends-nil, Appends-trans, Keeps-refl}
 use Rattle.std.proofs.lemmas.List.Elements.{All-nil}
 use Rattle.ddcmp_io.specs.declared.device.WriteFailed.{WriteFailed}
-use Rattle.ddcmp_io.specs.Written.{Known, Writes}
+use Rattle.std.proofs.Math.Seq.{take-length}
+use Rattle.ddcmp_io.specs.Written.{AppendsPart, Known, Writes}
 use Rattle.ddcmp_io.proofs.WrittenLaws.{part-append}
 use Rattle.ddcmp_log.specs.declared.notation.LogNotation.{LogNotation}
 use Rattle.ddcmp_tap.specs.declared.tap_fault.CarrierFault.{CarrierFault}
 use Rattle.ddcmp_tap.specs.declared.tap_fault.TapFault.{TapFault}
 use Rattle.ddcmp_tap.specs.declared.tap_fault.TapFault.TheVariants.{Carrier, Read, Write, Report}
 use Rattle.ddcmp_tap.specs.declared.tap_fault.TapFault.TheVariants.{Memory}
-use Rattle.ddcmp_tap.specs.Pumping.{Says, WritesText, tap_text}
+use Rattle.ddcmp_tap.specs.Logging.{Says, WritesText, tap_text}
 use Rattle.ddcmp_tap.proofs.PieceLaws.{part-behind}
 
 -- some moment, where one is asked for
@@ -69,7 +70,7 @@ no-head head notation timed max old new (Err f) e w =
     unsaid head notation timed max old new Report
     (part-append old new head (tap_text notation max (moment timed) []) w)
 
-behind : (old mid new : Known) (head text : List ℕ) (result : Result (Unit {0}) TapFault)
+pub behind : (old mid new : Known) (head text : List ℕ) (result : Result (Unit {0}) TapFault)
     → ((why : CarrierFault) → result ≢ Err (Carrier why)) → Appends old mid head
     → WritesText mid new result text
     → WritesText old new result (head ++ text)
@@ -94,3 +95,24 @@ said-below head notation timed max old mid new (Ok u) result met e w s = record 
   wrote = behind old mid new head (tap_text notation max s.stamp s.pieces) result met w s.wrote;
 }
 said-below head notation timed max old mid new (Err f) result met e w s = cc
+
+-- of a longer text
+pub cut : (old new : Known) (fault : TapFault) (text more : List ℕ)
+    → (fault ≡ Report) ⊎ (fault ≡ Memory)
+    → WritesText old new (Err fault) text → WritesText old new (Err fault) (text ++ more)
+cut old new fault text more (inl e) w =
+    subst (λ f. WritesText old new (Err f) (text ++ more)) (sym e)
+    (part-append old new text more (subst (λ f. WritesText old new (Err f) text) e w))
+cut old new fault text more (inr e) w =
+    subst (λ f. WritesText old new (Err f) (text ++ more)) (sym e)
+    (part-append old new text more (subst (λ f. WritesText old new (Err f) text) e w))
+
+-- all of it is a beginning
+pub part-whole : (old new : Known) (text : List ℕ) → Appends old new text
+    → AppendsPart old new text
+part-whole old new text a = (length text, subst (λ x. Appends old new x) (sym (take-length text)) a)
+
+pub not-carrier : {A : Type 0} (why : CarrierFault)
+    → (Carrier why ≡ Report) ⊎ (Carrier why ≡ Memory) → A
+not-carrier why (inl e) = cc
+not-carrier why (inr e) = cc

@@ -11,7 +11,7 @@ use Rattle.ddcmp_tap.specs.declared.tap_fault.CarrierFault.{CarrierFault}
 use Rattle.ddcmp_tap.specs.declared.tap_fault.TapFault.{TapFault}
 use Rattle.ddcmp_tap.specs.declared.tap_fault.TapFault.TheVariants.{Carrier, Read, Write, Report}
 use Rattle.ddcmp_tap.specs.declared.tap_fault.TapFault.TheVariants.{Memory}
-use Rattle.ddcmp_tap.specs.Pumping.{AreStamped, Says, head_of, tap_text}
+use Rattle.ddcmp_tap.specs.Logging.{AreStamped, Says, head_of, tap_text}
 use Rattle.ddcmp_tap.specs.InTurn.{Carried, PassesOver, SaysInTurn, carried_text}
 use Rattle.ddcmp_tap.proofs.HeadLaws.{no-carrier}
 

@@ -1,6 +1,5 @@
-pub mod MoveLaws
 pub mod PieceLaws
-pub mod SaidLaws
-pub mod FreshLaws
 pub mod HeadLaws
 pub mod InTurnLaws
+pub mod TapLaws
+pub mod LogLaws

@@ -8,7 +8,7 @@ use Rattle.ddcmp_tap.specs.declared.tap_fault.Stage.TheVariants.{Connect}
 use Rattle.ddcmp_tap.specs.declared.tap_fault.TapFault.{TapFault}
 use Rattle.ddcmp_tap.specs.declared.tap_fault.TapFault.TheVariants.{Carrier, Read, Write, Report}
 use Rattle.ddcmp_tap.specs.declared.tap_fault.TapFault.TheVariants.{Memory}
-use Rattle.ddcmp_tap.specs.Pumping.{AreStamped, Piece, Says, head_of, tap_text}
+use Rattle.ddcmp_tap.specs.Logging.{AreStamped, Piece, Says, head_of, tap_text}
 
 -- what both sides sent over one connection, and the time stamp of its end, if there is one
 pub record Carried : Type 0 where

@@ -1,5 +1,6 @@
-pub mod Passing
-pub mod Outlets
-pub mod Pumping
+pub mod Inside
+pub mod Forwarding
+pub mod Logging
+pub mod Tapping
 pub mod InTurn
 pub mod Order

@@ -4,18 +4,19 @@ ghost use Rattle.std.specs.Prelude.{◌≡◌, ◌≢◌, ◌<◌, ◌≤◌, �
 ghost use Rattle.std.specs.Prelude.{is_err};
 ghost use Rattle.ddcmp_io.specs.Written.{Writes};
 ghost use Rattle.ddcmp_frame.specs.Limits.{MAX_COUNT};
-ghost use Rattle.ddcmp_tap.specs.Pumping.{Says, head_of};
+ghost use Rattle.ddcmp_tap.specs.Logging.{Says, head_of};
 ghost use Rattle.ddcmp_tap.specs.InTurn.{Lasts, PassesOver, SaysInTurn};
 
-use crate::direction::{Direction, ROOM};
-use crate::flow::Flow;
-use crate::proxy::pump;
+use crate::direction::ROOM;
+use crate::machine::Tap;
+use crate::running::run_tap;
 use crate::socket_options::keep_alive;
-use crate::sockets::{Socket, Sockets, ToSocket};
+use crate::sockets::Sides;
 use crate::tap_fault::{CarrierFault, Stage, TapFault};
-use ddcmp_io::{FromRead, Sink, WriteFailed, write_all};
-use ddcmp_log::{LogNotation, Side};
-use ddcmp_station::Elapsed;
+use crate::tap_log::TapLog;
+use ddcmp_io::{Sink, WriteFailed, write_all};
+use ddcmp_log::LogNotation;
+use ddcmp_ports::Buffers;
 use mio::net::TcpStream;
 use std::alloc::Global;
 use std::io::{self, Eprint, ErrorKind};
@@ -135,22 +136,20 @@ pub fn tap<S: Net<Stream = net::TcpStream> + Eprint + time::Clock, W: Sink>(
     alloc: Global,
     listen: &str,
     connect: &str,
-    notation: LogNotation,
-    timed: bool,
-    max: u16,
+    log: TapLog,
     writer: &mut W,
 ) -> Result<(), TapFault>
     requires whole { W.broken writer.old ≡ false }
-    requires low { 0 < max }
-    requires high { max ≤ MAX_COUNT }
-    ensures says { Says (head_of notation) notation timed max
+    requires low { 0 < log.max }
+    requires high { log.max ≤ MAX_COUNT }
+    ensures says { Says (head_of log.notation) log.notation log.timed log.max
         (W.contents writer.old) (W.contents writer.new) result }
     ensures carrier { (why : CarrierFault) → result ≡ Err (TapFault.Carrier why)
         → writer.new ≡ writer.old }
     ensures broken { (result ≡ Err TapFault.Report) ↔ IsTrue (W.broken writer.new) }
 {
     match accept_first(system, listen) {
-        Ok(caller) => carry(system, alloc, caller, connect, notation, timed, max, writer),
+        Ok(caller) => carry(system, alloc, caller, connect, log, writer),
         Err(error) => Err(TapFault::Carrier(carrier_fault(system, Stage::Listen, listen, &error))),
     }
 }
@@ -161,49 +160,32 @@ fn carry<S: Net<Stream = net::TcpStream> + Eprint + time::Clock, W: Sink>(
     alloc: Global,
     caller: Caller,
     connect: &str,
-    notation: LogNotation,
-    timed: bool,
-    max: u16,
+    log: TapLog,
     writer: &mut W,
 ) -> Result<(), TapFault>
     requires whole { W.broken writer.old ≡ false }
-    requires low { 0 < max }
-    requires high { max ≤ MAX_COUNT }
-    ensures says { Says (head_of notation) notation timed max
+    requires low { 0 < log.max }
+    requires high { log.max ≤ MAX_COUNT }
+    ensures says { Says (head_of log.notation) log.notation log.timed log.max
         (W.contents writer.old) (W.contents writer.new) result }
     ensures carrier { (why : CarrierFault) → result ≡ Err (TapFault.Carrier why)
         → writer.new ≡ writer.old }
     ensures broken { (result ≡ Err TapFault.Report) ↔ IsTrue (W.broken writer.new) }
 {
-    let Caller {
-        stream: mut caller,
-        peer,
-    } = caller;
-    let mut called = match connect_to(system, connect) {
+    let Caller { stream, peer } = caller;
+    let called = match connect_to(system, connect) {
         Ok(called) => called,
         Err(error) => {
             let why = carrier_fault(system, Stage::Connect, connect, &error);
             return Err(TapFault::Carrier(why));
         }
     };
-    let mut sockets = match Sockets::new(system, alloc, &mut caller, &mut called) {
-        Ok(sockets) => sockets,
+    let mut sides = match Sides::new(system, alloc, stream, called) {
+        Ok(sides) => sides,
         Err(error) => return Err(no_waiting(&error)),
     };
-    let (caller, called) = (Socket::new(caller), Socket::new(called));
-    let ended = between(
-        system,
-        alloc,
-        &caller,
-        &called,
-        &mut sockets,
-        notation,
-        timed,
-        max,
-        writer,
-    );
-    caller.report(system, "caller", &peer);
-    called.report(system, "called", &connect);
+    let ended = between(alloc, &mut sides, log, writer);
+    sides.report(system, &peer, &connect);
     ended
 }
 
@@ -235,16 +217,14 @@ pub fn tap_again<S: Net<Stream = net::TcpStream> + Eprint + time::Clock, W: Sink
     alloc: Global,
     listen: &str,
     connect: &str,
-    notation: LogNotation,
-    timed: bool,
-    max: u16,
+    log: TapLog,
     writer: &mut W,
 ) -> TapFault
     requires whole { W.broken writer.old ≡ false }
-    requires low { 0 < max }
-    requires high { max ≤ MAX_COUNT }
-    ensures says { SaysInTurn notation timed max (W.contents writer.old) (W.contents writer.new)
-        result }
+    requires low { 0 < log.max }
+    requires high { log.max ≤ MAX_COUNT }
+    ensures says { SaysInTurn log.notation log.timed log.max
+        (W.contents writer.old) (W.contents writer.new) result }
     ensures lasts { Lasts result }
     ensures broken { (result ≡ TapFault.Report) ↔ IsTrue (W.broken writer.new) }
 {
@@ -265,7 +245,7 @@ pub fn tap_again<S: Net<Stream = net::TcpStream> + Eprint + time::Clock, W: Sink
                 return TapFault::Carrier(carrier_fault(system, Stage::Listen, listen, &error));
             }
         };
-        let ended = carry(system, alloc, caller, connect, notation, timed, max, writer);
+        let ended = carry(system, alloc, caller, connect, log, writer);
         if let Some(fault) = lasting(system, connect, ended) {
             return fault;
         }
@@ -276,45 +256,29 @@ pub fn tap_again<S: Net<Stream = net::TcpStream> + Eprint + time::Clock, W: Sink
     })
 }
 
-/// Forwards between two sockets.
-fn between<C: time::Clock, W: Sink>(
-    clock: &C,
+/// Forwards between two sides, below the heading of the log.
+fn between<S: Net + time::Clock, W: Sink>(
     alloc: Global,
-    caller: &Socket,
-    called: &Socket,
-    sockets: &mut Sockets,
-    notation: LogNotation,
-    timed: bool,
-    max: u16,
+    sides: &mut Sides<'_, S>,
+    log: TapLog,
     writer: &mut W,
 ) -> Result<(), TapFault>
     requires whole { W.broken writer.old ≡ false }
-    requires low { 0 < max }
-    requires high { max ≤ MAX_COUNT }
-    ensures says { Says (head_of notation) notation timed max
+    requires low { 0 < log.max }
+    requires high { log.max ≤ MAX_COUNT }
+    ensures says { Says (head_of log.notation) log.notation log.timed log.max
         (W.contents writer.old) (W.contents writer.new) result }
     ensures met { (why : CarrierFault) → result ≢ Err (TapFault.Carrier why) }
     ensures broken { (result ≡ Err TapFault.Report) ↔ IsTrue (W.broken writer.new) }
 {
-    let Ok(up) = Direction::new(alloc, Side::Caller, notation, max) else {
+    let Ok(mut tap) = Tap::new(alloc, log) else {
         return Err(TapFault::Memory);
     };
-    let Ok(down) = Direction::new(alloc, Side::Called, notation, max) else {
+    let Ok(mut buffers) = Buffers::new(alloc, 0, ROOM) else {
         return Err(TapFault::Memory);
     };
-    let Ok(mut buffer) = Vec::from_elem(alloc, 0u8, ROOM) else {
-        return Err(TapFault::Memory);
-    };
-    if write_head(writer, notation).is_err() {
+    if write_head(writer, log.notation).is_err() {
         return Err(TapFault::Report);
     }
-    pump(
-        &mut Flow::new(up, FromRead::new(caller), ToSocket::new(called)),
-        &mut Flow::new(down, FromRead::new(called), ToSocket::new(caller)),
-        sockets,
-        &mut Elapsed::new(clock),
-        timed,
-        buffer.as_mut_slice(),
-        writer,
-    )
+    run_tap(&mut buffers, &mut tap, sides, writer)
 }

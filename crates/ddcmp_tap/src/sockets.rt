@@ -1,136 +1,200 @@
 //! The sides of a tap as nonblocking sockets.
-ghost use Rattle.std.specs.Prelude.{◌≡◌, false};
+ghost use Rattle.std.specs.Prelude.{◌≡◌, ◌≤◌, length};
+ghost use Rattle.ddcmp_ports.specs.Moving.{count_moved};
 
-use crate::outlet::Outlet;
-use crate::proxy::Readiness;
 use ddcmp_io::cause::failure_words_of;
+use ddcmp_ports::{Buffers, Down, LastCalls, Machine, Opening, Port, System, Transfer};
+use ddcmp_station::{Clock, Elapsed};
 use mio::net::TcpStream;
 use mio::{Events, Interest, Poll, Token};
 use std::alloc::Global;
-use std::cell::Cell;
 use std::fmt::Display;
 use std::io::{self, Eprint, ErrorKind, Read, Write};
 use std::net::{Net, Shutdown};
+use std::time;
 
 /// The connection to a side, and why it failed, if it did.
 #[derive(Drop)]
-pub(crate) struct Socket {
+struct Socket {
     stream: TcpStream,
-    failed: Cell<Option<ErrorKind>>,
+    failed: Option<ErrorKind>,
+    last: LastCalls,
 }
 
 impl Socket {
-    pub(crate) fn new(stream: TcpStream) -> Self {
+    fn new(stream: TcpStream) -> Self {
         Socket {
             stream,
-            failed: Cell::new(None),
+            failed: None,
+            last: LastCalls::NONE,
         }
     }
 
-    /// Records an error; returns whether the socket failed. Having no bytes or no room now is no
-    /// failure.
-    fn has_failed(&self, kind: ErrorKind) -> bool {
-        let failed = !matches!(kind, ErrorKind::WouldBlock | ErrorKind::Interrupted);
-        if failed {
-            self.failed.set(Some(kind));
+    /// Reads into the front of `space`.
+    fn read(&mut self, space: &mut [u8]) -> Transfer
+        ensures fits { count_moved result ≤ length space.new }
+        ensures last { self.new.last ≡ self.old.last }
+    {
+        match self.stream.read(space) {
+            Ok(0) => Transfer::Over(Down::Closed),
+            Ok(n) => Transfer::Bytes(n.min(space.len())),
+            Err(error) => self.stuck(error.kind()),
         }
-        failed
+    }
+
+    /// Writes bytes from the front of `bytes`.
+    fn write(&mut self, bytes: &[u8]) -> Transfer
+        ensures fits { count_moved result ≤ length bytes.now }
+        ensures last { self.new.last ≡ self.old.last }
+    {
+        match self.stream.write(bytes) {
+            Ok(0) => Transfer::Nothing,
+            Ok(n) => Transfer::Bytes(n.min(bytes.len())),
+            Err(error) => self.stuck(error.kind()),
+        }
+    }
+
+    /// Returns what this error of a call is. Having no bytes or no room now is no failure.
+    fn stuck(&mut self, kind: ErrorKind) -> Transfer
+        ensures moved { count_moved result ≡ 0 }
+        ensures last { self.new.last ≡ self.old.last }
+    {
+        match kind {
+            ErrorKind::WouldBlock => Transfer::Nothing,
+            ErrorKind::Interrupted => Transfer::Bytes(0),
+            kind => {
+                self.failed = Some(kind);
+                Transfer::Over(Down::Failed(kind))
+            }
+        }
     }
 
     /// Prints why the side of this name failed, if it did.
-    pub(crate) fn report<E: Eprint, N: Display>(&self, system: &E, side: &str, name: &N) {
-        let Some(kind) = self.failed.get() else {
-            return
-        };
+    fn report<E: Eprint, N: Display>(&self, system: &E, side: &str, name: &N) {
+        let Some(kind) = self.failed else { return };
         let why = failure_words_of(kind);
         let _ = eprintln!(system; "ddcmp: {side} {name}: {why}");
     }
 }
 
-impl Read for &Socket {
-    fn read(&mut self, buf: &mut [u8]) -> io::Result<usize> {
-        let mut stream = &self.stream;
-        let got = stream.read(buf);
-        if let Err(error) = &got {
-            let _failed = self.has_failed(error.kind());
-        }
-        got
-    }
-}
-
-/// The output to the peer of a socket.
+/// Both sides of a tap, which are open, and a clock.
 #[derive(Drop)]
-pub(crate) struct ToSocket<'a> {
-    socket: &'a Socket,
-    closed: bool,
-}
-
-impl<'a> ToSocket<'a> {
-    pub(crate) fn new(socket: &'a Socket) -> Self
-        ensures { result.closed ≡ false }
-    {
-        ToSocket {
-            socket,
-            closed: false,
-        }
-    }
-}
-
-impl Outlet for ToSocket<'_> {
-    ghost use Rattle.std.specs.Prelude.{None};
-
-    // No contract can state what a socket took.
-    ghost contents = { λ _. None };
-
-    ghost closed = { λ outlet. outlet.closed };
-
-    fn write(&mut self, bytes: &[u8]) -> Option<usize> {
-        let mut stream = &self.socket.stream;
-        match stream.write(bytes) {
-            Ok(n) => Some(n),
-            Err(error) if self.socket.has_failed(error.kind()) => None,
-            Err(_) => Some(0),
-        }
-    }
-
-    fn close(&mut self) {
-        self.closed = true;
-        // If the peer is gone, there is nothing to report.
-        let _ = self.socket.stream.shutdown(Shutdown::Write);
-    }
-
-    fn is_closed(&self) -> bool {
-        self.closed
-    }
-}
-
-/// Waits for two sockets.
-#[derive(Drop)]
-pub(crate) struct Sockets {
+pub(crate) struct Sides<'a, S> {
+    caller: Socket,
+    called: Socket,
     poll: Poll,
     events: Events,
+    clock: Elapsed<'a, S>,
+    /// The moment that it returned last.
+    moment: u64,
 }
 
-impl Sockets {
-    pub(crate) fn new<N: Net>(
-        net: &N,
+impl<'a, S: Net + time::Clock> Sides<'a, S> {
+    pub(crate) fn new(
+        system: &'a S,
         alloc: Global,
-        caller: &mut TcpStream,
-        called: &mut TcpStream,
-    ) -> io::Result<Sockets> {
-        let poll = Poll::new(net)?;
+        mut caller: TcpStream,
+        mut called: TcpStream,
+    ) -> io::Result<Self> {
+        let poll = Poll::new(system)?;
         let both = Interest::READABLE | Interest::WRITABLE;
-        poll.registry().register(caller, Token(0), both)?;
-        poll.registry().register(called, Token(1), both)?;
-        Ok(Sockets {
+        poll.registry().register(&mut caller, Token(0), both)?;
+        poll.registry().register(&mut called, Token(1), both)?;
+        Ok(Sides {
+            caller: Socket::new(caller),
+            called: Socket::new(called),
             poll,
             events: Events::with_capacity(alloc, 2)?,
+            clock: Elapsed::new(system),
+            moment: 0,
         })
+    }
+
+    /// Prints why a side failed, if one did.
+    pub(crate) fn report<E: Eprint, N: Display, M: Display>(
+        &self,
+        system: &E,
+        caller: &N,
+        called: &M,
+    ) {
+        self.caller.report(system, "caller", caller);
+        self.called.report(system, "called", called);
     }
 }
 
-impl Readiness for Sockets {
-    fn wait(&mut self) -> bool {
+impl<S: time::Clock> System for Sides<'_, S> {
+    ghost use Rattle.std.specs.Prelude.{None};
+    ghost use Rattle.ddcmp_tap.specs.Inside.Sides.{stuck_of};
+
+    // No contract can state what came over a socket.
+    ghost trace = { λ _ _. None };
+
+    ghost stuck = { stuck_of };
+
+    ghost moment = { λ s. s.moment };
+
+    fn read(&mut self, port: Port, space: &mut [u8]) -> Transfer {
+        match port {
+            Port::First => {
+                let got = self.caller.read(space);
+                self.caller.last.read(got)
+            }
+            Port::Second => {
+                let got = self.called.read(space);
+                self.called.last.read(got)
+            }
+            Port::Input | Port::Output | Port::Errors => Transfer::Nothing,
+        }
+    }
+
+    fn write(&mut self, port: Port, bytes: &[u8]) -> Transfer {
+        match port {
+            Port::First => {
+                let took = self.caller.write(bytes);
+                self.caller.last.write(took)
+            }
+            Port::Second => {
+                let took = self.called.write(bytes);
+                self.called.last.write(took)
+            }
+            Port::Input | Port::Output | Port::Errors => Transfer::Nothing,
+        }
+    }
+
+    /// Both sides are open already.
+    fn open(&mut self, port: Port) -> Opening {
+        match port {
+            Port::First => self.caller.last.opening(Opening::Later),
+            Port::Second => self.called.last.opening(Opening::Later),
+            Port::Input | Port::Output | Port::Errors => Opening::Later,
+        }
+    }
+
+    fn shut(&mut self, port: Port) {
+        // If the peer is gone, there is nothing to report.
+        match port {
+            Port::First => {
+                let _ = self.caller.stream.shutdown(Shutdown::Write);
+            }
+            Port::Second => {
+                let _ = self.called.stream.shutdown(Shutdown::Write);
+            }
+            Port::Input | Port::Output | Port::Errors => {}
+        }
+    }
+
+    /// Both sides are closed as they are dropped.
+    fn close(&mut self, _port: Port) {}
+
+    /// Each call asks for itself.
+    fn poll(&mut self) {}
+
+    fn wait<M: Machine>(&mut self, _machine: &M, _held: &Buffers, _most_ms: u64) -> bool {
         self.poll.poll(&mut self.events, None).is_ok()
+    }
+
+    fn now(&mut self) -> u64 {
+        self.moment = self.clock.now();
+        self.moment
     }
 }

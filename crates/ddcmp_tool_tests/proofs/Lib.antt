@@ -1,2 +1,1 @@
-pub mod FreshLaws
 mod JoinedLaws

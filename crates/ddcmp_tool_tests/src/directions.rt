@@ -1,45 +1,53 @@
 // For how many bytes a direction of a tap has room. What it forwards and logs is tried by
 // `tests/test_tap.py`.
-use ddcmp_log::{LogNotation, Side};
-use ddcmp_tap::{Direction, ROOM};
+ghost use Rattle.std.specs.Prelude.{◌<◌, length};
+
+use ddcmp_log::LogNotation;
+use ddcmp_ports::{Machine, Need, Port};
+use ddcmp_tap::{ROOM, Tap, TapLog};
 use std::process::Abort;
 
-fn direction(rt: &(impl Abort + AllocGlobal)) -> Direction {
-    match Direction::new(rt.alloc(), Side::Caller, LogNotation::Plain, 16383) {
+fn tap(rt: &(impl Abort + AllocGlobal)) -> Tap {
+    let log = TapLog {
+        notation: LogNotation::Plain,
+        timed: false,
+        max: 16383,
+    };
+    match Tap::new(rt.alloc(), log) {
         Ok(made) => made,
         Err(_refused) => panic!(rt; "no memory"),
     }
 }
 
-/// Has a direction receive and explain bytes.
-fn comes(rt: &(impl Abort + AllocGlobal), direction: &mut Direction, bytes: &[u8]) {
-    assert!(rt; bytes.len() <= direction.room());
-    direction.push(bytes);
-    assert!(rt; direction.explain(None).is_ok());
+/// Has a tap receive bytes of the caller, of which it takes so many.
+fn comes(rt: &impl Abort, tap: &mut Tap, bytes: &[u8], used: usize)
+    requires { 0 < length bytes.now }
+{
+    assert!(rt; has_room(tap));
+    if let Need::Bytes = tap.needs(Port::First) {
+        assert!(rt; tap.give(Port::First, bytes) == used);
+    }
 }
 
-/// Checks for how many bytes a direction has room, and how many are queued.
-fn holds(rt: &impl Abort, made: &Direction, room: usize, waiting: usize) {
-    assert!(rt; made.room() == room);
-    assert!(rt; made.waiting().len() == waiting);
+fn has_room(tap: &Tap) -> bool {
+    matches!(tap.needs(Port::First), Need::Bytes)
 }
 
-/// Forwards this many bytes.
-fn forwards(rt: &impl Abort, made: &mut Direction, n: usize) {
-    assert!(rt; n <= made.waiting().len());
-    made.took(n);
+/// Forwards this many bytes, after which so many are queued.
+fn forwards(rt: &impl Abort, tap: &mut Tap, n: usize, left: usize) {
+    assert!(rt; n <= tap.pending(Port::Second).len());
+    tap.took(Port::Second, n);
+    assert!(rt; tap.pending(Port::Second).len() == left);
 }
 
 #[test]
 fn room_until_all_is_written(rt: HostRuntime) {
-    let mut made = direction(&rt);
-    comes(&rt, &mut made, &[0; ROOM]);
-    holds(&rt, &made, 0, ROOM);
-    forwards(&rt, &mut made, ROOM - 1);
-    holds(&rt, &made, 0, 1);
-    forwards(&rt, &mut made, 1);
-    holds(&rt, &made, ROOM, 0);
-    assert!(&rt; !made.has_ended());
-    made.end();
-    assert!(&rt; made.has_ended());
+    let mut made = tap(&rt);
+    comes(&rt, &mut made, &[0; ROOM - 1], ROOM - 1);
+    comes(&rt, &mut made, &[0; 2], 1);
+    assert!(&rt; !has_room(&made));
+    forwards(&rt, &mut made, ROOM - 1, 1);
+    assert!(&rt; !has_room(&made));
+    forwards(&rt, &mut made, 1, 0);
+    assert!(&rt; has_room(&made));
 }

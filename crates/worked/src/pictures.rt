@@ -4,7 +4,7 @@ ghost use Rattle.std.specs.Prelude.{◌≡◌, false};
 
 use ddcmp_frame::{FromRead, ToWrite};
 use ddcmp_line::{Carrier, Config, Direct, Pair, Sockets};
-use ddcmp_picture::{Picture, draw};
+use ddcmp_picture::{DrawOptions, Picture, draw};
 use std::io::{self, Write};
 
 /// The format of a picture: `ladder` or `svg`, and `counters`.
@@ -59,8 +59,10 @@ fn play<C: Carrier>(
         &mut reader,
         &mut writer,
         carrier,
-        wanted.picture,
-        wanted.counted,
+        DrawOptions {
+            picture: wanted.picture,
+            counted: wanted.counted,
+        },
     );
     let mut text = writer.into_inner();
     writeln!(text, "{answer:?}")?;

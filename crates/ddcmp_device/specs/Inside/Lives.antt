@@ -1,15 +1,12 @@
 -- The lines of a bridge, and whether the last call at each of its ports could do nothing.
 use Rattle.std.specs.Prelude.{true}
-use Rattle.ddcmp_device.specs.declared.live.LastCalls.{LastCalls}
 use Rattle.ddcmp_device.specs.declared.live.Live.{Live}
 use Rattle.ddcmp_device.specs.declared.live_line.LiveLine.{LiveLine}
 use Rattle.ddcmp_bridge.specs.Crossing.{LinePlan, plan_of}
 use Rattle.ddcmp_ports.specs.declared.port.Port.{Port}
 use Rattle.ddcmp_ports.specs.declared.port.Port.TheVariants.{Input, Output, Errors, First, Second}
+use Rattle.ddcmp_ports.specs.LastCalls.{stuck_at}
 use Rattle.ddcmp_ports.specs.Running.{Stuck}
-
-abbrev pub stuck_at : LastCalls → Stuck
-stuck_at l = record { read = l.read; write = l.write; opening = l.opening }
 
 -- Standard input and output aren't used.
 abbrev pub stuck_of : {S : Type 0} → Live S → Port → Stuck

@@ -1,74 +1,130 @@
 //! A tap allocates its queues when it is made, and its log as this grows. If an allocation fails,
 //! what was forwarded and what was logged are prefixes.
-ghost use Rattle.std.specs.Prelude.{◌≡◌, false};
+ghost use Rattle.std.specs.Prelude.{◌≡◌, ◌≤◌, false, length};
+ghost use Rattle.ddcmp_ports.specs.Moving.{count_moved};
 
-use ddcmp_io::failing::{BoundedSink, Pieces};
-use ddcmp_log::{LogNotation, Side};
-use ddcmp_station::Clock;
-use ddcmp_tap::{Direction, Flow, Outlet, Readiness, TapFault, pump};
-use std::cell::Cell;
+use ddcmp_io::failing::BoundedSink;
+use ddcmp_log::LogNotation;
+use ddcmp_ports::{Buffers, Down, LastCalls, Machine, Opening, Port, System, Transfer};
+use ddcmp_tap::{Tap, TapFault, TapLog, run_tap};
 use std::process::Abort;
 
 /// Three ACKs, each after bytes that aren't a frame.
 const BYTES: &[u8] = b"\x81\x05\x05\x01\x00\x00\x00\x01\xfc\x55\
     \x00\x96\x05\x01\x00\x00\x00\x01\xfc\x55\x81\x05\x01\x00\x00\x00\x01\xfc\x55";
 
-/// An output to a side that takes bytes only if they are those that it expects.
+/// A side that sends these bytes a few at a time, and takes only those that it expects.
 #[derive(Drop)]
-struct Way<'a> {
-    waits_for: &'a Cell<&'static [u8]>,
-    closed: bool,
+struct Line {
+    sends: &'static [u8],
+    most: usize,
+    expects: &'static [u8],
+    last: LastCalls,
 }
 
-impl<'a> Way<'a> {
-    fn new(waits_for: &'a Cell<&'static [u8]>) -> Self
-        ensures { result.closed ≡ false }
+impl Line {
+    fn new(most: usize) -> Self {
+        Line {
+            sends: BYTES,
+            most,
+            expects: BYTES,
+            last: LastCalls::NONE,
+        }
+    }
+
+    fn read(&mut self, space: &mut [u8]) -> Transfer
+        ensures fits { count_moved result ≤ length space.new }
+        ensures last { self.new.last ≡ self.old.last }
     {
-        Way {
-            waits_for,
-            closed: false,
+        let n = self.most.min(self.sends.len()).min(space.len());
+        if n == 0 {
+            return Transfer::Over(Down::Closed);
+        }
+        let (sent, rest) = self.sends.split_at(n);
+        space[..n].copy_from_slice(sent);
+        self.sends = rest;
+        Transfer::Bytes(n)
+    }
+
+    fn write(&mut self, bytes: &[u8]) -> Transfer
+        ensures fits { count_moved result ≤ length bytes.now }
+        ensures last { self.new.last ≡ self.old.last }
+    {
+        match self.expects.strip_prefix(bytes) {
+            Some(rest) => {
+                self.expects = rest;
+                Transfer::Bytes(bytes.len())
+            }
+            None => Transfer::Over(Down::Closed),
         }
     }
 }
 
-impl Outlet for Way<'_> {
+/// Two sides, and a clock at its start.
+#[derive(Drop)]
+struct Lines {
+    first: Line,
+    second: Line,
+}
+
+impl System for Lines {
     ghost use Rattle.std.specs.Prelude.{None};
+    ghost use Rattle.ddcmp_tool_tests.specs.Tapped.{stuck_of};
 
-    // No contract can state what a cell holds.
-    ghost contents = { λ _. None };
+    // No contract states what they expect.
+    ghost trace = { λ _ _. None };
 
-    ghost closed = { λ way. way.closed };
+    ghost stuck = { λ l. stuck_of l.first.last l.second.last };
 
-    fn write(&mut self, bytes: &[u8]) -> Option<usize> {
-        let rest = self.waits_for.get().strip_prefix(bytes)?;
-        self.waits_for.set(rest);
-        Some(bytes.len())
+    ghost moment = { λ _. 0 };
+
+    fn read(&mut self, port: Port, space: &mut [u8]) -> Transfer {
+        match port {
+            Port::First => {
+                let got = self.first.read(space);
+                self.first.last.read(got)
+            }
+            Port::Second => {
+                let got = self.second.read(space);
+                self.second.last.read(got)
+            }
+            Port::Input | Port::Output | Port::Errors => Transfer::Nothing,
+        }
     }
 
-    fn close(&mut self) {
-        self.closed = true;
+    fn write(&mut self, port: Port, bytes: &[u8]) -> Transfer {
+        match port {
+            Port::First => {
+                let took = self.first.write(bytes);
+                self.first.last.write(took)
+            }
+            Port::Second => {
+                let took = self.second.write(bytes);
+                self.second.last.write(took)
+            }
+            Port::Input | Port::Output | Port::Errors => Transfer::Nothing,
+        }
     }
 
-    fn is_closed(&self) -> bool {
-        self.closed
+    fn open(&mut self, port: Port) -> Opening {
+        match port {
+            Port::First => self.first.last.opening(Opening::Later),
+            Port::Second => self.second.last.opening(Opening::Later),
+            Port::Input | Port::Output | Port::Errors => Opening::Later,
+        }
     }
-}
 
-/// Waits for nothing.
-#[derive(Drop)]
-struct Ready;
+    fn shut(&mut self, _port: Port) {}
 
-impl Readiness for Ready {
-    fn wait(&mut self) -> bool {
-        true
+    fn close(&mut self, _port: Port) {}
+
+    fn poll(&mut self) {}
+
+    /// Each call moves something, until both have ended.
+    fn wait<M: Machine>(&mut self, _machine: &M, _held: &Buffers, _most_ms: u64) -> bool {
+        false
     }
-}
 
-/// A clock at its start.
-#[derive(Drop)]
-struct Beginning;
-
-impl Clock for Beginning {
     fn now(&mut self) -> u64 {
         0
     }
@@ -78,36 +134,36 @@ impl Clock for Beginning {
 fn tapped(
     rt: &impl AllocGlobal,
     notation: LogNotation,
-    ways: &[Cell<&'static [u8]>; 2],
+    lines: &mut Lines,
     log: &mut BoundedSink<8192>,
 ) -> Result<(), TapFault>
     requires { log.old.broken ≡ false }
 {
-    let Ok(up) = Direction::new(rt.alloc(), Side::Caller, notation, 100) else {
+    let asked = TapLog {
+        notation,
+        timed: true,
+        max: 100,
+    };
+    let Ok(mut tap) = Tap::new(rt.alloc(), asked) else {
         return Err(TapFault::Memory);
     };
-    let Ok(down) = Direction::new(rt.alloc(), Side::Called, notation, 100) else {
+    let Ok(mut buffers) = Buffers::new(rt.alloc(), 0, 64) else {
         return Err(TapFault::Memory);
     };
-    pump(
-        &mut Flow::new(up, Pieces::of(BYTES).at_most(9), Way::new(&ways[0])),
-        &mut Flow::new(down, Pieces::of(BYTES).at_most(5), Way::new(&ways[1])),
-        &mut Ready,
-        &mut Beginning,
-        true,
-        &mut [0u8; 64],
-        log,
-    )
+    run_tap(&mut buffers, &mut tap, lines, log)
 }
 
 /// Returns whether an allocation fails in a tap that logs like this.
 fn is_refused(rt: &(impl Abort + AllocGlobal), notation: LogNotation) -> bool {
-    let ways = [Cell::new(BYTES), Cell::new(BYTES)];
+    let mut lines = Lines {
+        first: Line::new(9),
+        second: Line::new(5),
+    };
     let mut log = BoundedSink::new();
-    let ended = tapped(rt, notation, &ways, &mut log);
+    let ended = tapped(rt, notation, &mut lines, &mut log);
     assert!(rt; log.bytes().is_empty() || log.bytes().ends_with(b"\n"));
     let Err(fault) = ended else {
-        assert!(rt; ways[0].get().is_empty() && ways[1].get().is_empty());
+        assert!(rt; lines.first.expects.is_empty() && lines.second.expects.is_empty());
         return false;
     };
     assert!(rt; fault == TapFault::Memory);

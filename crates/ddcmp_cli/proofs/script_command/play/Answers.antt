@@ -9,7 +9,7 @@ returns-in-None-clause-runs g c = λ input e. rw (c.in-None.is) (inr (
   c.script_with.result,
   c.script_with.new.pair,
   c.ended.ensures,
-  untold c.args.args.now.view.counters input _ _ c.script_with.new.pair
+  untold c.args.run.counted input _ _ c.script_with.new.pair
       (g.C.Carrier.direct c.args.carrier.now) (g.C.Carrier.told c.args.carrier.now)
       (g.C.Carrier.told c.script_with.new.carrier)
       (Appends (g.W.Sink.contents c.args.writer.now) (g.W.Sink.contents c.script_with.new.writer))

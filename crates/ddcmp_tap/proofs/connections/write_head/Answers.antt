@@ -1,6 +1,6 @@
 use Rattle.std.proofs.Common.{sym, subst}
 use Rattle.ddcmp_io.specs.Written.{Writes}
-use Rattle.ddcmp_tap.specs.Pumping.{head_of}
+use Rattle.ddcmp_tap.specs.Logging.{head_of}
 use Rattle.ddcmp_tap.proofs.connections.write_head.Goals as goal
 
 pub returns-in-Ladder-clause-written : goal.returns-in-Ladder-clause-written
