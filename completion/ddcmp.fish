@@ -71,6 +71,7 @@ complete -c ddcmp -n '__fish_seen_subcommand_from link' -l baud -x -d 'Write to 
 complete -c ddcmp -n '__fish_seen_subcommand_from link' -l seconds -x -d 'End after N seconds, whatever the state'
 complete -c ddcmp -n '__fish_seen_subcommand_from link' -l report -x -d 'Report the counters on standard error every N seconds'
 complete -c ddcmp -n '__fish_seen_subcommand_from link' -l binary -d 'Read and write messages as bytes after their length'
+complete -c ddcmp -n '__fish_seen_subcommand_from link' -l events -d 'With --binary, write notices among the messages'
 complete -c ddcmp -n '__fish_seen_subcommand_from link' -l maintenance -d 'Exchange maintenance messages, which nobody acknowledges'
 complete -c ddcmp -n '__fish_seen_subcommand_from link' -l stay -d 'Keep running once all input was delivered'
 complete -c ddcmp -n '__fish_seen_subcommand_from link' -l again -d 'Open the line again if it ends or can\'t be opened'

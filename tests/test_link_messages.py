@@ -11,7 +11,7 @@ import pytest
 from .bad_lines import Bad
 from .peers import called, good
 from .process import Link, exchange, listening, must_end, tcp_pair, terminals, unacknowledged
-from .wire import ack, binary, data, digits, drawn, messages_of, unpacked
+from .wire import STRT, ack, binary, data, digits, drawn, in_lines, messages_of, unpacked
 
 
 @pytest.mark.parametrize("window", [1, 7, 127, 255])
@@ -28,6 +28,68 @@ def test_long_messages():
         one, two = tcp_pair(options, options)
         exchange(str(options), one, two, [drawn.randbytes(it) for it in sizes],
                  [drawn.randbytes(it) for it in sizes[::-1]], form)
+
+
+def restarted(*options):
+    """A link whose peer restarts, with a message before that and one after it, while one of the
+    link isn't acknowledged."""
+    form = binary if "--binary" in options else digits
+    link, peer = called("--restart", "--stay", *options,
+                        answer=lambda peer, it: b"" if it.message == b"lost" else good(peer, it))
+    peer.waits(lambda it: it.named("ACK"), 10)
+    peer.send(data(b"old", 1, 0))
+    link.waits(lambda it: b"old" in it.out or b"6f6c64" in it.out, 10)
+    link.give(form([b"lost"]), close=False)
+    peer.waits(lambda it: it.named("DATA"), 10)
+    peer.send(STRT)
+    peer.waits(lambda it: len(it.named("STACK")) == 1, 10)
+    peer.send(ack(0) + data(b"new", 1, 0))
+    link.waits(lambda it: b"new" in it.out or b"6e6577" in it.out, 10)
+    peer.sock.shutdown(socket.SHUT_WR)
+    link.run.stdin.close()
+    must_end(str(options), link, 3, unacknowledged(1))
+    return link
+
+
+def test_events():
+    """With events the output has, as records whose lengths have the top bit set, what that of
+    lines has beside the messages, in the same order. Without them it has the messages alone."""
+    lines = ["notice Running", "notice HandedUp", "mail 6f6c64", "notice Restarted 1", "lost 1",
+             "notice Running", "notice HandedUp", "mail 6e6577"]
+    in_digits, with_events, alone = (
+        restarted(), restarted("--binary", "--events"), restarted("--binary"))
+    assert in_digits.lines()[:-1] == lines
+    assert in_lines(with_events.out) == lines
+    assert alone.out == binary([b"old", b"new"])
+    texts = [it for it in lines if not it.startswith("mail")]
+    assert [it for it in alone.errors() if it in texts] == texts
+    assert not set(with_events.errors()) & set(texts)
+    assert with_events.errors()[-2].startswith("state=")
+
+
+def test_events_among_long_messages():
+    """A message as long as there are is no event, and each is written whole."""
+    options = ("--binary", "--events", "--max", "16383")
+    one, two = tcp_pair(options, options)
+    messages = [drawn.randbytes(it) for it in (16383, 1, 16383)]
+    one.give(binary(messages))
+    two.give(binary(messages[::-1]))
+    for link, wanted in ((one, messages[::-1]), (two, messages)):
+        must_end("long messages", link, 0)
+        lines = in_lines(link.out)
+        assert lines[0] == "notice Running"
+        assert [it for it in lines if it.startswith("mail")] == [
+            f"mail {it.hex()}" for it in wanted]
+        rest = [it.split()[1] for it in lines if not it.startswith("mail")]
+        assert set(rest) <= {"Running", "RunningAndHandedUp", "HandedUp", "Acknowledged",
+                             "HandedUpAndAcknowledged"}
+        assert not any(it.startswith(("notice", "lost")) for it in link.errors())
+
+
+def test_events_of_lines():
+    """In lines the events are in the output anyway."""
+    link = Link("connect:127.0.0.1:1", "--events")
+    assert link.ended(10) == 2 and b"error: '--events' is for '--binary'" in link.err
 
 
 def test_digits():

@@ -513,8 +513,9 @@ def received(peer):
 COMMANDS = {  # the options of each: those that are in its table, and those that aren't
     "explain": (EXPLAIN, set()), "simulate": (SIMULATE, set()), "pair": (SIMULATE, set()),
     "station": (STATION, {"--addr"}), "tap": (TAP, {"--listen", "--connect"}),
-    # --only is for a line with callers, --baud for a device: test_callers.py, test_slow_lines.py.
-    "link": (LINK, {"--line", "--only", "--baud"}), "bridge": (BRIDGE, set()),
+    # --only is for a line with callers, --baud for a device, --events for --binary:
+    # test_callers.py, test_slow_lines.py, test_link_messages.py.
+    "link": (LINK, {"--line", "--only", "--baud", "--events"}), "bridge": (BRIDGE, set()),
 }
 RUNS = [*((explain, it) for it in chosen_of(EXPLAIN)),
         *((scripted, name, it) for name in ("simulate", "pair") for it in chosen_of(SIMULATE)),

@@ -136,6 +136,19 @@ def unpacked(text):
     return found
 
 
+def in_lines(text):
+    """An output with events as lines: of each record whose length has the top bit set its text, of
+    another its message as digits."""
+    lines, at = [], 0
+    while at + 2 <= len(text):
+        length = int.from_bytes(text[at:at + 2], "big")
+        record = text[at + 2:at + 2 + length % 0x8000]
+        lines.append(record.decode() if length & 0x8000 else f"mail {record.hex()}")
+        at += 2 + length % 0x8000
+    assert at == len(text)
+    return lines
+
+
 def mail_in(text):
     """The messages among the lines of an output."""
     lines = text.split(b"\n")[:-1]

@@ -24,7 +24,7 @@ use Rattle.ddcmp_args.specs.declared.link_args.LinkArgs.{LinkArgs}
 use Rattle.ddcmp_args.specs.declared.bridge_args.BridgeArgs.{BridgeArgs}
 use Rattle.ddcmp_bridge.specs.declared.faults.Faults.{Faults}
 use Rattle.ddcmp_streams.specs.declared.messages.MessageForm.{MessageForm}
-use Rattle.ddcmp_streams.specs.declared.messages.MessageForm.TheVariants.{Digits, Binary}
+use Rattle.ddcmp_streams.specs.declared.messages.MessageForm.TheVariants.{Digits, Binary, Events}
 use Rattle.ddcmp_streams.specs.declared.options.Options.{Options}
 use Rattle.ddcmp_args.specs.declared.view.ScriptView.{ScriptView}
 use Rattle.ddcmp_args.specs.declared.no_command.NoCommand.{NoCommand}
@@ -144,7 +144,8 @@ line_app =
 abbrev pub link_app : App
 link_app =
     with_rule (with_rule (with_rule (with_rule (with_rule (with_rule (with_rule (with_rule
-    (with_rule (with_rule (with_rule (with_rule (with_rule (with_rule (with_sizes line_app)
+    (with_rule (with_rule (with_rule (with_rule (with_rule (with_rule (with_rule
+    (with_sizes line_app)
     (number_rule (codes "timer-ms") 1 MOST))
     (number_rule (codes "attempts") 0 MOST))
     (number_rule (codes "linger-ms") 0 MOST))
@@ -152,6 +153,7 @@ link_app =
     (number_rule (codes "seconds") 1 MOST))
     (number_rule (codes "report") 0 MOST))
     (flag_rule (codes "binary")))
+    (flag_rule (codes "events")))
     (flag_rule (codes "maintenance")))
     (flag_rule (codes "stay")))
     (flag_rule (codes "again")))
@@ -345,9 +347,15 @@ timers_lingered line =
 abbrev pub default_linger_of : Text → ℕ → ℕ
 default_linger_of line timer_ms = min (timer_ms * timers_lingered line + 500) MOST
 
+-- messages in binary, with events among them if `--events` is given
+pub record HasBinary (events : Option Text) (form : MessageForm) : Type 0 where
+  pub given : events ≡ Some (codes "true") → form ≡ Events
+  pub left_out : events ≡ Some (codes "false") → form ≡ Binary
+  pub absent : events ≡ None → form ≡ Binary
+
 -- messages in binary, each after its length, if `--binary` is given, else as digits
-pub record HasMessages (binary : Option Text) (form : MessageForm) : Type 0 where
-  pub given : binary ≡ Some (codes "true") → form ≡ Binary
+pub record HasMessages (binary events : Option Text) (form : MessageForm) : Type 0 where
+  pub given : binary ≡ Some (codes "true") → HasBinary events form
   pub left_out : binary ≡ Some (codes "false") → form ≡ Digits
   pub absent : binary ≡ None → form ≡ Digits
 
@@ -363,7 +371,7 @@ pub record HasLinkOptions (line : Text) (option : Text → Option Text) (options
   pub seconds : HasNumber 1 MOST MOST (option (codes "seconds")) options.seconds
   pub baud : HasNumber 0 MOST 0 (option (codes "baud")) options.baud
   pub report : HasNumber 0 MOST 0 (option (codes "report")) options.report
-  pub form : HasMessages (option (codes "binary")) options.form
+  pub form : HasMessages (option (codes "binary")) (option (codes "events")) options.form
   pub maintenance : HasFlag (option (codes "maintenance")) options.maintenance
   pub stay : HasFlag (option (codes "stay")) options.stay
   pub awaits_end : options.awaits_end ≡ true
@@ -377,6 +385,7 @@ pub record HasLinkOptions (line : Text) (option : Text → Option Text) (options
 pub record HasLink (option text : Text → Option Text) (linked : LinkArgs) : Type 0 where
   pub line : linked.line.now ≡ unwrap_or (text (codes "line")) []
   pub only : option_map (λ host. host.now) linked.only ≡ text (codes "only")
+  pub events : HasFlag (option (codes "events")) linked.events
   pub options : HasLinkOptions linked.line.now option linked.options
 
 -- the faults that a bridge is to make

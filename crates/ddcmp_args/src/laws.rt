@@ -122,6 +122,7 @@ pub fn link_is_asked()
     ensures window { option_in (codes "ddcmp" ∷ codes "link" ∷ codes "--window=127" ∷ [])
         (codes "window") ≡ Some (codes "127") }
     ensures binary { IsSwitch (codes "link") (codes "--binary") (codes "binary") }
+    ensures events { IsSwitch (codes "link") (codes "--events") (codes "events") }
     ensures maintenance { IsSwitch (codes "link") (codes "--maintenance") (codes "maintenance") }
     ensures stay { IsSwitch (codes "link") (codes "--stay") (codes "stay") }
     ensures again { IsSwitch (codes "link") (codes "--again") (codes "again") }

@@ -26,6 +26,8 @@ pub struct LinkArgs<'a> {
     pub line: &'a str,
     /// The host whose callers are accepted, if it is given.
     pub only: Option<&'a str>,
+    /// Whether `--events` is given, which is for messages in binary.
+    pub events: bool,
     pub options: Options,
 }
 
@@ -48,7 +50,8 @@ Output, as it happens:
   state=S read=R written=W sent=M acknowledged=K handed=H
                          at the end: state, bytes of the line, messages
 With --binary each message is preceded by its length in two bytes, high byte first,
-and all else goes to standard error.
+and all else goes to standard error; with --events, too, notices and losses are in
+the output: the text of such a line after its length, whose top bit is set.
 With --maintenance, as for MOP, each message goes once: it may be lost, and is
 never damaged. A message counts as delivered once it is written.",
 };
@@ -60,7 +63,7 @@ static LINE_OPTIONS: [CommandOption; 2] = table! {
 };
 
 /// The options of a link apart from its line and its sizes.
-static LINK_OPTIONS: [CommandOption; 14] = table! {
+static LINK_OPTIONS: [CommandOption; 15] = table! {
     "timer-ms": Number(1, u32::MAX),
         "Reply timer in milliseconds, from 1 [default: 3000, over UDP 500]";
     "attempts": Number(0, u32::MAX),
@@ -72,6 +75,7 @@ static LINK_OPTIONS: [CommandOption; 14] = table! {
     "seconds": Number(1, u32::MAX), "End after N seconds, whatever the state";
     "report": Number(0, u32::MAX), "Report the counters on standard error every N seconds";
     "binary": Nothing, "Read and write messages as bytes after their length";
+    "events": Nothing, "With --binary, write notices among the messages";
     "maintenance": Nothing, "Exchange maintenance messages, which nobody acknowledges";
     "stay": Nothing, "Keep running once all input was delivered";
     "again": Nothing, "Open the line again if it ends or can't be opened";
@@ -133,12 +137,15 @@ fn default_linger(line: &str, timer_ms: u32) -> u32
 
 /// Returns the form of messages.
 fn messages_given(options: &ArgMatches<'_>) -> MessageForm
-    ensures { HasMessages (one_text (found_of options.now) (codes "binary")) result }
+    ensures { HasMessages (one_text (found_of options.now) (codes "binary"))
+        (one_text (found_of options.now) (codes "events")) result }
 {
-    if flag_given(options, "binary") {
-        MessageForm::Binary
-    } else {
+    if !flag_given(options, "binary") {
         MessageForm::Digits
+    } else if flag_given(options, "events") {
+        MessageForm::Events
+    } else {
+        MessageForm::Binary
     }
 }
 
@@ -171,6 +178,7 @@ pub(crate) fn link_given<'a>(options: &ArgMatches<'a>) -> LinkArgs<'a>
     LinkArgs {
         line,
         only: options.get_str("only"),
+        events: flag_given(options, "events"),
         options: link_options,
     }
 }

@@ -108,6 +108,7 @@ pub none-in-nothing : (f : MessageForm) (max : ℕ) → messages_of f max [] ≡
 unfolding got_in binary.told_in lines.told_in
 none-in-nothing form.Digits max = refl
 none-in-nothing form.Binary max = refl
+none-in-nothing form.Events max = refl
 
 -- before it is connected again, and since
 read-before : (call : SessionCall) (new : SessionView) (made : Made) (c : Connection)

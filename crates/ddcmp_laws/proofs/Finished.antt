@@ -1,7 +1,7 @@
 -- Runs over devices that ended well: what the output took of them.
-use Rattle.std.proofs.Common.{◌≡◌, ◌≤◌, ◌∙◌, ap, sym, subst, refl, ℕ, Bool, true, false, arith}
+use Rattle.std.proofs.Common.{◌≡◌, ◌≢◌, ◌≤◌, ◌∙◌, ap, sym, subst, refl, ℕ, Bool, true, false, arith}
 use Rattle.std.proofs.Common.{List, [], ◌∷◌, ◌++◌, ◌⊎◌, inl, inr, map, drop, length, Some}
-use Rattle.std.proofs.Common.{None, append_assoc, append-nil, take}
+use Rattle.std.proofs.Common.{None, absurd, append_assoc, append-nil, take}
 use Rattle.std.proofs.lemmas.List.{take-append-drop}
 use Rattle.ddcmp_input.specs.InBinary.{in_binary}
 use Rattle.ddcmp_io.specs.Queue.{QueueView}
@@ -30,7 +30,8 @@ use Rattle.ddcmp_laws.proofs.Anew.{Stays, stays_all, stays_first}
 use Rattle.ddcmp_laws.proofs.EndLaws.{Kept, Led, kept, led, only_writes, sizes_stay}
 use Rattle.ddcmp_laws.proofs.Outcomes.{read_all}
 use Rattle.ddcmp_laws.proofs.RunLaws.{given_binary}
-use Rattle.ddcmp_laws.proofs.Texts.{mail_is, mail_more, nothing_lost, only_mail}
+use Rattle.ddcmp_laws.proofs.Texts.{mail_is, mail_more, not-lines, not-lines-but-events}
+use Rattle.ddcmp_laws.proofs.Texts.{nothing_lost, only_mail}
 use Rattle.ddcmp_laws.proofs.Writing.{Writes, writes_all, writes_step}
 
 -- an output that is empty has room for a message of any length
@@ -221,17 +222,27 @@ module _ (is_well : Bool) (ran : Ran) (held : BuffersView) (t after : Traffic) (
   kind_first : form_of delivered.messages ≡ f
   kind_first = first.form ∙ fin.ended.closes.closed.form ∙ stays.holds.kind
 
-  lines_text : (f ≡ form.Binary) ⊎ (last.output.is_cut ≡ false)
+  lines_text : (f ≢ form.Digits) ⊎ (last.output.is_cut ≡ false)
       → lined.output.waiting ≡ last_text f last
   lines_text (inl binary) =
-      ap (λ (s : SessionView). s.output.waiting) (ends.binary (kind_first ∙ binary))
+      ap (λ (s : SessionView). s.output.waiting) (ends.binary (λ e. binary (sym kind_first ∙ e)))
       ∙ none_first_waits
-      ∙ ap (λ g. last_text g last) (sym binary)
+      ∙ by f binary
+    where
+      by : (g : MessageForm) → g ≢ form.Digits → [] ≡ last_text g last
+      by form.Digits lines = absurd (lines refl)
+      by form.Binary lines = refl
+      by form.Events lines = refl
   lines_text (inr whole) = by f refl
     where
       by : (g : MessageForm) → f ≡ g → lined.output.waiting ≡ last_text g last
       by form.Binary is =
-          ap (λ (s : SessionView). s.output.waiting) (ends.binary (kind_first ∙ is))
+          ap (λ (s : SessionView). s.output.waiting)
+          (ends.binary (not-lines (form_of delivered.messages) (kind_first ∙ is)))
+          ∙ none_first_waits
+      by form.Events is =
+          ap (λ (s : SessionView). s.output.waiting)
+          (ends.binary (not-lines-but-events (form_of delivered.messages) (kind_first ∙ is)))
           ∙ none_first_waits
       by form.Digits is =
           lines_in delivered.output lined.output
@@ -294,7 +305,7 @@ arrives giver taker does delivers files messages fit held other_held t other_t a
     let all =
     took_all true taker other_held other_t other_after other_last does took
     (took.finishes.well refl).0 refl in
-    all.wrote (inl files.taker_form)
+    all.wrote (inl (not-lines f files.taker_form))
     ∙ ap (λ g. texts_of g shown ++ last_text g other_last) files.taker_form
     ∙ append-nil (texts_of form.Binary shown)
     ∙ only_mail shown

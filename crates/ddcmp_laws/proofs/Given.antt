@@ -19,7 +19,7 @@ use Rattle.ddcmp_input.proofs.LineLaws as in_lines
 use Rattle.ddcmp_streams.specs.declared.messages.MessageForm.{MessageForm}
 use Rattle.ddcmp_streams.specs.declared.messages.MessageForm.TheVariants as form
 use Rattle.ddcmp_streams.specs.declared.messages.Messages.{Messages}
-use Rattle.ddcmp_streams.specs.declared.messages.Messages.TheVariants.{Digits, Binary}
+use Rattle.ddcmp_streams.specs.declared.messages.Messages.TheVariants.{Digits, Binary, Events}
 use Rattle.ddcmp_streams.specs.Messages.{after_input, count_of, entries_of_input, entry_of_last}
 use Rattle.ddcmp_streams.specs.Messages.{messages_among, messages_begun}
 use Rattle.ddcmp_session.specs.Session.{form_of, lost_among, lost_at_end, lost_with_last}
@@ -124,6 +124,14 @@ messages_more form.Binary max input more =
       λ m is none. binary_none more v (subst (λ x. messages_among (entries_of_input more x) ≡ 0)
           is none),
     )
+messages_more form.Events max input more =
+    let v = lengths.after_bytes input (lengths.begun max) in (
+      got_in (binary.told_in more v),
+      ap got_in (in_binary.told_more input more (lengths.begun max))
+          ∙ got_more (binary.told_in input (lengths.begun max)) (binary.told_in more v),
+      λ m is none. binary_none more v (subst (λ x. messages_among (entries_of_input more x) ≡ 0)
+          is none),
+    )
 
 -- ---- what is left, and the end
 
@@ -132,6 +140,7 @@ entries_more : (xs ys : List ℕ) (m : Messages)
     ≡ entries_of_input xs m ++ entries_of_input ys (after_input xs m)
 entries_more xs ys (Digits v) = hex_laws.entries_of_more xs ys v
 entries_more xs ys (Binary v) = length_laws.entries_of_more xs ys v
+entries_more xs ys (Events v) = length_laws.entries_of_more xs ys v
 
 abbrev ending : MessageForm → Bool → List ℕ
 ending f over = cond over (end_in f) []
@@ -140,6 +149,7 @@ nothing : (m : Messages) → messages_among (entries_of_input [] m) ≡ 0
 unfolding messages_among hex.entries_of_bytes lengths.entries_of_bytes
 nothing (Digits v) = refl
 nothing (Binary v) = refl
+nothing (Events v) = refl
 
 none_ending : (f : MessageForm) (over : Bool) (m : Messages) → form_of m ≡ f
     → lost_with_last over m ≡ 0 → messages_among (entries_of_input (ending f over) m) ≡ 0

@@ -29,7 +29,7 @@ use Rattle.ddcmp_input.proofs.HexLinesLaws as hex_laws
 use Rattle.ddcmp_streams.specs.declared.messages.MessageForm.{MessageForm}
 use Rattle.ddcmp_streams.specs.declared.messages.MessageForm.TheVariants as form
 use Rattle.ddcmp_streams.specs.declared.messages.Messages.{Messages}
-use Rattle.ddcmp_streams.specs.declared.messages.Messages.TheVariants.{Digits, Binary}
+use Rattle.ddcmp_streams.specs.declared.messages.Messages.TheVariants.{Digits, Binary, Events}
 use Rattle.ddcmp_streams.specs.Messages.{messages_begun, message_in, after_input, entries_of_input}
 use Rattle.ddcmp_session.specs.Calls.{CompletesLast}
 use Rattle.ddcmp_laws.specs.Sessions.{got, got_in, messages_of}
@@ -172,6 +172,16 @@ read_more form.Binary max input used m is part =
   where
     v : LengthsView
     v = lengths.after_bytes input (lengths.begun max)
+read_more form.Events max input used m is part =
+    subst (ReadsMore form.Events max input used) (sym is) (
+    ap got_in (in_binary.told_more input used (lengths.begun max))
+    ∙ got_more (binary.told_in input (lengths.begun max)) (binary.told_in used v)
+    ∙ ap (λ ms. messages_of form.Events max input ++ ms)
+    (read_binary used v (subst (CompletesLast used) is part))
+    )
+  where
+    v : LengthsView
+    v = lengths.after_bytes input (lengths.begun max)
 
 pub after_more : (f : MessageForm) (max : ℕ) (input used : List ℕ) (m : Messages)
     → m ≡ after_input input (messages_begun f max)
@@ -181,6 +191,9 @@ after_more form.Digits max input used m is =
 after_more form.Binary max input used m is =
     ap (after_input used) is
     ∙ ap Binary (sym (length_laws.after_more input used (lengths.begun max)))
+after_more form.Events max input used m is =
+    ap (after_input used) is
+    ∙ ap Events (sym (length_laws.after_more input used (lengths.begun max)))
 
 -- ---- no message is too long: in binary
 
@@ -449,6 +462,10 @@ read_fits form.Digits max input used m is part =
     none : None ≡ Some Message → ⊥
     none e = cc
 read_fits form.Binary max input used m is part =
+    subst (ReadFits max used) (sym is)
+    (fits_in_binary max used (lengths.after_bytes input (lengths.begun max))
+    (fit_binary max input (lengths.begun max) (refl, tt)) (subst (CompletesLast used) is part))
+read_fits form.Events max input used m is part =
     subst (ReadFits max used) (sym is)
     (fits_in_binary max used (lengths.after_bytes input (lengths.begun max))
     (fit_binary max input (lengths.begun max) (refl, tt)) (subst (CompletesLast used) is part))

@@ -103,6 +103,7 @@ pub mod Outcomes
 pub mod OverLines
 pub mod Pipes
 pub mod Reading
+pub mod Records
 pub mod Ready
 pub mod RunLaws
 pub mod SessionSleeping

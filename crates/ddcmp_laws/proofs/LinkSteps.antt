@@ -435,6 +435,16 @@ begun_holds form.Binary o kind line of_data = (
   },
   refl,
 )
+begun_holds form.Events o kind line of_data = (
+  record {
+    kind = refl;
+    longest = refl;
+    reads = λ going. refl;
+    text = refl;
+    of_data = of_data;
+  },
+  refl,
+)
 
 pub begins : (o : Options) (kind : LineKind) (line : ReaderView)
     → o.maintenance ≡ false

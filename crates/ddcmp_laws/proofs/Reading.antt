@@ -13,7 +13,7 @@ use Rattle.ddcmp_station.specs.Linking.{LinkView}
 use Rattle.ddcmp_station.specs.Linking.{after_offered, takes_message}
 use Rattle.ddcmp_streams.specs.declared.messages.MessageForm.{MessageForm}
 use Rattle.ddcmp_streams.specs.declared.messages.Messages.{Messages}
-use Rattle.ddcmp_streams.specs.declared.messages.Messages.TheVariants.{Digits, Binary}
+use Rattle.ddcmp_streams.specs.declared.messages.Messages.TheVariants.{Digits, Binary, Events}
 use Rattle.ddcmp_streams.specs.Messages.{message_in, after_input, entries_of_input}
 use Rattle.ddcmp_streams.specs.Messages.{after_last, entry_of_last, has_last_line}
 use Rattle.ddcmp_streams.specs.Messages.{is_message_unfinished}
@@ -203,6 +203,7 @@ pub none_read : (m : Messages) → entries_of_input [] m ≡ []
 unfolding lengths.entries_of_bytes hex.entries_of_bytes
 none_read (Digits v) = refl
 none_read (Binary v) = refl
+none_read (Events v) = refl
 
 pub if_message : (es : List Entry) {P : Type 0} → P → IfMessage es P
 if_message [] p = tt
@@ -299,6 +300,7 @@ last_reads (Digits v) = record {
   part = one_byte (Digits v);
 }
 last_reads (Binary v) = record { state = refl; entries = refl; part = no_byte (Binary v) }
+last_reads (Events v) = record { state = refl; entries = refl; part = no_byte (Events v) }
 
 abbrev pub KeepsView : SessionView → SessionView → Type 0
 KeepsView s new =

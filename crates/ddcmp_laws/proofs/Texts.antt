@@ -102,6 +102,12 @@ took f written n shown old new was left =
     ∙ was
     ∙ ap (texts_of f) (sym (append-nil shown))
 
+pub not-lines : (f : MessageForm) → f ≡ form.Binary → f ≡ form.Digits → ⊥
+not-lines f is e = cc
+
+pub not-lines-but-events : (f : MessageForm) → f ≡ form.Events → f ≡ form.Digits → ⊥
+not-lines-but-events f is e = cc
+
 -- in binary a text is its messages, each behind its length
 pub only_mail : (shown : List Shown) → texts_of form.Binary shown ≡ in_binary (mail_in shown)
 unfolding texts_of in_binary mail_in

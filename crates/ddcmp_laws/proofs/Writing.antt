@@ -10,7 +10,7 @@ use Rattle.ddcmp_proto.specs.Bytes.{notices_of_piece}
 use Rattle.ddcmp_streams.specs.declared.messages.MessageForm.{MessageForm}
 use Rattle.ddcmp_streams.specs.declared.messages.MessageForm.TheVariants as form
 use Rattle.ddcmp_streams.specs.declared.messages.Messages.{Messages}
-use Rattle.ddcmp_streams.specs.declared.messages.Messages.TheVariants.{Digits, Binary}
+use Rattle.ddcmp_streams.specs.declared.messages.Messages.TheVariants.{Digits, Binary, Events}
 use Rattle.ddcmp_io.specs.declared.line_kind.LineKind.{LineKind}
 use Rattle.ddcmp_streams.specs.declared.options.Options.{Options}
 use Rattle.ddcmp_streams.specs.Messages.{messages_begun, after_input, entries_of_input, after_last}
@@ -60,6 +60,7 @@ unfinished_keeps s = by (is_message_unfinished s.messages)
 last_form : (m : Messages) → form_of (after_last m) ≡ form_of m
 last_form (Digits v) = refl
 last_form (Binary v) = refl
+last_form (Events v) = refl
 
 pub ended_keeps : (s : SessionView) → Keeps s (after_input_end s)
 ended_keeps s = by (takes_end s)
@@ -181,6 +182,7 @@ writes_all f (step ∷ rest) h does w =
 begun_kind : (f : MessageForm) (max : ℕ) → form_of (messages_begun f max) ≡ f
 begun_kind form.Digits max = refl
 begun_kind form.Binary max = refl
+begun_kind form.Events max = refl
 
 pub is_text : (o : Options) (kind : LineKind) (line : ReaderView) (steps : List SessionStep)
     → IsSessionHistory steps (new_session o kind line)

@@ -1,16 +1,16 @@
 -- Sessions as callers of their links: which calls of its link each call of a session makes.
-use Rattle.std.specs.Prelude.{◌≡◌, ℕ, zero, suc, true, false, if◌then◌else◌, List, [], ◌∷◌, ◌++◌}
-use Rattle.std.specs.Prelude.{map, option_to_list}
+use Rattle.std.specs.Prelude.{◌≡◌, ⊤, ℕ, zero, suc, ◌+◌, ◌*◌, ◌%◌, ◌<◌, true, false, List, [], ◌∷◌, ◌++◌}
+use Rattle.std.specs.Prelude.{if◌then◌else◌, drop, length, map, nat_lt, option_to_list, take}
 use Rattle.ddcmp_input.specs.declared.entry.Entry.{Entry}
 use Rattle.ddcmp_input.specs.declared.entry.Entry.TheVariants.{Message}
 use Rattle.ddcmp_input.specs.Told.{Told, Got, Refused}
 use Rattle.ddcmp_station.specs.Linking.{LinkView, after_frame}
 use Rattle.ddcmp_streams.specs.declared.messages.MessageForm.{MessageForm}
-use Rattle.ddcmp_streams.specs.declared.messages.MessageForm.TheVariants.{Digits, Binary}
+use Rattle.ddcmp_streams.specs.declared.messages.MessageForm.TheVariants.{Digits, Binary, Events}
 use Rattle.ddcmp_streams.specs.Messages.{message_in, after_input, entries_of_input, after_last}
 use Rattle.ddcmp_streams.specs.Messages.{entry_of_last}
 use Rattle.ddcmp_session.specs.Session.{SessionView, takes_end}
-use Rattle.ddcmp_session.specs.Text.{mail_text, notice_text, lost_text}
+use Rattle.ddcmp_session.specs.Text.{mail_text, notice_text, lost_text, dropped_by, lost_words, notice_words}
 use Rattle.ddcmp_laws.specs.Links.{LinkCall, BeginsAnew, Halts, Wakes, Offers, FillsOne}
 use Rattle.ddcmp_laws.specs.Links.{IsSent, Feeds, Takes, LinkStep, LinkHistory}
 use Rattle.ddcmp_session.specs.Calls.{SessionCall, InputRead, InputEnded, Connected, LineEnded}
@@ -38,6 +38,7 @@ abbrev pub messages_of : MessageForm → ℕ → List ℕ → List (List ℕ)
 messages_of Digits max input =
     got_in (map (λ (told : ℕ × Told). told.1) (lines.told_in input (hex.begun max)))
 messages_of Binary max input = got_in (binary.told_in input (lengths.begun max))
+messages_of Events max input = got_in (binary.told_in input (lengths.begun max))
 
 abbrev pub mail_of : Shown → List (List ℕ)
 mail_of (Mail message) = message ∷ []
@@ -56,6 +57,28 @@ text_of form (Loses count) = lost_text form count
 unfoldable pub texts_of : MessageForm → List Shown → List ℕ
 texts_of form [] = []
 texts_of form (one ∷ rest) = text_of form one ++ texts_of form rest
+
+-- What a reader takes for messages of an output with events: of each record, of which it reads at
+-- most `n`, the bytes after its length, unless the top bit of that is set.
+unfoldable pub mail_among : ℕ → List ℕ → List (List ℕ)
+mail_among zero text = []
+mail_among (suc n) [] = []
+mail_among (suc n) (high ∷ []) = []
+mail_among (suc n) (high ∷ low ∷ rest) =
+    let size = high % 128 * 256 + low in
+    (if nat_lt high 128 then take size rest ∷ [] else []) ++ mail_among n (drop size rest)
+
+-- The length of a record has 15 bits beside that one. A message has at most 16,383 bytes, and a
+-- number three digits.
+abbrev pub IsShort : Shown → Type 0
+IsShort (Mail message) = length message < 32768
+IsShort (Reports notice) =
+    (length (notice_words notice) < 32768) × (length (lost_words (dropped_by notice)) < 32768)
+IsShort (Loses count) = length (lost_words count) < 32768
+
+unfoldable pub AreShort : List Shown → Type 0
+AreShort [] = ⊤
+AreShort (one ∷ rest) = IsShort one × AreShort rest
 
 -- ---- its link
 

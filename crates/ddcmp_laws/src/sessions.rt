@@ -1,15 +1,15 @@
 //! A session does what its link does, and writes the text of that.
-ghost use Rattle.std.specs.Prelude.{◌≡◌, ◌++◌, List, false};
+ghost use Rattle.std.specs.Prelude.{◌≡◌, ◌≤◌, ◌++◌, ℕ, List, false, length};
 ghost use Rattle.ddcmp_frame.specs.Reader.{ReaderView};
 ghost use Rattle.ddcmp_input.specs.InBinary.{in_binary};
 ghost use Rattle.ddcmp_io.specs.declared.line_kind.LineKind.{LineKind as LineKindValue};
 ghost use Rattle.ddcmp_streams.specs.declared.options.Options.{Options as OptionsValue};
-ghost use Rattle.ddcmp_streams.specs.declared.messages.MessageForm.TheVariants.{Binary};
+ghost use Rattle.ddcmp_streams.specs.declared.messages.MessageForm.TheVariants.{Binary, Events};
 ghost use Rattle.ddcmp_laws.specs.Links.{IsHistory, after_history, new_history, offered_in};
 ghost use Rattle.ddcmp_session.specs.Calls.{SessionStep, new_session, IsSessionHistory};
 ghost use Rattle.ddcmp_session.specs.Calls.{after_session_steps, Shown};
 ghost use Rattle.ddcmp_laws.specs.Sessions.{link_steps_in, IsOfLink, messages_of, mail_in};
-ghost use Rattle.ddcmp_laws.specs.Sessions.{texts_of};
+ghost use Rattle.ddcmp_laws.specs.Sessions.{AreShort, mail_among, texts_of};
 
 /// Each list of calls of a new session of data messages makes a list of calls of its link. These
 /// use and write the same bytes of the line; they offer the messages of the input, in their order,
@@ -38,7 +38,8 @@ pub fn session_calls_are_link_calls()
 
 /// The bytes that a new session wrote to standard output, and then those queued for it, are the
 /// text of the messages that were delivered and of what was reported, in their order. In binary
-/// they are the messages alone, each after its length.
+/// they are the messages alone, each after its length; with events, a reader that skips each record
+/// whose length has the top bit set gets exactly the messages.
 pub fn output_is_text_of()
     ensures text { (options : OptionsValue) (kind : LineKindValue) (line : ReaderView)
         (steps : List SessionStep)
@@ -49,4 +50,7 @@ pub fn output_is_text_of()
         ≡ texts_of options.form
         (after_session_steps steps (new_session options kind line)).shown }
     ensures binary { (shown : List Shown) → texts_of Binary shown ≡ in_binary (mail_in shown) }
+    ensures events { (shown : List Shown) → AreShort shown → (n : ℕ)
+        → length (texts_of Events shown) ≤ n
+        → mail_among n (texts_of Events shown) ≡ mail_in shown }
 {}

@@ -11,7 +11,7 @@ use Rattle.ddcmp_core.specs.Table.{may_send, may_send_maintenance, after_accept}
 use Rattle.ddcmp_station.specs.Linking.{after_offered, after_offered_maintenance, with_state}
 use Rattle.ddcmp_station.specs.Linking.{total_plus}
 use Rattle.ddcmp_streams.specs.declared.messages.Messages.{Messages}
-use Rattle.ddcmp_streams.specs.declared.messages.Messages.TheVariants.{Digits, Binary}
+use Rattle.ddcmp_streams.specs.declared.messages.Messages.TheVariants.{Digits, Binary, Events}
 use Rattle.ddcmp_streams.specs.Messages.{message_in, after_input, entries_of_input, after_last}
 use Rattle.ddcmp_streams.specs.Messages.{entry_of_last, has_last_line, is_message_unfinished}
 use Rattle.ddcmp_session.specs.Session.{after_entry, after_entries, after_input_read}
@@ -254,6 +254,7 @@ types {held} {known} old new n does =
 last-form : (m : Messages) → form_of (after_last m) ≡ form_of m
 last-form (Digits v) = refl
 last-form (Binary v) = refl
+last-form (Events v) = refl
 
 unfinished-line : (s : SessionView) → (after_unfinished s).link.station.line ≡ s.link.station.line
 unfinished-line s = by (is_message_unfinished s.messages)

@@ -12,7 +12,7 @@ use Rattle.std.specs.Prelude.{option_to_list}
 use Rattle.ddcmp_input.specs.HexLines as lines
 use Rattle.ddcmp_input.specs.Lengths as lengths
 use Rattle.ddcmp_streams.specs.declared.messages.Messages.{Messages}
-use Rattle.ddcmp_streams.specs.declared.messages.Messages.TheVariants.{Digits, Binary}
+use Rattle.ddcmp_streams.specs.declared.messages.Messages.TheVariants.{Digits, Binary, Events}
 use Rattle.ddcmp_streams.specs.Messages.{after_input, entries_of_input}
 use Rattle.ddcmp_session.specs.Session.{SessionView, after_input_read, after_entries, form_of}
 use Rattle.ddcmp_session.specs.Session.{wants_input}
@@ -21,11 +21,13 @@ pub no-entries : (m : Messages) → entries_of_input [] m ≡ []
 unfolding lines.entries_of_bytes lengths.entries_of_bytes
 no-entries (Digits v) = refl
 no-entries (Binary v) = refl
+no-entries (Events v) = refl
 
 pub nothing-read : (m : Messages) → after_input [] m ≡ m
 unfolding lines.after_bytes lengths.after_bytes
 nothing-read (Digits v) = refl
 nothing-read (Binary v) = refl
+nothing-read (Events v) = refl
 
 pub nothing-input_read : (s : SessionView) → s ≡ after_input_read [] s
 nothing-input_read s =
@@ -41,6 +43,7 @@ one-entry (Some x) e is = cc
 pub form-stays : (bytes : List ℕ) (m : Messages) → form_of (after_input bytes m) ≡ form_of m
 form-stays bytes (Digits v) = refl
 form-stays bytes (Binary v) = refl
+form-stays bytes (Events v) = refl
 
 -- ---- the bytes that `input_read` takes
 
@@ -55,6 +58,10 @@ none_in_front front byte (Digits v) e =
     (option_to_list (lines.entry_of_byte byte (lines.after_bytes front v)))
     (sym (line_laws.entries_of_last front byte v) ∙ e)
 none_in_front front byte (Binary v) e =
+    empty_front (lengths.entries_of_bytes front v)
+    (option_to_list (lengths.entry_of_byte byte (lengths.after_bytes front v)))
+    (sym (length_laws.entries_of_last front byte v) ∙ e)
+none_in_front front byte (Events v) e =
     empty_front (lengths.entries_of_bytes front v)
     (option_to_list (lengths.entry_of_byte byte (lengths.after_bytes front v)))
     (sym (length_laws.entries_of_last front byte v) ∙ e)

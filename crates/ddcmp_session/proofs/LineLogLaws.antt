@@ -33,18 +33,21 @@ traces-none goes old new is same = subst (λ t. Traces goes t old new) (sym is) 
 abbrev pub HasNoticeLine : MessageForm → Notice → ErrorsView → ErrorsView → Type 0
 HasNoticeLine form.Digits n old new = new ≡ old
 HasNoticeLine form.Binary n old new = HasLine SHORT_LINE (notice_line [] n) old new
+HasNoticeLine form.Events n old new = new ≡ old
 
 pub lost-none : (by : MessageForm) (count : ℕ) (e : ErrorsView) → count ≡ 0 → HasLost by count e e
 lost-none form.Digits count e is = refl
 lost-none form.Binary count e is =
     if-room (count == 0) (e ≡ e) (HasLine SHORT_LINE (lost_line count) e e) (ap (λ n. n == 0) is)
     refl
+lost-none form.Events count e is = refl
 
 pub noticed : (by : MessageForm) (n : Notice) (old mid new : ErrorsView)
     → HasNoticeLine by n old mid
     → HasLost by (dropped_by n) mid new → HasNotice by n old new
 noticed form.Digits n old mid new line lost = lost ∙ line
 noticed form.Binary n old mid new line lost = (mid, line, lost)
+noticed form.Events n old mid new line lost = lost ∙ line
 
 -- what isn't a restart drops nothing
 pub drops-none : (n : Notice) → ((count : ℕ) → n ≡ notice.Restarted count → ⊥)
@@ -69,6 +72,11 @@ noticed-alone by n old new is line =
 pub line-in-digits : (by : MessageForm) (n : Notice) (old new : ErrorsView) → by ≡ form.Digits
     → new ≡ old → HasNoticeLine by n old new
 line-in-digits by n old new is same =
+    subst (λ f. HasNoticeLine f n old new) (sym is) same
+
+pub line-in-events : (by : MessageForm) (n : Notice) (old new : ErrorsView) → by ≡ form.Events
+    → new ≡ old → HasNoticeLine by n old new
+line-in-events by n old new is same =
     subst (λ f. HasNoticeLine f n old new) (sym is) same
 
 pub line-in-binary : (by : MessageForm) (n : Notice) (old mid new : ErrorsView) → by ≡ form.Binary

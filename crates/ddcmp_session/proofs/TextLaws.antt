@@ -5,7 +5,7 @@ use Rattle.std.proofs.Common.{length, arith, codes, length-append}
 use Rattle.hex.specs.Hex.{encode_lower, lower_digits}
 use Rattle.hex.proofs.HexLemmas.{length-encode_with}
 use Rattle.ddcmp_streams.specs.declared.messages.MessageForm.{MessageForm}
-use Rattle.ddcmp_streams.specs.declared.messages.MessageForm.TheVariants.{Digits, Binary}
+use Rattle.ddcmp_streams.specs.declared.messages.MessageForm.TheVariants.{Digits, Binary, Events}
 use Rattle.ddcmp_io.specs.Queue.{QueueView, after_pushed}
 use Rattle.ddcmp_session.specs.Text.{Puts, Wrote, mail_text}
 use Rattle.ddcmp_session.specs.declared.text.TheConstants.{LINE_ROOM}
@@ -75,3 +75,4 @@ mail-short Digits message =
       length-append (encode_lower message) (codes "\n"),
     )
 mail-short Binary message = omega arith
+mail-short Events message = omega arith

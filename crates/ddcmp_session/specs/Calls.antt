@@ -9,7 +9,7 @@ use Rattle.ddcmp_proto.specs.Bytes.{notices_of_piece, after_piece}
 use Rattle.ddcmp_station.specs.Linking.{after_frames, after_sent, after_taking}
 use Rattle.ddcmp_station.specs.Linking.{with_state}
 use Rattle.ddcmp_streams.specs.declared.messages.MessageForm.{MessageForm}
-use Rattle.ddcmp_streams.specs.declared.messages.MessageForm.TheVariants.{Digits, Binary}
+use Rattle.ddcmp_streams.specs.declared.messages.MessageForm.TheVariants.{Digits, Binary, Events}
 use Rattle.ddcmp_streams.specs.declared.messages.Messages.{Messages}
 use Rattle.ddcmp_streams.specs.Messages.{entries_of_input}
 use Rattle.ddcmp_io.specs.Queue.{after_taken}
@@ -184,6 +184,7 @@ gone_in _ s = []
 abbrev pub end_in : MessageForm → List ℕ
 end_in Digits = 10 ∷ []
 end_in Binary = []
+end_in Events = []
 
 abbrev pub input_in : SessionCall → SessionView → List ℕ
 input_in (InputRead used) s = used

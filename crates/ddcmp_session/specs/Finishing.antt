@@ -1,10 +1,10 @@
 -- The end of a run: received messages are delivered, and then the last lines are written.
-use Rattle.std.specs.Prelude.{◌≡◌, ◌≤◌, ⊤, ℕ, Bool, true, false, List, [], ◌∷◌, ◌++◌}
+use Rattle.std.specs.Prelude.{◌≡◌, ◌≢◌, ◌≤◌, ⊤, ℕ, Bool, true, false, List, [], ◌∷◌, ◌++◌}
 use Rattle.std.specs.Prelude.{Option, None, Some}
 use Rattle.ddcmp_io.specs.Written.{HandsOver}
 use Rattle.ddcmp_window.specs.Store.{first_message}
 use Rattle.ddcmp_session.specs.declared.devices.DeviceFault.{DeviceFault}
-use Rattle.ddcmp_streams.specs.declared.messages.MessageForm.TheVariants.{Digits, Binary}
+use Rattle.ddcmp_streams.specs.declared.messages.MessageForm.TheVariants.{Digits}
 use Rattle.ddcmp_session.specs.Session.{SessionView, form_of, room_for_mail}
 use Rattle.ddcmp_session.specs.Calls.{SessionCall, Delivered, OutputTook, SessionDoes}
 use Rattle.ddcmp_session.specs.Calls.{SessionStep, written_in}
@@ -67,7 +67,7 @@ pub record WritesEnd (old new : SessionView) : Type 0 where
   pub lines : form_of old.messages ≡ Digits
       → HandsOver (queued old.output) (queued new.output)
       (end_text old.options.counters old.link)
-  pub binary : form_of old.messages ≡ Binary → new ≡ old
+  pub binary : form_of old.messages ≢ Digits → new ≡ old
   pub stays : new ≡ record old { output = new.output }
 
 abbrev pub WritesEndIf : Bool → SessionView → SessionView → Type 0

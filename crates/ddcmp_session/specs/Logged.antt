@@ -90,11 +90,12 @@ HasReport true lost d old new =
     HasObject (2 * END_ROOM + LAST_ROOM) (report_members lost d) old new
 
 -- how many accepted messages were dropped, if any, with messages in binary; otherwise this goes to
--- standard output
+-- standard output, as events do
 abbrev pub HasLost : MessageForm → ℕ → ErrorsView → ErrorsView → Type 0
 HasLost form.Digits count old new = new ≡ old
 HasLost form.Binary count old new =
     MatchBool (count == 0) (new ≡ old) (HasLine SHORT_LINE (lost_line count) old new)
+HasLost form.Events count old new = new ≡ old
 
 -- a notice, and how many messages it drops
 abbrev pub HasNotice : MessageForm → Notice → ErrorsView → ErrorsView → Type 0
@@ -102,6 +103,7 @@ HasNotice form.Digits notice old new = new ≡ old
 HasNotice form.Binary notice old new =
     (mid : ErrorsView) × HasLine SHORT_LINE (notice_line [] notice) old mid
     × HasLost form.Binary (dropped_by notice) mid new
+HasNotice form.Events notice old new = new ≡ old
 
 abbrev pub HasNotices : MessageForm → List Notice → ErrorsView → ErrorsView → Type 0
 HasNotices by [] old new = new ≡ old

@@ -23,7 +23,7 @@ use Rattle.ddcmp_session.specs.declared.course.Wrong.TheVariants.{Damaged, TooLo
 use Rattle.ddcmp_streams.specs.declared.messages.MessageForm.{MessageForm}
 use Rattle.ddcmp_streams.specs.declared.messages.MessageForm.TheVariants as form
 use Rattle.ddcmp_streams.specs.declared.messages.Messages.{Messages}
-use Rattle.ddcmp_streams.specs.declared.messages.Messages.TheVariants.{Digits, Binary}
+use Rattle.ddcmp_streams.specs.declared.messages.Messages.TheVariants.{Digits, Binary, Events}
 use Rattle.ddcmp_io.specs.LineKinds.{is_connection}
 use Rattle.ddcmp_io.specs.declared.line_kind.LineKind.{LineKind}
 use Rattle.ddcmp_io.specs.declared.line_kind.LineKind.TheVariants.{Device}
@@ -60,6 +60,7 @@ pub record SessionView : Type 0 where
 abbrev pub form_of : Messages → MessageForm
 form_of (Digits v) = form.Digits
 form_of (Binary v) = form.Binary
+form_of (Events v) = form.Events
 
 -- a new session, whose line has received no bytes
 abbrev pub session_made : Options → LineKind → ReaderView → SessionView

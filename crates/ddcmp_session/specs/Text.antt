@@ -1,36 +1,51 @@
 -- The text that a session writes to standard output.
-use Rattle.std.specs.Prelude.{◌≡◌, ℕ, ◌+◌, ◌≤◌, Bool, ◌==◌, if◌then◌else◌, List, [], ◌∷◌, ◌++◌}
+use Rattle.std.specs.Prelude.{◌≡◌, ℕ, ◌+◌, ◌/◌, ◌%◌, ◌≤◌, Bool, ◌==◌, if◌then◌else◌, List, [], ◌∷◌, ◌++◌}
 use Rattle.std.specs.Prelude.{codes, decimal, length}
 use Rattle.hex.specs.Hex.{encode_lower}
 use Rattle.ddcmp_core.specs.declared.notice.Notice.{Notice}
 use Rattle.ddcmp_core.specs.declared.notice.Notice.TheVariants as notice
 use Rattle.ddcmp_input.specs.InBinary.{behind_length}
-use Rattle.ddcmp_station.specs.StationText.{notice_line}
+use Rattle.ddcmp_station.specs.StationText.{notice_line, notice_number, notice_word, number_text}
 use Rattle.ddcmp_streams.specs.declared.messages.MessageForm.{MessageForm}
-use Rattle.ddcmp_streams.specs.declared.messages.MessageForm.TheVariants.{Digits, Binary}
+use Rattle.ddcmp_streams.specs.declared.messages.MessageForm.TheVariants.{Digits, Binary, Events}
 use Rattle.ddcmp_io.specs.Queue.{QueueView, after_pushed}
 
 -- a received message
 abbrev pub mail_text : MessageForm → List ℕ → List ℕ
 mail_text Digits message = codes "mail " ++ encode_lower message ++ codes "\n"
 mail_text Binary message = behind_length message
+mail_text Events message = behind_length message
+
+-- An event among messages in binary: its text after its length, of which the top bit is set.
+abbrev pub event_text : List ℕ → List ℕ
+event_text text = (32768 + length text) / 256 ∷ (32768 + length text) % 256 ∷ text
 
 -- how many accepted messages were dropped, if any
 abbrev pub lost_line : ℕ → List ℕ
 lost_line count = codes "lost " ++ decimal count ++ codes "\n"
 
+-- the same without the end of the line
+abbrev pub lost_words : ℕ → List ℕ
+lost_words count = codes "lost " ++ decimal count
+
 abbrev pub lost_text : MessageForm → ℕ → List ℕ
 lost_text Digits count = if count == 0 then [] else lost_line count
 lost_text Binary count = []
+lost_text Events count = if count == 0 then [] else event_text (lost_words count)
 
 abbrev pub dropped_by : Notice → ℕ
 dropped_by (notice.Restarted count) = count
 dropped_by _ = 0
 
--- a notice; with messages in binary it doesn't go to standard output
+-- the line of a notice without its end
+abbrev pub notice_words : Notice → List ℕ
+notice_words n = codes "notice " ++ notice_word n ++ number_text (notice_number n)
+
+-- a notice; with messages in binary it goes to standard output only as an event
 abbrev pub notice_text : MessageForm → Notice → List ℕ
 notice_text Digits n = notice_line [] n ++ lost_text Digits (dropped_by n)
 notice_text Binary n = []
+notice_text Events n = event_text (notice_words n) ++ lost_text Events (dropped_by n)
 
 unfoldable pub notices_text : MessageForm → List Notice → List ℕ
 notices_text form [] = []

@@ -1,12 +1,13 @@
 //! The text that a session writes.
-ghost use Rattle.std.specs.Prelude.{◌≡◌, ◌+◌, ◌*◌, ◌<◌, ◌≤◌, [], length};
+ghost use Rattle.std.specs.Prelude.{◌≡◌, ◌+◌, ◌*◌, ◌<◌, ◌≤◌, ◌++◌, [], length};
 ghost use Rattle.hex.specs.Hex.{encode_lower};
 ghost use Rattle.ddcmp_io.specs.Written.{HandsOver};
 ghost use Rattle.ddcmp_session.specs.EndText.{totals_text, end_line, end_text};
 ghost use Rattle.ddcmp_streams.specs.Queued.{queued, paged};
 ghost use Rattle.ddcmp_session.specs.Reports.{bytes_words, report_members, report_text};
 ghost use Rattle.ddcmp_session.specs.Reports.{silence_at_start};
-ghost use Rattle.ddcmp_session.specs.Text.{Puts, mail_text, lost_line};
+ghost use Rattle.ddcmp_session.specs.Text.{Puts, event_text, mail_text, lost_line, lost_words};
+ghost use Rattle.ddcmp_session.specs.Text.{notice_words};
 ghost use Rattle.ddcmp_station.specs.CountersText.{counters_line};
 ghost use Rattle.ddcmp_station.specs.StationText.{notice_line, number_text};
 
@@ -97,7 +98,7 @@ pub(crate) fn write_mail(out: &mut ByteQueue, form: MessageForm, message: &[u8])
             put_hex(out, message);
             put(out, b"\n");
         }
-        MessageForm::Binary => {
+        MessageForm::Binary | MessageForm::Events => {
             let length = u16::try_from(message.len()).unwrap_or(u16::MAX);
             put(out, &length.to_be_bytes());
             put(out, message);
@@ -135,6 +136,46 @@ pub(crate) fn write_lost(out: &mut ByteQueue, lost: u8)
     put(out, b"lost ");
     put_number(out, Some(lost));
     put(out, b"\n");
+}
+
+/// The bit of a length that marks an event.
+const EVENT: u16 = 0x8000;
+
+/// The longest text of an event, in bytes.
+const EVENT_TEXT: usize = NOTICE_ROOM - 1;
+
+/// Writes an event among messages in binary.
+fn write_event(out: &mut ByteQueue, text: &[u8], name: &[u8], number: Option<u8>)
+    requires { length text.now + length name.now ≤ EVENT_TEXT }
+    ensures puts { Puts (event_text (text.now ++ name.now ++ number_text number)) out.old out.new }
+    ensures short { length (number_text number) ≤ 3 }
+{
+    let mut buffer = Buffer::new();
+    let digits = match number {
+        Some(number) => buffer.format(number).as_bytes(),
+        None => b"",
+    };
+    let length = text.len() + name.len() + digits.len();
+    put(out, &(EVENT + length as u16).to_be_bytes());
+    put(out, text);
+    put(out, name);
+    put(out, digits);
+}
+
+/// Writes a notice as an event.
+pub(crate) fn write_notice_event(out: &mut ByteQueue, notice: Notice)
+    ensures puts { Puts (event_text (notice_words notice)) out.old out.new }
+    ensures short { length (event_text (notice_words notice)) ≤ NOTICE_ROOM + 1 }
+{
+    write_event(out, b"notice ", notice_name(notice), notice_number(notice));
+}
+
+/// Writes how many accepted messages were dropped as an event.
+pub(crate) fn write_lost_event(out: &mut ByteQueue, lost: u8)
+    ensures puts { Puts (event_text (lost_words lost)) out.old out.new }
+    ensures short { length (event_text (lost_words lost)) ≤ LOST_ROOM }
+{
+    write_event(out, b"lost ", b"", Some(lost));
 }
 
 /// Writes the line of a notice to standard error.

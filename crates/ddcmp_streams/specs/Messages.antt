@@ -1,4 +1,4 @@
--- The messages of an input, in either form.
+-- The messages of an input, in any form.
 use Rattle.std.specs.Prelude.{ℕ, ◌+◌, Bool, false, List, [], ◌∷◌, Option, Some, None, is_some}
 use Rattle.ddcmp_input.specs.declared.entry.Entry.{Entry}
 use Rattle.ddcmp_input.specs.declared.entry.Entry.TheVariants.{Message}
@@ -7,35 +7,41 @@ use Rattle.ddcmp_input.specs.Lengths as lengths
 use Rattle.ddcmp_streams.specs.declared.messages.MessageForm.{MessageForm}
 use Rattle.ddcmp_streams.specs.declared.messages.MessageForm.TheVariants as form
 use Rattle.ddcmp_streams.specs.declared.messages.Messages.{Messages}
-use Rattle.ddcmp_streams.specs.declared.messages.Messages.TheVariants.{Digits, Binary}
+use Rattle.ddcmp_streams.specs.declared.messages.Messages.TheVariants.{Digits, Binary, Events}
 
 -- before any input
 abbrev pub messages_begun : MessageForm → ℕ → Messages
 messages_begun form.Digits max = Digits (lines.begun max)
 messages_begun form.Binary max = Binary (lengths.begun max)
+messages_begun form.Events max = Events (lengths.begun max)
 
 -- the message that the last byte completed, if it did
 abbrev pub message_in : Messages → List ℕ
 message_in (Digits v) = v.message
 message_in (Binary v) = v.message
+message_in (Events v) = v.message
 
 -- the reader after bytes of the input, and the parts that they complete
 abbrev pub after_input : List ℕ → Messages → Messages
 after_input bytes (Digits v) = Digits (lines.after_bytes bytes v)
 after_input bytes (Binary v) = Binary (lengths.after_bytes bytes v)
+after_input bytes (Events v) = Events (lengths.after_bytes bytes v)
 
 abbrev pub entries_of_input : List ℕ → Messages → List Entry
 entries_of_input bytes (Digits v) = lines.entries_of_bytes bytes v
 entries_of_input bytes (Binary v) = lengths.entries_of_bytes bytes v
+entries_of_input bytes (Events v) = lengths.entries_of_bytes bytes v
 
 -- The end of the input ends a last line, and completes nothing in binary.
 abbrev pub after_last : Messages → Messages
 after_last (Digits v) = Digits (lines.after_byte 10 v)
 after_last (Binary v) = Binary v
+after_last (Events v) = Events v
 
 abbrev pub entry_of_last : Messages → Option Entry
 entry_of_last (Digits v) = lines.entry_of_byte 10 v
 entry_of_last (Binary v) = None
+entry_of_last (Events v) = None
 
 -- The input, if it ends here, has a last line without LF that isn't empty.
 abbrev pub has_last_line : Messages → Bool
@@ -58,13 +64,16 @@ messages_among (entry ∷ rest) = count_message entry + messages_among rest
 abbrev pub is_message_unfinished : Messages → Bool
 is_message_unfinished (Digits v) = false
 is_message_unfinished (Binary v) = lengths.is_unfinished v.place
+is_message_unfinished (Events v) = lengths.is_unfinished v.place
 
 -- the line of the input that was read last is `?`, which asks for a report
 abbrev pub is_question : Messages → Bool
 is_question (Digits v) = lines.is_question v
 is_question (Binary v) = false
+is_question (Events v) = false
 
 -- the number of the line that is read; a message in binary has none
 abbrev pub line_number : Messages → Option ℕ
 line_number (Digits v) = Some v.number
 line_number (Binary v) = None
+line_number (Events v) = None

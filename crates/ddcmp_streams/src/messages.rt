@@ -17,12 +17,15 @@ pub enum MessageForm {
     Digits,
     /// Each after its length as two bytes, high byte first.
     Binary,
+    /// The same, with events among them in the output, whose lengths have the top bit set.
+    Events,
 }
 
 /// A reader of messages from an input in chunks of any size.
 pub enum Messages {
     Digits(HexLines),
     Binary(Lengths),
+    Events(Lengths),
 }
 
 // Manual, since a derived `Drop` is expanded wherever it is dropped.
@@ -30,7 +33,7 @@ impl Drop for Messages {
     fn drop(self) {
         match self {
             Messages::Digits(_lines) => {}
-            Messages::Binary(_lengths) => {}
+            Messages::Binary(_lengths) | Messages::Events(_lengths) => {}
         }
     }
 }
@@ -43,6 +46,7 @@ impl Messages {
         match form {
             MessageForm::Digits => Ok(Messages::Digits(HexLines::new(alloc, max)?)),
             MessageForm::Binary => Ok(Messages::Binary(Lengths::new(alloc, max)?)),
+            MessageForm::Events => Ok(Messages::Events(Lengths::new(alloc, max)?)),
         }
     }
 
@@ -52,7 +56,7 @@ impl Messages {
     {
         match self {
             Messages::Digits(lines) => lines.message(),
-            Messages::Binary(lengths) => lengths.message(),
+            Messages::Binary(lengths) | Messages::Events(lengths) => lengths.message(),
         }
     }
 
@@ -69,6 +73,7 @@ impl Messages {
         match self {
             Messages::Digits(lines) => lines.push_all(bytes),
             Messages::Binary(lengths) => lengths.push_all(bytes),
+            Messages::Events(lengths) => lengths.push_all(bytes),
         }
     }
 
@@ -79,7 +84,7 @@ impl Messages {
     {
         match self {
             Messages::Digits(lines) => lines.push(b'\n'),
-            Messages::Binary(_lengths) => None,
+            Messages::Binary(_lengths) | Messages::Events(_lengths) => None,
         }
     }
 
@@ -89,7 +94,7 @@ impl Messages {
     {
         match self {
             Messages::Digits(lines) => lines.has_last_line(),
-            Messages::Binary(_lengths) => false,
+            Messages::Binary(_lengths) | Messages::Events(_lengths) => false,
         }
     }
 
@@ -99,7 +104,7 @@ impl Messages {
     {
         match self {
             Messages::Digits(_lines) => false,
-            Messages::Binary(lengths) => lengths.is_unfinished(),
+            Messages::Binary(lengths) | Messages::Events(lengths) => lengths.is_unfinished(),
         }
     }
 
@@ -109,7 +114,7 @@ impl Messages {
     {
         match self {
             Messages::Digits(lines) => lines.is_question(),
-            Messages::Binary(_lengths) => false,
+            Messages::Binary(_lengths) | Messages::Events(_lengths) => false,
         }
     }
 
@@ -119,7 +124,7 @@ impl Messages {
     {
         match self {
             Messages::Digits(lines) => Some(lines.number()),
-            Messages::Binary(_lengths) => None,
+            Messages::Binary(_lengths) | Messages::Events(_lengths) => None,
         }
     }
 }

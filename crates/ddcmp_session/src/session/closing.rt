@@ -4,7 +4,7 @@ use crate::text;
 use ddcmp_streams::MessageForm;
 
 impl Session {
-    ghost use Rattle.std.specs.Prelude.{◌≡◌, true, false, []};
+    ghost use Rattle.std.specs.Prelude.{◌≡◌, ◌≢◌, true, false, []};
     ghost use Rattle.ddcmp_io.specs.Written.{HandsOver};
     ghost use Rattle.ddcmp_core.specs.Table.{after_halt};
     ghost use Rattle.ddcmp_station.specs.CountersText.{counters_line};
@@ -97,11 +97,11 @@ impl Session {
         ensures lines { form_of self.old.state.messages ≡ MessageForm.Digits
             → HandsOver (queued self.old.state.output) (queued self.new.state.output)
             (end_text self.old.state.options.counters self.old.state.link) }
-        ensures binary { form_of self.old.state.messages ≡ MessageForm.Binary
+        ensures binary { form_of self.old.state.messages ≢ MessageForm.Digits
             → self.new.state ≡ self.old.state }
         ensures digits { form_of self.old.state.messages ≡ MessageForm.Digits
             → self.new.log ≡ self.old.log }
-        ensures errors { form_of self.old.state.messages ≡ MessageForm.Binary
+        ensures errors { form_of self.old.state.messages ≢ MessageForm.Digits
             → HasEnd self.old.state.options.counters self.old.state.link
             self.old.log.errors self.new.log.errors }
         ensures log { self.new.log ≡ record self.old.log { errors = self.new.log.errors } }
@@ -109,7 +109,7 @@ impl Session {
         let counters = self.options.counters;
         match self.options.form {
             MessageForm::Digits => text::write_end(&mut self.output, &self.link, counters),
-            MessageForm::Binary => self.report_end(counters),
+            MessageForm::Binary | MessageForm::Events => self.report_end(counters),
         }
     }
 

@@ -240,7 +240,7 @@ impl Session {
         fed.used
     }
 
-    /// Writes a notice; to standard error with messages in binary.
+    /// Writes a notice; to standard error with messages in binary, unless events are among them.
     fn report_notice(&mut self, notice: Notice)
         requires { LINE_ROOM ≤ self.old.state.output.room }
         ensures wrote { Wrote (notice_text (form_of self.old.state.messages) notice)
@@ -257,6 +257,7 @@ impl Session {
         match self.options.form {
             MessageForm::Digits => text::write_notice_line(&mut self.output, notice),
             MessageForm::Binary => put_notice(&mut self.errors, notice),
+            MessageForm::Events => text::write_notice_event(&mut self.output, notice),
         }
         match notice {
             Notice::Restarted(lost) => {

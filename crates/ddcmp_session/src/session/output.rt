@@ -185,7 +185,8 @@ impl Session {
         }
         match self.options.form {
             MessageForm::Digits if has_room => text::write_lost(&mut self.output, lost),
-            MessageForm::Digits => {}
+            MessageForm::Events if has_room => text::write_lost_event(&mut self.output, lost),
+            MessageForm::Digits | MessageForm::Events => {}
             MessageForm::Binary => {
                 let mut digits = Buffer::new();
                 let text = digits.format(lost).as_bytes();

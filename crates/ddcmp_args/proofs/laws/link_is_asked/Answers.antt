@@ -11,6 +11,7 @@ returns c = record {
   only = refl;
   window = refl;
   binary = (refl, refl);
+  events = (refl, refl);
   maintenance = (refl, refl);
   stay = (refl, refl);
   again = (refl, refl);

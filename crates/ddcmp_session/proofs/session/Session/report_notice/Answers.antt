@@ -5,8 +5,8 @@ use Rattle.ddcmp_streams.specs.Errors.{ErrorsView}
 use Rattle.ddcmp_session.specs.Session.{form_of}
 use Rattle.ddcmp_session.specs.Text.{dropped_by}
 use Rattle.ddcmp_session.proofs.LineLogLaws.{HasNoticeLine, drops-none, line-in-binary}
-use Rattle.ddcmp_session.proofs.LineLogLaws.{line-in-digits, noticed-alone, noticed-loss}
-use Rattle.ddcmp_session.proofs.session.Session.report_notice.Goals.{in-Digits, in-Binary}
+use Rattle.ddcmp_session.proofs.LineLogLaws.{line-in-digits, line-in-events, noticed-alone, noticed-loss}
+use Rattle.ddcmp_session.proofs.session.Session.report_notice.Goals.{in-Digits, in-Binary, in-Events}
 use Rattle.ddcmp_session.proofs.session.Session.report_notice.Goals as goal
 
 pub returns-in-Restarted-clause-errors : goal.returns-in-Restarted-clause-errors
@@ -23,11 +23,15 @@ returns-in-Restarted-clause-errors c =
           line-in-binary by c.args.notice old w.put_notice.new.errors mid
           (sym c.self.invariant.0 ∙ w.in-Binary.is)
           (ap (λ (i : Inside). i.errors) w.self-inside-is) w.put_notice.ensures
+      | in-Events w ↦
+          line-in-events by c.args.notice old mid (sym c.self.invariant.0 ∙ w.in-Events.is)
+          (ap (λ (i : Inside). i.errors) w.self-inside-is)
     ] in
     let same : form_of c.match-self.self-inside.messages ≡ by =
     elim c.match-self.branch [
       | in-Digits w ↦ ap (λ (i : Inside). form_of i.messages) w.self-inside-is
       | in-Binary w ↦ ap (λ (i : Inside). form_of i.messages) w.self-inside-is
+      | in-Events w ↦ ap (λ (i : Inside). form_of i.messages) w.self-inside-is
     ] in
     rw (sym c.self.view_is) (noticed-loss by (form_of c.match-self.self-inside.messages)
     c.args.notice c.in-Restarted.lost old mid c.report_lost-has_room.new.self.log.errors same
@@ -47,6 +51,9 @@ returns-in-PeerRestarted-clause-errors c =
           line-in-binary by c.args.notice old w.put_notice.new.errors mid
           (sym c.self.invariant.0 ∙ w.in-Binary.is)
           (ap (λ (i : Inside). i.errors) w.self-inside-is) w.put_notice.ensures
+      | in-Events w ↦
+          line-in-events by c.args.notice old mid (sym c.self.invariant.0 ∙ w.in-Events.is)
+          (ap (λ (i : Inside). i.errors) w.self-inside-is)
     ] in
     rw (sym c.self.view_is)
     (noticed-alone by c.args.notice old mid (ap dropped_by c.in-PeerRestarted.is) line)
@@ -65,6 +72,9 @@ returns-in_default-clause-errors c =
           line-in-binary by c.args.notice old w.put_notice.new.errors mid
           (sym c.self.invariant.0 ∙ w.in-Binary.is)
           (ap (λ (i : Inside). i.errors) w.self-inside-is) w.put_notice.ensures
+      | in-Events w ↦
+          line-in-events by c.args.notice old mid (sym c.self.invariant.0 ∙ w.in-Events.is)
+          (ap (λ (i : Inside). i.errors) w.self-inside-is)
     ] in
     rw (sym c.self.view_is)
     (noticed-alone by c.args.notice old mid
