@@ -82,8 +82,10 @@ def test_lost_at_a_restart():
 def test_peer_restarts(messages, close, status, last):
     """A STRT to a link that runs: without --restart it ends; with nothing lost, its input at its
     end or open, and with a message lost."""
-    link, peer = running("--stay", answer=no_ack)
-    link.give(messages, close)
+    given = subprocess.DEVNULL if close else subprocess.PIPE
+    link, peer = running("--stay", answer=no_ack, stdin=given)
+    if not close:
+        link.give(messages, close)
     peer.waits(lambda it, count=len(messages) // 3: len(it.named("DATA")) >= count, 10)
     link.waits(lambda it: b"Running" in it.out, 10)
     peer.answer = silent
