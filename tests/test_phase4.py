@@ -1,11 +1,14 @@
-"""A routing layer above DDCMP: two nodes of python/examples/phase4.py, over lines that lose and
-damage frames, and while one of them is killed again and again."""
+"""A routing layer above DDCMP: two nodes of python/examples/phase4.py, each over a station or over
+`ddcmp link`, over lines that lose and damage frames, and while one of them is killed again and
+again."""
+import os
+import signal
 import sys
 
 import pytest
 
 from .process import (
-    TOP, Bridge, Process, free_port, holds_within, is_listening, udp_names)
+    PROGRAM, TOP, Bridge, Process, free_port, holds_within, is_listening, udp_names)
 from .test_python import over_library
 
 SOON = 30  # seconds that nothing here may take
@@ -13,13 +16,26 @@ LONG = pytest.param(60, marks=[pytest.mark.long, pytest.mark.limit(180)])
 MORE = pytest.param(10, marks=[pytest.mark.long, pytest.mark.limit(300)])
 
 
-@pytest.fixture
-def nodes(library):
+class Node(Process):
+    """A node that runs, with its link if it has one."""
+
+    def __init__(self, words, **how):
+        super().__init__(words, start_new_session=True, **how)
+
+    def kill(self):
+        os.killpg(self.run.pid, signal.SIGKILL)
+        return super().kill()
+
+
+@pytest.fixture(params=["station", "link"])
+def nodes(library, request):
+    over = ("--link", *PROGRAM) if request.param == "link" else ()
+
     def begin(name, line, *options):
-        words = [sys.executable, f"{TOP}/python/examples/phase4.py", name, line]
+        words = [sys.executable, f"{TOP}/python/examples/phase4.py", name, line, *over]
         environment = over_library(DDCMP_LIBRARY=f"{library}/libddcmp.so")
-        return Process([*words, "--timer", "0.5", *options], env=environment)
-    return begin
+        return Node([*words, "--timer", "0.5", *options], env=environment)
+    yield begin
 
 
 def bridged_ends(kind):
@@ -39,7 +55,8 @@ def incarnations(node, neighbour):
     """The adjacencies that a node has printed, each as the packets of one process of the neighbour,
     numbered from 0; and how many of them are down."""
     found, downs = [], 0
-    assert all(it.endswith(", still trying") for it in node.errors()), node
+    faults = [it for it in node.errors() if it.startswith(("phase4", "Traceback"))]
+    assert all(it.endswith(", still trying") for it in faults), node
     for line in node.lines():
         if line == f"up {neighbour}":
             assert downs == len(found), node

@@ -2,7 +2,7 @@
 """An end node's side of a circuit of DECnet Phase IV: initialization, hellos and packets over a
 station. As remembered of Phase IV's routing layer, and not tried against a DECnet node.
 
-    phase4.py NODE LINE [--hello S] [--packets N]
+    phase4.py NODE LINE [--link PROGRAM] [--hello S] [--packets N]
 
 NODE is AREA.NUMBER, as 1.5, and LINE listen:HOST:PORT, connect:HOST:PORT or udp:LOCAL,REMOTE, as
 `ddcmp link` has them. A hello goes S seconds after the last message [default: 15], and while the
@@ -11,10 +11,15 @@ seconds [default: 3]. Standard output has, a line each: `up NODE`, `packet NODE 
 `down REASON`, after which the circuit starts again. A connection is tried again each second.
 
 A routing layer must tell the incarnations of a circuit apart: the first message of each is the
-initialization message, and none of the one before may follow. So this feeds a station itself: each
-call of `feed` returns one notice or message, in the order in which they came, and what waits for
-room in the window is dropped by whatever starts the circuit again.
+initialization message, and none of the one before may follow. There are two ways:
+
+- With --link it runs `PROGRAM link --binary --events`, which writes events among the messages, and
+  drops what it reads between the event that begins an incarnation and the command `ready`.
+- Else it feeds a station itself: each call of `feed` returns one notice or message, in the order in
+  which they came, and what waits for room in the window is dropped by whatever starts the circuit
+  again.
 """
+import abc
 import argparse
 import asyncio
 import collections
@@ -30,6 +35,7 @@ import ddcmp
 INITIALIZATION, VERIFICATION, HELLO, PACKET = 0x01, 0x03, 0x05, 0x02
 END_NODE, WANTS_VERIFICATION = 3, 4  # of the byte TIINFO
 BLOCK, VERSION, TEST_DATA = 576, b"\2\0\0", b"\xaa" * 4
+EVENT = 1 << 15  # of a length: the record is an event, or a command
 MULTIPLIER = 2  # a neighbour is gone after so many of its hello times
 RETRY = 1.0  # seconds between connections that are tried
 _RUNS = ddcmp.NoticeKind.RUNNING, ddcmp.NoticeKind.RUNNING_AND_HANDED_UP
@@ -55,21 +61,15 @@ def report(*words: object) -> None:
         os._exit(1)
 
 
-class Circuit(asyncio.Protocol, asyncio.DatagramProtocol):
-    """A circuit over one line after another: a connection, or datagrams of one peer."""
+class Circuit(abc.ABC):
+    """The routing layer of a circuit, over whatever carries its messages."""
 
-    def __init__(self, node: int, hello: int, packets: float, timer: float) -> None:
-        self.node, self.hello, self.packets, self.timer = node, hello, packets, timer
-        self.station = ddcmp.Station(max=BLOCK, restart=True)
-        self.transport: Any = None
-        self.is_writable = True
-        self.expiry: Optional[asyncio.TimerHandle] = None
-        self.is_over = asyncio.Event()
+    def __init__(self, node: int, hello: int, packets: float) -> None:
+        self.node, self.hello, self.packets = node, hello, packets
         self.begin()
 
     def begin(self) -> None:
         """Begins an incarnation: nothing of the one before is sent in it."""
-        self.unsent: Deque[bytes] = collections.deque()
         self.neighbour: Optional[int] = None
         self.patience, self.numbered = float(MULTIPLIER * self.hello), 0
         self.heard_at = self.sent_at = time.monotonic()
@@ -80,13 +80,117 @@ class Circuit(asyncio.Protocol, asyncio.DatagramProtocol):
             report("down", reason)
         self.begin()
 
+    def runs(self) -> None:
+        """Begins an incarnation that runs, by the initialization message."""
+        self.begin()
+        self.send(struct.pack("<BHBH3sHB", INITIALIZATION, self.node, END_NODE, BLOCK, VERSION,
+                              self.hello, 0))
+
+    @abc.abstractmethod
     def restart(self, reason: str) -> None:
         """Restarts the circuit, as whatever is against the rules does."""
+
+    @abc.abstractmethod
+    def carry(self, message: bytes) -> None:
+        """Sends a message once there is room, in the incarnation that there is now or never."""
+
+    @property
+    @abc.abstractmethod
+    def is_running(self) -> bool:
+        """Whether messages are accepted."""
+
+    @property
+    @abc.abstractmethod
+    def is_busy(self) -> bool:
+        """Whether a message waits for room."""
+
+    def send(self, message: bytes) -> None:
+        self.sent_at = time.monotonic()
+        self.carry(message)
+
+    def received(self, message: bytes) -> None:
+        """Handles a message of the neighbour; one that may not come now restarts the circuit."""
+        self.heard_at = time.monotonic()
+        kind, is_up = message[0], self.neighbour is not None
+        if kind == INITIALIZATION and not is_up and len(message) >= 12:
+            self.initialized(message)
+        elif kind == HELLO and is_up and message[4:] == TEST_DATA[:1] * len(message[4:]):
+            pass
+        elif kind == PACKET and is_up and len(message) >= 6:
+            source = struct.unpack_from("<H", message, 3)[0]
+            report("packet", node_text(source), message[6:].decode("ascii", "replace"))
+        elif kind != VERIFICATION:
+            self.restart(f"unexpected message of type {kind}")
+
+    def initialized(self, message: bytes) -> None:
+        _, node, info, _, version, hello, _ = struct.unpack_from("<BHBH3sHB", message)
+        if version[0] != VERSION[0]:
+            self.restart(f"version {version[0]} of the neighbour")
+            return
+        if info & WANTS_VERIFICATION:
+            self.send(struct.pack("<BHB", VERIFICATION, self.node, 0))
+        self.neighbour, self.patience = node, float(MULTIPLIER * hello)
+        report("up", node_text(node))
+
+    async def run(self) -> None:
+        """Sends hellos and packets, and restarts a circuit on which nothing comes."""
+        every = 1 / self.packets if self.packets else math.inf
+        due = 0.0
+        while True:
+            await asyncio.sleep(min(0.1, every / 2))
+            now = time.monotonic()
+            if not self.is_running:
+                continue
+            if now - self.heard_at >= self.patience:
+                self.restart("nothing was heard")
+            elif self.neighbour is not None and now >= due and self.packets and not self.is_busy:
+                due = now + every
+                header = struct.pack("<BHHB", PACKET, self.neighbour, self.node, 0)
+                self.send(header + b"%d %d" % (os.getpid(), self.numbered))
+                self.numbered += 1
+            elif self.neighbour is not None and now - self.sent_at >= self.hello:
+                self.send(struct.pack("<BHB", HELLO, self.node, len(TEST_DATA)) + TEST_DATA)
+
+
+class StationCircuit(Circuit, asyncio.Protocol, asyncio.DatagramProtocol):
+    """A circuit over one line after another: a connection, or datagrams of one peer."""
+
+    def __init__(self, timer: float, *routing: Any) -> None:
+        self.timer = timer
+        self.station = ddcmp.Station(max=BLOCK, restart=True)
+        self.transport: Any = None
+        self.is_writable = True
+        self.expiry: Optional[asyncio.TimerHandle] = None
+        self.is_over = asyncio.Event()
+        super().__init__(*routing)
+
+    def begin(self) -> None:
+        self.unsent: Deque[bytes] = collections.deque()
+        super().begin()
+
+    def restart(self, reason: str) -> None:
         self.down(reason)
         self.station.halt()
         self.station.start()
+        self.write()
 
-    # The line.
+    def carry(self, message: bytes) -> None:
+        self.unsent.append(message)
+        self.write()
+
+    @property
+    def is_running(self) -> bool:
+        return self.station.state == ddcmp.State.RUNNING
+
+    @property
+    def is_busy(self) -> bool:
+        return bool(self.unsent)
+
+    def noticed(self, notice: ddcmp.Notice) -> None:
+        if notice.kind in _RUNS:
+            self.runs()
+        elif notice.kind == ddcmp.NoticeKind.RESTARTED:
+            self.down("the neighbour has restarted")
 
     def connection_made(self, transport: Any) -> None:
         if self.transport:  # one caller at a time
@@ -155,78 +259,76 @@ class Circuit(asyncio.Protocol, asyncio.DatagramProtocol):
             self.station.expire()
             self.write()
 
-    # The routing layer.
 
-    def noticed(self, notice: ddcmp.Notice) -> None:
-        if notice.kind in _RUNS:
-            self.begin()
-            self.send(struct.pack("<BHBH3sHB", INITIALIZATION, self.node, END_NODE, BLOCK, VERSION,
-                                  self.hello, 0))
-        elif notice.kind == ddcmp.NoticeKind.RESTARTED:
+class LinkCircuit(Circuit):
+    """A circuit over `ddcmp link`, whose events and messages come in order through one pipe."""
+
+    def __init__(self, words: List[str], *routing: Any) -> None:
+        self.words = words
+        self.accepts = False
+        super().__init__(*routing)
+
+    def restart(self, reason: str) -> None:
+        self.down(reason)
+        self.accepts = False
+        self.write(EVENT, b"restart")
+
+    def carry(self, message: bytes) -> None:
+        self.write(0, message)
+
+    def write(self, bit: int, record: bytes) -> None:
+        self.link.stdin.write(struct.pack(">H", bit | len(record)) + record)
+
+    @property
+    def is_running(self) -> bool:
+        return self.accepts
+
+    @property
+    def is_busy(self) -> bool:
+        return bool(self.link.stdin.transport.get_write_buffer_size())
+
+    async def carry_all(self) -> None:
+        """Runs the link, and handles its events and messages until it ends."""
+        self.link: Any = await asyncio.create_subprocess_exec(
+            *self.words, stdin=asyncio.subprocess.PIPE, stdout=asyncio.subprocess.PIPE)
+        try:
+            while True:
+                length, = struct.unpack(">H", await self.link.stdout.readexactly(2))
+                record = await self.link.stdout.readexactly(length & ~EVENT)
+                if length & EVENT:
+                    self.told(record.decode("ascii"))
+                else:
+                    self.received(record)
+        except asyncio.IncompleteReadError:
+            self.down("the link has ended")
+            sys.exit(f"phase4: the link has ended with status {await self.link.wait()}")
+
+    def told(self, event: str) -> None:
+        """Handles an event; one that begins an incarnation is acknowledged."""
+        words = event.split()
+        if words[:2] == ["notice", "Restarted"]:
+            self.accepts = False
             self.down("the neighbour has restarted")
-
-    def send(self, message: bytes) -> None:
-        self.unsent.append(message)
-        self.sent_at = time.monotonic()
-        self.write()
-
-    def received(self, message: bytes) -> None:
-        """Handles a message of the neighbour; one that may not come now restarts the circuit."""
-        self.heard_at = time.monotonic()
-        kind, is_up = message[0], self.neighbour is not None
-        if kind == INITIALIZATION and not is_up and len(message) >= 12:
-            self.initialized(message)
-        elif kind == HELLO and is_up and message[4:] == TEST_DATA[:1] * len(message[4:]):
-            pass
-        elif kind == PACKET and is_up and len(message) >= 6:
-            source = struct.unpack_from("<H", message, 3)[0]
-            report("packet", node_text(source), message[6:].decode("ascii", "replace"))
-        elif kind != VERIFICATION:
-            self.restart(f"unexpected message of type {kind}")
-
-    def initialized(self, message: bytes) -> None:
-        _, node, info, _, version, hello, _ = struct.unpack_from("<BHBH3sHB", message)
-        if version[0] != VERSION[0]:
-            self.restart(f"version {version[0]} of the neighbour")
-            return
-        if info & WANTS_VERIFICATION:
-            self.send(struct.pack("<BHB", VERIFICATION, self.node, 0))
-        self.neighbour, self.patience = node, float(MULTIPLIER * hello)
-        report("up", node_text(node))
-
-    async def run(self) -> None:
-        """Sends hellos and packets, and restarts a circuit on which nothing comes."""
-        every = 1 / self.packets if self.packets else math.inf
-        due = 0.0
-        while True:
-            await asyncio.sleep(min(0.1, every / 2))
-            now = time.monotonic()
-            if self.station.state != ddcmp.State.RUNNING:
-                continue
-            if now - self.heard_at >= self.patience:
-                self.restart("nothing was heard")
-                self.write()
-            elif self.neighbour is not None and now >= due and self.packets and not self.unsent:
-                due = now + every
-                header = struct.pack("<BHHB", PACKET, self.neighbour, self.node, 0)
-                self.send(header + b"%d %d" % (os.getpid(), self.numbered))
-                self.numbered += 1
-            elif self.neighbour is not None and now - self.sent_at >= self.hello:
-                self.send(struct.pack("<BHB", HELLO, self.node, len(TEST_DATA)) + TEST_DATA)
+            self.write(EVENT, b"ready")
+        elif words[:1] == ["notice"] and words[1].startswith("Running"):
+            self.down("the circuit has started again")
+            self.write(EVENT, b"ready")
+            self.accepts = True
+            self.runs()
 
 
 def line_of(text: str) -> List[Any]:
-    """Returns the kind of a line, and its addresses."""
+    """Returns a line, its kind and its addresses."""
     kind, _, names = text.partition(":")
     found = [it.rpartition(":") for it in names.split(",")]
     wanted = {"listen": 1, "connect": 1, "udp": 2}.get(kind)
     if len(found) != wanted or not all(
             host and port.isdigit() and int(port) < 1 << 16 for host, _, port in found):
         raise argparse.ArgumentTypeError("a line is listen:HOST:PORT, connect:HOST:PORT or udp:..")
-    return [kind, *((host, int(port)) for host, _, port in found)]
+    return [text, kind, *((host, int(port)) for host, _, port in found)]
 
 
-async def lines(circuit: Circuit, kind: str, here: Any, there: Any = None) -> None:
+async def lines(circuit: StationCircuit, kind: str, here: Any, there: Any = None) -> None:
     """Opens the lines of a circuit, one after another."""
     loop = asyncio.get_running_loop()
     if kind == "udp":
@@ -249,9 +351,17 @@ async def main() -> None:
     words.add_argument("--hello", metavar="S", type=int, default=15)
     words.add_argument("--packets", metavar="N", type=float, default=0)
     words.add_argument("--timer", metavar="S", type=float, default=3)
+    words.add_argument("--link", metavar="PROGRAM")
     given = words.parse_args()
-    circuit = Circuit(given.node, given.hello, given.packets, given.timer)
-    await asyncio.gather(circuit.run(), lines(circuit, *given.line))
+    routing = given.node, given.hello, given.packets
+    if given.link:
+        link = [given.link, "link", "--binary", "--events", "--again", "--restart",
+                "--max", str(BLOCK), "--timer-ms", f"{given.timer * 1000:.0f}", "--line"]
+        circuit: Any = LinkCircuit([*link, given.line[0]], *routing)
+        await asyncio.gather(circuit.run(), circuit.carry_all())
+        return
+    circuit = StationCircuit(given.timer, *routing)
+    await asyncio.gather(circuit.run(), lines(circuit, *given.line[1:]))
 
 
 if __name__ == "__main__":
