@@ -76,7 +76,7 @@ from typing import (
     Tuple, Type, TypeVar, Union,
 )
 
-__version__ = "0.1.0"
+__version__ = "0.2.0"
 Bytes = Union[bytes, bytearray, memoryview]
 Self = TypeVar("Self", bound="_Handle")
 

@@ -117,6 +117,10 @@ fits_back x y fs fs' f = record {
   stands' = f.stands';
   wire = f.wire;
   wire' = f.wire';
+  mail = record { room = f.mail.room; inbox = f.mail.inbox };
+  mail' = f.mail';
+  rising = f.rising;
+  rising' = f.rising';
 }
 
 hear_nak : (x y : Face) (fs fs' : List Frame) (resp : ℕ) {ks qs : List ℕ} (why : Reason)
