@@ -19,6 +19,7 @@ use Rattle.ddcmp_core.specs.declared.state.Owed.TheVariants.{Quiet, Ack, Nak}
 use Rattle.ddcmp_core.specs.NextFrame.{SentFor, sends_strt, sends_stack, sends_nak, sends_rep}
 use Rattle.ddcmp_core.specs.NextFrame.{sends_data, sends_ack, sends_maint, halted_idles}
 use Rattle.ddcmp_core.specs.NextFrame.{starting_idles, running_idles, maintenance_idles}
+use Rattle.ddcmp_core.specs.Table.{resp_of}
 use Rattle.ddcmp_core.specs.Table.{Limits, StationState, Data, Acked, Naked, Rep, Strt, Stack}
 use Rattle.ddcmp_core.specs.Table.{Frame, has_room, Maint, Received, Good, BadHeader, BadData}
 use Rattle.ddcmp_core.specs.Table.{TooLong, BadFormat, Next, next, next_frame, after_next}
@@ -253,7 +254,7 @@ goes : (s : StationState) (z : Next) → SentFor s z
 goes s _ (sends_strt p d) = omega arith
 goes s _ (sends_stack p d) = omega arith
 goes s _ (sends_nak why p r) =
-    let x = ap refused r in let y = nak-tells why s.r in omega (arith, x, y)
+    let x = ap refused r in let y = nak-tells why (resp_of s) in omega (arith, x, y)
 goes s _ (sends_rep p r f) = omega arith
 goes s _ (sends_data p r f place) = omega arith
 goes s _ (sends_ack p r f place) = omega arith

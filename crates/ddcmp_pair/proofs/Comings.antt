@@ -183,7 +183,7 @@ counts_offer s w given acked sent next up up' num e c = record {
 }
 
 -- what is owed for data that come
-abbrev owed : Limits → StationState → ℕ → Owed
+abbrev pub owed : Limits → StationState → ℕ → Owed
 owed l s num = reply_to_offer (answer_to_offer l.room (incoming s) num) s.reply
 
 -- data are taken, find no room, or aren't the next

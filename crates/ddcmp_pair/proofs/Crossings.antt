@@ -25,7 +25,7 @@ emptied x =
       taken = x.taken ++ x.core.station.inbox;
     }
 
-emptied-after-take : (x : EndState) → emptied (after_take_here x) ≡ emptied x
+pub emptied-after-take : (x : EndState) → emptied (after_take_here x) ≡ emptied x
 emptied-after-take x = λ i.
     record (with_station (take_all_after x.core.station i) x) {
       taken = take-up x.taken x.core.station.inbox i;

@@ -44,7 +44,7 @@ use Rattle.ddcmp_pair.proofs.Views.{View, Ordered, Crossing, c_strt, c_stack, c_
 use Rattle.ddcmp_pair.proofs.Views.{c_ack, c_waits, c_rests}
 use Rattle.ddcmp_pair.proofs.Sees.{looks, same_test, sees_sent, sees_strt, sees_stack, sees_nak}
 use Rattle.ddcmp_pair.proofs.Sees.{sees_rep, sees_data, sees_ack, reply_up}
-use Rattle.ddcmp_pair.proofs.Comings.{no-room, out-of-sequence}
+use Rattle.ddcmp_pair.proofs.Comings.{owed, no-room, out-of-sequence}
 use Rattle.ddcmp_pair.proofs.Steady.{Shows, IsKept, Steady, steady-turned, steady-shows, half-kept}
 use Rattle.ddcmp_pair.proofs.Steady.{inbox-sent, starts-same}
 
@@ -124,11 +124,12 @@ owes-offer l s num message e =
         reply_up l.room (incoming s) num s.reply d ∙ ap (λ b. cond b Ack s.reply) e
     by true e false d f =
         absurd
-        (let y = sym f ∙ ap acknowledges_by_take (no-room l s num message e d) ∙ none _ in cc y)
+        (let y = sym f ∙ ap acknowledges_by_take (no-room l s num message e d)
+        ∙ none (owed l s num) in cc y)
     by false e d x f =
         absurd
-        (let y = sym f ∙ ap acknowledges_by_take (out-of-sequence l s num message e) ∙ none _ in
-        cc y)
+        (let y = sym f ∙ ap acknowledges_by_take (out-of-sequence l s num message e)
+        ∙ none (owed l s num) in cc y)
 
 owes-by : (l : Limits) (s : StationState) (p : State) → s.state ≡ p → (f : Received) → s.inbox ≡ []
     → acknowledges_by_take (on_by p l s f) ≡ true → (on_by p l s f).reply ≡ Ack
@@ -176,8 +177,10 @@ owes-by l s Running p (Good (Naked why resp)) e = by (is_within s.a resp s.n)
 owes-by l s Running p (Good (Data resp num message)) e =
     owes-offer l (after_ack s resp) num message e
 owes-by l s Running p f e = owes-none (on_by Running l s f) e
-owes-by l s Maintenance p (Good (Maint message)) e f =
-    absurd (maintains s.by_user s.state (ap is_running p) _ f)
+owes-by l s Maintenance p (Good (Maint message)) e = λ f.
+    absurd
+    (maintains s.by_user s.state (ap is_running p)
+    (nat_lt 0 (length (on_by Maintenance l s (Good (Maint message))).inbox)) f)
   where
     maintains : (b : Bool) (q : State) → is_running q ≡ false → (d : Bool)
         → ((b && is_running q) && d) ≡ true → ⊥
@@ -195,15 +198,15 @@ view-heard : (x : EndState) (f : Received) → x.core.station.inbox ≡ [] → (
 unfolding on
 view-heard x f e y same = λ i.
     record (view y) {
-      reply = owed (acknowledges_by_take y.core.station) y.core.station.reply
+      reply = owes (acknowledges_by_take y.core.station) y.core.station.reply
           (subst (λ (u : StationState). acknowledges_by_take u ≡ true → u.reply ≡ Ack) (sym same)
           (owes-by x.core.limits x.core.station x.core.station.state refl f e)) i;
       up = length (append-nil (y.taken ++ y.core.station.inbox) i);
     }
   where
-    owed : (b : Bool) (r : Owed) → (b ≡ true → r ≡ Ack) → cond b (owed_after_take r) r ≡ r
-    owed true r h = let z = h refl in ap owed_after_take z ∙ sym z
-    owed false r h = refl
+    owes : (b : Bool) (r : Owed) → (b ≡ true → r ≡ Ack) → cond b (owed_after_take r) r ≡ r
+    owes true r h = let z = h refl in ap owed_after_take z ∙ sym z
+    owes false r h = refl
 
 first-of : (b d : Bool) → (b && d) ≡ true → b ≡ true
 first-of true d e = refl

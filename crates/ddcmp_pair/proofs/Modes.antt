@@ -25,14 +25,14 @@ use Rattle.ddcmp_pair.proofs.Ordered.{Holds, holds-after, holds-new}
 
 -- ---- no event changes it
 
-items-mode : (given : List ReadItem) (k : CoreView)
+pub items-mode : (given : List ReadItem) (k : CoreView)
     → (after_items given k).station.by_user ≡ k.station.by_user
 unfolding after_items
 items-mode [] k = refl
 items-mode (g ∷ rest) k =
     items-mode rest (after_item g k) ∙ mode_on k.limits k.station (received_of g)
 
-mode-here : (e : Event) (x : EndState)
+pub mode-here : (e : Event) (x : EndState)
     → (after_event_here e x).core.station.by_user ≡ x.core.station.by_user
 mode-here (event.Start e) x = by (may_start x.core.station)
   where
@@ -68,7 +68,7 @@ event-mode (Some B) e p A = refl
 event-mode (Some B) e p B = mode-here e p.b
 event-mode None e p end = cleared-mode (clear_refusal p) p end
 
-after-mode : (e : Event) (p : PairState) (end : End)
+pub after-mode : (e : Event) (p : PairState) (end : End)
     → (at end (after_event e p)).core.station.by_user ≡ (at end p).core.station.by_user
 unfolding after_event
 after-mode e p end = event-mode (end_of e) e p end

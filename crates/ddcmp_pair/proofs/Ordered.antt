@@ -8,7 +8,8 @@ use Rattle.ddcmp_frame.proofs.ReadingLaws.{items-nothing}
 use Rattle.ddcmp_core.specs.declared.state.State.{State}
 use Rattle.ddcmp_core.specs.declared.state.State.TheVariants.{Halted, IStart, AStart, Running}
 use Rattle.ddcmp_core.specs.declared.state.State.TheVariants.{Maintenance}
-use Rattle.ddcmp_core.specs.Limits.{MAX_WINDOW, MAX_INBOX}
+use Rattle.ddcmp_core.specs.Limits.{MAX_WINDOW}
+use Rattle.ddcmp_proto.specs.declared.config.TheConstants.{MAX_INBOX}
 use Rattle.ddcmp_core.specs.Seq.{Seq}
 use Rattle.ddcmp_core.specs.SendRefusal.{SendRefusal}
 use Rattle.ddcmp_core.specs.Store.{first_message}
