@@ -16,7 +16,7 @@ use Rattle.ddcmp_core.specs.declared.state.Owed.{Owed}
 use Rattle.ddcmp_core.specs.declared.state.Owed.TheVariants.{Quiet, Ack, Nak}
 use Rattle.ddcmp_core.specs.declared.state.Timer.{Timer}
 use Rattle.ddcmp_core.specs.declared.state.Timer.TheVariants.{Off, Fresh, On}
-use Rattle.ddcmp_core.specs.Table.{resp_of}
+use Rattle.ddcmp_core.specs.Table.{resp_of, owed_after_take}
 use Rattle.ddcmp_core.specs.Table.{StationState, Limits, Frame, Data, Acked, Naked, Rep, Strt}
 use Rattle.ddcmp_core.specs.Table.{Stack, Maint, Good, outgoing, before_next, newly_acknowledged}
 use Rattle.ddcmp_core.specs.Table.{after_ack, after_startup, after_offer, on_data, on_by, on}
@@ -110,6 +110,13 @@ follows_plain r n (Maint m ∷ fs) g p h = follows_plain r n fs g p h
 pub record IsPlain (s : StationState) : Type 0 where
   pub quiet : owes_nak s.reply ≡ false
   pub ahead : s.t ≡ next_number s.n
+
+pub quiet-taken : (b : Bool) (r : Owed) → owes_nak r ≡ false
+    → owes_nak (cond b (owed_after_take r) r) ≡ false
+quiet-taken true Quiet e = e
+quiet-taken true Ack e = e
+quiet-taken true (Nak why) e = e
+quiet-taken false r e = e
 
 -- what something that comes leaves as it was: N, and what isn't sent yet
 pub record Goes (s u : StationState) : Type 0 where

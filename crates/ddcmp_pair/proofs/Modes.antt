@@ -22,6 +22,8 @@ use Rattle.ddcmp_pair.proofs.Links.{rising-ends}
 use Rattle.ddcmp_pair.proofs.Relation.{face, confirmed}
 use Rattle.ddcmp_pair.proofs.Linked.{Linked, linked-choose, linked-turned}
 use Rattle.ddcmp_pair.proofs.Ordered.{Holds, holds-after, holds-new}
+use Rattle.ddcmp_pair.proofs.Alone.{alone-act, alone-begun}
+use Rattle.ddcmp_pair.proofs.Ready.{Holding}
 
 -- ---- no event changes it
 
@@ -104,15 +106,18 @@ holds-act : (act : Act) (p : PairState) → Holds p → Holds (after_act act p)
 holds-act (Happens e) p h = holds-after e p h
 holds-act (Chooses end by_user) p h = holds-choice end by_user p h
 
-holds-acts : (acts : List Act) (p : PairState) → Holds p → Holds (run_acts acts p)
+holding-acts : (acts : List Act) (p : PairState) → Holding p → Holding (run_acts acts p)
 unfolding run_acts
-holds-acts [] p h = h
-holds-acts (act ∷ acts) p h = holds-acts acts (after_act act p) (holds-act act p h)
+holding-acts [] p h = h
+holding-acts (act ∷ acts) p h =
+    holding-acts acts (after_act act p)
+    (record { holds = holds-act act p h.holds; alone = alone-act act p h.alone })
 
 pub acts-hold : (first second : Config) (acts : List Act) → first_refusal first ≡ None
-    → first_refusal second ≡ None → Holds (run_acts acts (new_pair first second))
+    → first_refusal second ≡ None → Holding (run_acts acts (new_pair first second))
 acts-hold first second acts f g =
-    holds-acts acts (new_pair first second) (holds-new first second f g)
+    holding-acts acts (new_pair first second)
+    (record { holds = holds-new first second f g; alone = alone-begun first second })
 
 -- ---- what is reported acknowledged was taken
 

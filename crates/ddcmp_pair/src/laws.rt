@@ -41,9 +41,10 @@ pub fn in_order()
         → NoRestart (reply_to e (run events (new_pair first second))) }
 {}
 
-/// What the main law says holds too if users choose when their stations acknowledge. And if the
-/// station at an end acknowledges messages when they are taken, no more are reported acknowledged
-/// to the other end than were taken: a message that was reported acknowledged, its user has.
+/// What the main law says holds too if users choose when their stations acknowledge, and a recovery
+/// repairs the pair if it is ready. And if the station at an end acknowledges messages when they are
+/// taken, no more are reported acknowledged to the other end than were taken: a message that was
+/// reported acknowledged, its user has.
 pub fn acknowledges_what_was_taken()
     ensures order { (first second : ConfigValue) (acts : List Act)
         → first_refusal first ≡ None → first_refusal second ≡ None
@@ -63,6 +64,11 @@ pub fn acknowledges_what_was_taken()
         (run_acts acts (new_pair first second)).b
         × IsAcknowledgedTaken (run_acts acts (new_pair first second)).b
         (run_acts acts (new_pair first second)).a }
+    ensures repaired { (first second : ConfigValue) (acts : List Act) (p : PairState)
+        → first_refusal first ≡ None → first_refusal second ≡ None
+        → run_acts acts (new_pair first second) ≡ p
+        → IsSound p.a.core.limits p.a.core.station → IsSound p.b.core.limits p.b.core.station
+        → is_ready p ≡ true → IsRepaired p }
 {}
 
 /// Recovery. For two new stations of any sizes in range, after every list of events: if the pair is
