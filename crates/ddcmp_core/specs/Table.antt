@@ -71,8 +71,8 @@ with_outgoing s o = record s { n = o.n; a = o.a; t = o.t; out = o.out }
 abbrev pub with_incoming : StationState → Incoming → StationState
 with_incoming s i = record s { r = i.r; inbox = i.inbox }
 
--- RESP of the frames that are sent: R, or, where the user acknowledges by `take`, the number of the
--- last message that was taken
+-- RESP of the frames that are sent: R, or, if messages are acknowledged when they are taken, the
+-- number of the last one that was taken
 abbrev pub resp_of : StationState → ℕ
 resp_of s = if s.by_user then distance (length s.inbox) s.r else s.r
 
@@ -171,7 +171,7 @@ abbrev pub answer_to_send_maintenance : Limits → StationState → List ℕ
     → Result (Unit {0}) SendRefusal
 answer_to_send_maintenance l s message = answer_unless (send_maintenance_refusal l s message) tt
 
--- take: where the user acknowledges by it, a running station owes an ACK for a message
+-- take: if messages are acknowledged then, a running station owes an ACK for a message
 abbrev pub owed_after_take : Owed → Owed
 owed_after_take Quiet = Ack
 owed_after_take Ack = Ack
@@ -193,7 +193,7 @@ after_take_all s = record s {
   reply = if acknowledges_by_take s then owed_after_take s.reply else s.reply;
 }
 
--- the user chooses whether messages are acknowledged by `take`: in Halted, with an empty inbox
+-- acknowledge_on_take: in Halted with an empty inbox, as for a start
 abbrev pub after_choose : Bool → StationState → StationState
 after_choose by_user s = record s { by_user = by_user }
 

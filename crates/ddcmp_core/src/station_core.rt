@@ -165,7 +165,8 @@ impl<S: Store> Core<S> {
     fn begin_halted(&mut self, state: State, due: bool) -> Result<u8, StartRefusal>
         ensures state { self.new ≡ record self.old {
           station = if may_start self.old.station
-              then station_begun state due self.old.station.by_user self.old.station.inbox else self.old.station;
+              then station_begun state due self.old.station.by_user self.old.station.inbox
+              else self.old.station;
         } }
         ensures answer { result ≡ answer_to_start self.old.station }
     {
@@ -181,8 +182,9 @@ impl<S: Store> Core<S> {
     /// Starts in a state with an empty inbox; returns how many messages were dropped.
     fn begin(&mut self, state: State, due: bool) -> u8
         requires { length self.old.station.inbox ≡ 0 }
-        ensures state { self.new
-            ≡ record self.old { station = station_begun state due self.old.station.by_user self.old.station.inbox } }
+        ensures state { self.new ≡ record self.old {
+          station = station_begun state due self.old.station.by_user self.old.station.inbox;
+        } }
         ensures dropped { result ≡ length self.old.station.out }
     {
         let dropped = self.sender.reset();

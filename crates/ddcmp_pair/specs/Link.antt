@@ -29,10 +29,10 @@ link_of given acknowledged sent handed_up forward back = record {
 abbrev pub new_link : Link
 new_link = link_of [] 0 0 [] [] []
 
--- What happens on a link, in any order: a message is accepted; a position is sent; a count
--- of messages delivered, at most all, is sent back; the position or the count at some index in flight, counted from
--- 0, is lost; the first position or the first count arrives. A message without room, or one that
--- arrives before its end runs, counts as lost.
+-- What happens on a link, in any order: a message is accepted; a position is sent; a count of
+-- messages, at most of all that are delivered, is sent back; the position or the count at some index
+-- in flight, counted from 0, is lost; the first position or the first count arrives. A message
+-- without room, or one that arrives before its end runs, counts as lost.
 pub data Move : Type 0 where
   Give : List ℕ → Move
   Send : ℕ → Move
