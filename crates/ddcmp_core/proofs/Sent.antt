@@ -8,7 +8,8 @@ use Rattle.ddcmp_core.specs.declared.state.State.TheVariants.{Maintenance}
 use Rattle.ddcmp_core.specs.declared.state.Owed.{Owed}
 use Rattle.ddcmp_core.specs.declared.state.Owed.TheVariants.{Quiet, Ack, Nak}
 use Rattle.ddcmp_core.specs.declared.state.Timer.TheVariants.{Fresh}
-use Rattle.ddcmp_core.specs.Table.{StationState, resp_of, Data, Acked, Rep, Strt, Stack, Idle, Sends}
+use Rattle.ddcmp_core.specs.Table.{StationState, resp_of, Data, Acked, Rep, Strt, Stack, Idle}
+use Rattle.ddcmp_core.specs.Table.{Sends}
 use Rattle.ddcmp_core.specs.Table.{before_next, message_at_next, is_ack, after_data, next_running}
 use Rattle.ddcmp_core.specs.Table.{next_maintenance, next_by, next}
 use Rattle.ddcmp_core.specs.NextFrame.{is_nak, SentFor, sends_strt, sends_stack, sends_nak}

@@ -14,7 +14,8 @@ use Rattle.ddcmp_core.specs.declared.state.State.TheVariants.{Halted, IStart, AS
 use Rattle.ddcmp_core.specs.declared.state.State.TheVariants.{Maintenance}
 use Rattle.ddcmp_core.specs.declared.state.Timer.{Timer}
 use Rattle.ddcmp_core.specs.declared.state.Timer.TheVariants.{Off, Fresh, On}
-use Rattle.ddcmp_core.specs.Table.{StationState, resp_of, Limits, Frame, Data, Acked, Naked, Rep, Strt}
+use Rattle.ddcmp_core.specs.Table.{StationState, resp_of, Limits, Frame, Data, Acked, Naked, Rep}
+use Rattle.ddcmp_core.specs.Table.{Strt}
 use Rattle.ddcmp_core.specs.Table.{Stack, Maint, Received, Good, BadHeader, BadData, TooLong}
 use Rattle.ddcmp_core.specs.Table.{BadFormat, before_next, after_ack, on_data, on_nak, on_by, on}
 use Rattle.ddcmp_core.specs.Table.{after_startup, after_halt, after_restart, may_restart, on_strt}

@@ -95,7 +95,8 @@ module _ (x : Face) (awake : x.station.state ≢ Halted) (trains : x.station.sta
             subst
             (CountsAt
             (with
-            (after_next (Sends (Data (resp_of x.station) x.station.t m) (after_data x.station)) x.station)
+            (after_next (Sends (Data (resp_of x.station) x.station.t m)
+            (after_data x.station)) x.station)
             x)) (sym seen)
             (counts_sent x.station x.limits.window x.given x.acknowledged v.sent v.next v.up place
             c);
@@ -112,7 +113,8 @@ module _ (x : Face) (awake : x.station.state ≢ Halted) (trains : x.station.sta
   acts-as early _ (sends_maint m ms e r) = absurd (trains e)
   acts-as early _ (halted_idles e) = absurd (awake e)
   acts-as early _ (starting_idles e d) = i_starts e d
-  acts-as early _ (running_idles e r f place) = i_runs e r f (let n = left in omega (arith, place, n))
+  acts-as early _ (running_idles e r f place) = i_runs e r f (let n = left in omega
+      (arith, place, n))
 
   pub idles-as : (z : Next) → SentFor x.station z → z ≡ Idle → Idles v
   idles-as _ (sends_strt e d) q = absurd (cc q)

@@ -137,7 +137,8 @@ carry_still given m (f ∷ fs) h =
 
 next_position : (s : StationState) (w : ℕ) (given : List (List ℕ)) (acked sent next up : ℕ)
     → before_next s < length s.out
-    → Counts s w given acked sent next up → CarriesPosition given (Data (resp_of s) s.t (message_at_next s))
+    → Counts s w given acked sent next up
+    → CarriesPosition given (Data (resp_of s) s.t (message_at_next s))
 next_position s w given acked sent next up room c =
     let b = before-is s w given acked sent next up c in
     let out = ap length c.out_is ∙ length-drop acked given in

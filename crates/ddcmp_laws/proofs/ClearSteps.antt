@@ -433,7 +433,8 @@ polls s _ (sends_data p r f room) other w few h =
           (one_later s.a s.t w.a_byte w.t_byte (omega (arith, room, few)))
           ∙ sym (drop-cons s.out b [] room);
       follows =
-          λ r fs k. subst (λ n. Follows r (fs ++ Data (resp_of s) s.t (message_at_next s) ∷ []) n) (sym n')
+          λ r fs k. subst (λ n. Follows r (fs ++ Data (resp_of s) s.t
+          (message_at_next s) ∷ []) n) (sym n')
           (follows_data r s.n s.t fs (resp_of s) (message_at_next s) h.ahead k);
       early = λ z. absurd (z p);
       state = refl;

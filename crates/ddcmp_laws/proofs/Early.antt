@@ -1,5 +1,6 @@
 -- Stations that acknowledge messages when they are received.
-use Rattle.std.proofs.Common.{◌≡◌, ℕ, Bool, false, cond, List, [], ◌∷◌, length, drop, refl, sym, ◌∙◌, ap}
+use Rattle.std.proofs.Common.{◌≡◌, ℕ, Bool, false, cond, List, [], ◌∷◌, length, drop, refl, sym}
+use Rattle.std.proofs.Common.{◌∙◌, ap}
 use Rattle.std.specs.Prelude.{◌&&◌, nat_lt}
 use Rattle.ddcmp_core.specs.Sequence.{distance}
 use Rattle.ddcmp_core.specs.Table.{StationState, resp_of, is_running, owed_after_take, after_take}

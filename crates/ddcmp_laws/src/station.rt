@@ -127,9 +127,9 @@ pub fn data_end_a_startup()
 
 /// A header that can't be read, and a data message that is damaged or too long, are answered by a
 /// NAK at once: the next frame is a NAK with R (or, if messages are acknowledged when they are
-/// taken, the last one taken) and the reason, and nothing else has changed. The
-/// same holds for the next message if there is no room. The reply to a REP is an ACK if all
-/// messages that it asks for were received, and otherwise a NAK.
+/// taken, the last one taken) and the reason, and nothing else has changed. The same holds for the
+/// next message if there is no room. The reply to a REP is an ACK if all messages that it asks for
+/// were received, and otherwise a NAK.
 pub fn asks_at_once()
     ensures fault { (l : Limits) (s : StationState) (h : Received) (k : ℕ) → s.state ≡ Running
         → CallsFor h k → SendsNak k (resp_of s) (on l s h)

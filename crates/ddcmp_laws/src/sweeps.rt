@@ -14,12 +14,12 @@ ghost use Rattle.ddcmp_laws.specs.Sweeps.{IsSweep, sweep_of, AreSweeps, in_a_row
 ghost use Rattle.ddcmp_laws.specs.Sweeps.{AreEnough, AreAtOnce, AreInTime, IsRecoveryBySweeps};
 
 /// A line that loses nothing comes to rest. From two sound ends in any states that acknowledge
-/// messages when they are received, with anything in flight that arrives whole: after enough sweeps nothing is in flight and neither end has a frame
-/// to send, and further sweeps leave it so. Enough are two more than twice the number of frames
-/// that may be sent. In numbers, w being the larger window, and with 4 * w + 2 more for each item
-/// in flight: if received messages are taken at once, so that there is room for all that arrives,
-/// 32 * w + 26 sweeps; if a line that is under way has only room for a message whenever bytes
-/// arrive, 8 * w * w more.
+/// messages when they are received, with anything in flight that arrives whole: after enough sweeps
+/// nothing is in flight and neither end has a frame to send, and further sweeps leave it so. Enough
+/// are two more than twice the number of frames that may be sent. In numbers, w being the larger
+/// window, and with 4 * w + 2 more for each item in flight: if received messages are taken at once,
+/// so that there is room for all that arrives, 32 * w + 26 sweeps; if a line that is under way has
+/// only room for a message whenever bytes arrive, 8 * w * w more.
 pub fn comes_to_rest()
     ensures rests { (sweeps : List (List EventValue)) (l : Line) → IsWhole l
         → IsLossFree (in_a_row sweeps) l → AreEnough sweeps l

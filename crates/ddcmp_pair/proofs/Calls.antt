@@ -1,5 +1,6 @@
 -- What the user does at an end, and its timer, keep the links.
-use Rattle.std.proofs.Common.{◌≡◌, ℕ, ◌-◌, ◌<◌, ◌≤◌, Bool, true, false, cond, List, [], ◌∷◌, ◌++◌, length, drop}
+use Rattle.std.proofs.Common.{◌≡◌, ℕ, ◌-◌, ◌<◌, ◌≤◌, Bool, true, false, cond, List, [], ◌∷◌, ◌++◌}
+use Rattle.std.proofs.Common.{length, drop}
 use Rattle.std.proofs.Common.{refl, sym, ap, ◌∙◌, subst, arith, append_assoc, append-nil}
 use Rattle.std.proofs.Common.{length-append, length-drop}
 use Rattle.std.specs.Prelude.{option_to_list}
@@ -104,7 +105,8 @@ confirms-taken x = by x.station.by_user
     by : (b : Bool)
         → cond b (length x.taken) (length (up x))
         ≤ cond b (length (x.taken ++ option_to_list (first_message x.station.inbox)))
-        (length ((x.taken ++ option_to_list (first_message x.station.inbox)) ++ drop 1 x.station.inbox))
+        (length ((x.taken ++ option_to_list
+        (first_message x.station.inbox)) ++ drop 1 x.station.inbox))
     by true =
         let l = length-append x.taken (option_to_list (first_message x.station.inbox)) in
         omega (arith, l)

@@ -1,5 +1,6 @@
 -- A frame arrives: its position and its count are taken off the wire, and then used or lost.
-use Rattle.std.proofs.Common.{◌≡◌, ℕ, suc, ◌+◌, ◌-◌, ◌%◌, ◌<◌, ◌≤◌, max, Bool, true, false, cond, List}
+use Rattle.std.proofs.Common.{◌≡◌, ℕ, suc, ◌+◌, ◌-◌, ◌%◌, ◌<◌, ◌≤◌, max, Bool, true, false, cond}
+use Rattle.std.proofs.Common.{List}
 use Rattle.std.proofs.Common.{[], ◌∷◌, ◌++◌, length, Some, refl, sym, ap, ◌∙◌, subst, arith}
 use Rattle.std.proofs.Common.{append_assoc, length-append}
 use Rattle.std.specs.Prelude.{◌==◌, nat_lt, slice_get, slice_index_or}
@@ -192,7 +193,8 @@ taken : (l : Limits) (s : StationState) (num : ℕ) (m : List ℕ) → (num == n
     → after_offer l s num m ≡ record s { r = num; inbox = s.inbox ++ m ∷ []; reply = owed l s num }
 taken l s num m e d = rw (e, d) refl
 
-pub no-room : (l : Limits) (s : StationState) (num : ℕ) (m : List ℕ) → (num == next_number s.r) ≡ true
+pub no-room : (l : Limits) (s : StationState) (num : ℕ) (m : List ℕ)
+    → (num == next_number s.r) ≡ true
     → nat_lt (length s.inbox) l.room ≡ false
     → after_offer l s num m ≡ record s { reply = owed l s num }
 no-room l s num m e d = rw (e, d) refl
@@ -212,7 +214,8 @@ one-more x message h room =
 
 confirms-more : (x : Face) (message : List ℕ)
     → confirmed x
-    ≤ cond x.station.by_user (length x.taken) (length (x.taken ++ (x.station.inbox ++ message ∷ [])))
+    ≤ cond x.station.by_user (length x.taken) (length (x.taken ++
+    (x.station.inbox ++ message ∷ [])))
 confirms-more x message = by x.station.by_user
   where
     by : (b : Bool) → cond b (length x.taken) (length (up x))
@@ -300,5 +303,6 @@ use_position x y fs fs' k num message h e g s c p =
           mail' = h.mail';
           rising = h.rising;
           rising' =
-              rising-high y.acknowledged (confirmed x) _ h.back' (confirms-more x message) h.rising';
+              rising-high y.acknowledged (confirmed x) _ h.back'
+              (confirms-more x message) h.rising';
         })

@@ -16,7 +16,8 @@ use Rattle.ddcmp_core.specs.Numbers.{next_number, is_within}
 use Rattle.ddcmp_core.specs.Table.{Limits, StationState, Frame, Data, Acked, Naked, Rep, Strt}
 use Rattle.ddcmp_core.specs.Table.{resp_of, owed_after_take, acknowledges_by_take, after_take_all}
 use Rattle.ddcmp_core.specs.Table.{Received, Maint, incoming, after_ack, after_offer, on_data}
-use Rattle.ddcmp_core.specs.Table.{after_startup, after_restart, after_halt, may_restart, is_running}
+use Rattle.ddcmp_core.specs.Table.{after_startup, after_restart, after_halt, may_restart}
+use Rattle.ddcmp_core.specs.Table.{is_running}
 use Rattle.ddcmp_core.specs.Table.{Stack, Good, Next, Idle, Sends, next, next_frame, after_next}
 use Rattle.ddcmp_core.specs.Table.{before_next, message_at_next, on, on_by, notice_of, notice_by}
 use Rattle.ddcmp_core.specs.Table.{acknowledged_by, is_starting}

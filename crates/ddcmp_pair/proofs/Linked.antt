@@ -22,7 +22,8 @@ use Rattle.ddcmp_proto.proofs.FeedLaws.{items_added-all, after_items-limits}
 use Rattle.ddcmp_pair.specs.declared.event.Event.{Event}
 use Rattle.ddcmp_pair.specs.declared.event.Event.TheVariants as event
 use Rattle.ddcmp_pair.specs.Place.{place_of, place_from}
-use Rattle.ddcmp_pair.specs.Run.{EndState, with_station, restarts_in, whole_frame, frames_polled, notices_at}
+use Rattle.ddcmp_pair.specs.Run.{EndState, with_station, restarts_in, whole_frame, frames_polled}
+use Rattle.ddcmp_pair.specs.Run.{notices_at}
 use Rattle.ddcmp_pair.specs.Run.{after_start_here, after_halt_here, after_send_here}
 use Rattle.ddcmp_pair.specs.Run.{after_poll_here, after_arrival_here, after_expire_here}
 use Rattle.ddcmp_pair.specs.Run.{after_take_here, after_event_here, is_honest_here}

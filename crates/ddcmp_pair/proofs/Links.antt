@@ -1,6 +1,7 @@
 -- What every move on a link keeps: the order of what is in flight.
 use Rattle.std.proofs.Common.{◌≡◌, ℕ, zero, suc, ◌+◌, ◌-◌, ◌<◌, ◌≤◌, max, Bool, true, false, List}
-use Rattle.std.proofs.Common.{[], ◌∷◌, ◌++◌, length, refl, sym, ap, subst, ◌∙◌, arith, append_assoc, ◌%◌}
+use Rattle.std.proofs.Common.{[], ◌∷◌, ◌++◌, length, refl, sym, ap, subst, ◌∙◌, arith, append_assoc}
+use Rattle.std.proofs.Common.{◌%◌}
 use Rattle.std.proofs.Common.{length-append}
 use Rattle.std.specs.Prelude.{if◌then◌else◌, ◌==◌, remove, slice_index_or}
 use Rattle.ddcmp_pair.specs.Prefix.{IsPrefixOf}
@@ -59,7 +60,8 @@ unfolding last_count
 rising-last low high [] r = r
 rising-last low high (q ∷ qs) r = rising-last q high qs r.1
 
-pub rising-after : (low high : ℕ) (lost qs : List ℕ) → Rising low high (lost ++ qs) → Rising low high qs
+pub rising-after : (low high : ℕ) (lost qs : List ℕ) → Rising low high (lost ++ qs)
+    → Rising low high qs
 rising-after low high [] qs r = r
 rising-after low high (q ∷ lost) qs r =
     rising-low q low high qs r.0 (rising-after q high lost qs r.1)

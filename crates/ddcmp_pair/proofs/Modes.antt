@@ -1,5 +1,6 @@
 -- When stations acknowledge: no event changes it, and runs in which users choose it are in order.
-use Rattle.std.proofs.Common.{◌≡◌, ◌≤◌, Bool, true, false, cond, List, [], ◌∷◌, ◌++◌, length, refl, sym}
+use Rattle.std.proofs.Common.{◌≡◌, ◌≤◌, Bool, true, false, cond, List, [], ◌∷◌, ◌++◌, length, refl}
+use Rattle.std.proofs.Common.{sym}
 use Rattle.std.proofs.Common.{ap, ◌∙◌, subst, Option, Some, None}
 use Rattle.ddcmp_frame.specs.Reading.{ReadItem}
 use Rattle.ddcmp_core.specs.declared.station_core.StartRefusal.{StartRefusal}

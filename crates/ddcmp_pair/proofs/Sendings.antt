@@ -262,7 +262,8 @@ fits_next x y fs fs' _ (sends_stack p d) h =
 fits_next x y fs fs' _ (sends_nak why p r) h =
     let b = awake x h.sent h.next (is-awake x p) h.stands in
     fits_counted x y fs fs' (as_read (Naked why (resp_of x.station)) ∷ [])
-    x.station.due Quiet x.station.rep x.station.timer (wire_nak (resp-is x h.mail b.counts.r_is) no_wire) h
+    x.station.due Quiet x.station.rep x.station.timer (wire_nak
+    (resp-is x h.mail b.counts.r_is) no_wire) h
 fits_next x y fs fs' _ (sends_rep p n r) h =
     fits_plain x y fs fs' (Rep x.station.n ∷ []) x.station.due x.station.reply false Fresh
     (wire_rep no_wire) h
@@ -272,7 +273,8 @@ fits_next x y fs fs' _ (sends_data p n r room) h =
 fits_next x y fs fs' _ (sends_ack p r n room) h =
     let b = awake x h.sent h.next (is-awake x p) h.stands in
     fits_counted x y fs fs' (Acked (resp_of x.station) ∷ [])
-    x.station.due Quiet x.station.rep x.station.timer (wire_ack (resp-is x h.mail b.counts.r_is) no_wire) h
+    x.station.due Quiet x.station.rep x.station.timer (wire_ack
+    (resp-is x h.mail b.counts.r_is) no_wire) h
 fits_next x y fs fs' _ (sends_maint message rest p o) h =
     let b = awake x h.sent h.next (λ q. let z = sym p ∙ q in cc) h.stands in
     let never : StateFits Maintenance x.given = subst (λ s. StateFits s x.given) p b.state in

@@ -30,9 +30,9 @@ abbrev pub new_link : Link
 new_link = link_of [] 0 0 [] [] []
 
 -- What happens on a link, in any order: a message is accepted; a position is sent; a count of
--- messages, at most of all that are delivered, is sent back; the position or the count at some index
--- in flight, counted from 0, is lost; the first position or the first count arrives. A message
--- without room, or one that arrives before its end runs, counts as lost.
+-- messages, at most that of all delivered, is sent back; the position or the count at some index in
+-- flight, counted from 0, is lost; the first position or the first count arrives. A message without
+-- room, or one that arrives before its end runs, counts as lost.
 pub data Move : Type 0 where
   Give : List ℕ → Move
   Send : ℕ → Move

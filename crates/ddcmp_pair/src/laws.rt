@@ -41,10 +41,9 @@ pub fn in_order()
         → NoRestart (reply_to e (run events (new_pair first second))) }
 {}
 
-/// What the main law says holds too if users choose when their stations acknowledge, and a recovery
-/// repairs the pair if it is ready. And if the station at an end acknowledges messages when they are
-/// taken, no more are reported acknowledged to the other end than were taken: a message that was
-/// reported acknowledged, its user has.
+/// The main law, and recovery, if users choose when their stations acknowledge. If the station at
+/// an end acknowledges messages when they are taken, no more are reported acknowledged to the other
+/// end than were taken: what was reported acknowledged, its user has.
 pub fn acknowledges_what_was_taken()
     ensures order { (first second : ConfigValue) (acts : List Act)
         → first_refusal first ≡ None → first_refusal second ≡ None

@@ -5,7 +5,8 @@ use Rattle.ddcmp_core.specs.declared.state.Owed.TheVariants.{Quiet}
 use Rattle.ddcmp_core.specs.declared.state.Timer.TheVariants.{Fresh}
 use Rattle.ddcmp_core.specs.declared.station_core.sender.Sending.{Sending}
 use Rattle.ddcmp_core.specs.declared.station_core.sender.Sending.TheVariants as sending
-use Rattle.ddcmp_core.specs.Table.{StationState, resp_of, Data, Acked, Naked, Rep, Strt, Stack, Maint, Next}
+use Rattle.ddcmp_core.specs.Table.{StationState, resp_of, Data, Acked, Naked, Rep, Strt, Stack}
+use Rattle.ddcmp_core.specs.Table.{Maint, Next}
 use Rattle.ddcmp_core.specs.Table.{Idle, Sends, before_next, message_at_next, after_data}
 use Rattle.ddcmp_core.specs.Core.{is_sent_reason}
 
