@@ -1,5 +1,6 @@
 -- Stations that acknowledge messages when they are received.
-use Rattle.std.proofs.Common.{◌≡◌, ◌<◌, ℕ, Bool, true, false, arith, cond, List, [], ◌∷◌, length, drop, refl, sym}
+use Rattle.std.proofs.Common.{◌≡◌, ◌<◌, ℕ, Bool, true, false, arith, cond, List, [], ◌∷◌, length}
+use Rattle.std.proofs.Common.{drop, refl, sym}
 use Rattle.std.proofs.Common.{◌∙◌, ap}
 use Rattle.std.specs.Prelude.{◌&&◌, nat_lt}
 use Rattle.ddcmp_core.specs.Sequence.{distance}
