@@ -1,24 +1,32 @@
 """A routing layer above DDCMP: two nodes of python/examples/phase4.py, over lines that lose and
 damage frames, and while one of them is killed again and again."""
+import os
+import re
+import signal
 import sys
 
 import pytest
 
 from .process import (
-    TOP, Bridge, Process, free_port, holds_within, is_listening, udp_names)
+    EVENT, PROGRAM, TOP, Bridge, Process, free_port, holds_within, is_listening, udp_names)
 from .test_python import over_library
 
+RETRIES = re.compile(r"(, still trying|; retry in \d+ s)$")
 SOON = 30  # seconds that nothing here may take
 LONG = pytest.param(60, marks=[pytest.mark.long, pytest.mark.limit(180)])
 MORE = pytest.param(10, marks=[pytest.mark.long, pytest.mark.limit(300)])
 
 
-@pytest.fixture
-def nodes(library):
+@pytest.fixture(params=["station", "link"])
+def nodes(library, request):
+    """Begins a node over a station, or over a link, which is killed with it."""
     def begin(name, line, *options):
         words = [sys.executable, f"{TOP}/python/examples/phase4.py", name, line]
         environment = over_library(DDCMP_LIBRARY=f"{library}/libddcmp.so")
-        return Process([*words, "--timer", "0.5", *options], env=environment)
+        if request.param == "link":
+            options = *options, "--link", *PROGRAM
+        return Process([*words, "--timer", "0.5", *options], env=environment,
+                       start_new_session=True)
     return begin
 
 
@@ -39,7 +47,7 @@ def incarnations(node, neighbour):
     """The adjacencies that a node has printed, each as the packets of one process of the neighbour,
     numbered from 0; and how many of them are down."""
     found, downs = [], 0
-    assert all(it.endswith(", still trying") for it in node.errors()), node
+    assert all(EVENT.match(it) or RETRIES.search(it) for it in node.errors()), node
     for line in node.lines():
         if line == f"up {neighbour}":
             assert downs == len(found), node
@@ -87,7 +95,8 @@ def test_kills(nodes, kind, kills):
                 return len(found) == count and len(found[-1]) > 20
             assert holds_within(SOON, is_up), (kill, node)
         if kill < kills:
-            other.kill()
+            os.killpg(other.run.pid, signal.SIGKILL)
+            other.ended()
     found, downs = incarnations(stays, "1.6")
     assert (len(found), downs) == (kills + 1, kills), stays
     assert len({it[0][0] for it in found}) == kills + 1

@@ -2,7 +2,7 @@
 """An end node's side of a circuit of DECnet Phase IV: initialization, hellos and packets over a
 station. As remembered of Phase IV's routing layer, and not tried against a DECnet node.
 
-    phase4.py NODE LINE [--hello S] [--packets N]
+    phase4.py NODE LINE [--hello S] [--packets N] [--link PROGRAM]
 
 NODE is AREA.NUMBER, as 1.5, and LINE listen:HOST:PORT, connect:HOST:PORT or udp:LOCAL,REMOTE, as
 `ddcmp link` has them. A hello goes S seconds after the last message [default: 15], and while the
@@ -13,7 +13,9 @@ seconds [default: 3]. Standard output has, a line each: `up NODE`, `packet NODE 
 A routing layer must tell the incarnations of a circuit apart: the first message of each is the
 initialization message, and none of the one before may follow. So this feeds a station itself: each
 call of `feed` returns one notice or message, in the order in which they came, and what waits for
-room in the window is dropped by whatever starts the circuit again.
+room in the window is dropped by whatever starts the circuit again. With --link the station is that
+of `PROGRAM link --binary --events`, which has its notices among its messages, and refuses what it
+reads until each incarnation is acknowledged.
 """
 import argparse
 import asyncio
@@ -30,6 +32,7 @@ import ddcmp
 INITIALIZATION, VERIFICATION, HELLO, PACKET = 0x01, 0x03, 0x05, 0x02
 END_NODE, WANTS_VERIFICATION = 3, 4  # of the byte TIINFO
 BLOCK, VERSION, TEST_DATA = 576, b"\2\0\0", b"\xaa" * 4
+WINDOW = 7  # messages that the link may have unacknowledged
 MULTIPLIER = 2  # a neighbour is gone after so many of its hello times
 RETRY = 1.0  # seconds between connections that are tried
 _RUNS = ddcmp.NoticeKind.RUNNING, ddcmp.NoticeKind.RUNNING_AND_HANDED_UP
@@ -55,16 +58,11 @@ def report(*words: object) -> None:
         os._exit(1)
 
 
-class Circuit(asyncio.Protocol, asyncio.DatagramProtocol):
-    """A circuit over one line after another: a connection, or datagrams of one peer."""
+class Circuit:
+    """The routing layer's side of a circuit."""
 
     def __init__(self, node: int, hello: int, packets: float, timer: float) -> None:
         self.node, self.hello, self.packets, self.timer = node, hello, packets, timer
-        self.station = ddcmp.Station(max=BLOCK, restart=True)
-        self.transport: Any = None
-        self.is_writable = True
-        self.expiry: Optional[asyncio.TimerHandle] = None
-        self.is_over = asyncio.Event()
         self.begin()
 
     def begin(self) -> None:
@@ -83,10 +81,97 @@ class Circuit(asyncio.Protocol, asyncio.DatagramProtocol):
     def restart(self, reason: str) -> None:
         """Restarts the circuit, as whatever is against the rules does."""
         self.down(reason)
+        self.start_again()
+
+    def start_again(self) -> None:
+        raise NotImplementedError
+
+    def write(self) -> None:
+        """Sends what there is room for."""
+        raise NotImplementedError
+
+    def runs(self) -> bool:
+        raise NotImplementedError
+
+    def begun(self) -> None:
+        """Handles the start of an incarnation."""
+        self.down("the circuit has restarted")
+        self.send(struct.pack("<BHBH3sHB", INITIALIZATION, self.node, END_NODE, BLOCK, VERSION,
+                              self.hello, 0))
+
+    def send(self, message: bytes) -> None:
+        self.unsent.append(message)
+        self.sent_at = time.monotonic()
+        self.write()
+
+    def received(self, message: bytes) -> None:
+        """Handles a message of the neighbour; one that may not come now restarts the circuit."""
+        self.heard_at = time.monotonic()
+        kind, is_up = message[0], self.neighbour is not None
+        if kind == INITIALIZATION and not is_up and len(message) >= 12:
+            self.initialized(message)
+        elif kind == HELLO and is_up and message[4:] == TEST_DATA[:1] * len(message[4:]):
+            pass
+        elif kind == PACKET and is_up and len(message) >= 6:
+            source = struct.unpack_from("<H", message, 3)[0]
+            report("packet", node_text(source), message[6:].decode("ascii", "replace"))
+        elif kind != VERIFICATION:
+            self.restart(f"unexpected message of type {kind}")
+
+    def initialized(self, message: bytes) -> None:
+        _, node, info, _, version, hello, _ = struct.unpack_from("<BHBH3sHB", message)
+        if version[0] != VERSION[0]:
+            self.restart(f"version {version[0]} of the neighbour")
+            return
+        if info & WANTS_VERIFICATION:
+            self.send(struct.pack("<BHB", VERIFICATION, self.node, 0))
+        self.neighbour, self.patience = node, float(MULTIPLIER * hello)
+        report("up", node_text(node))
+
+    async def run(self) -> None:
+        """Sends hellos and packets, and restarts a circuit on which nothing comes."""
+        every = 1 / self.packets if self.packets else math.inf
+        due = 0.0
+        while True:
+            await asyncio.sleep(min(0.1, every / 2))
+            now = time.monotonic()
+            if not self.runs():
+                continue
+            if now - self.heard_at >= self.patience:
+                self.restart("nothing was heard")
+                self.write()
+            elif self.neighbour is not None and now >= due and self.packets and not self.unsent:
+                due = now + every
+                header = struct.pack("<BHHB", PACKET, self.neighbour, self.node, 0)
+                self.send(header + b"%d %d" % (os.getpid(), self.numbered))
+                self.numbered += 1
+            elif self.neighbour is not None and now - self.sent_at >= self.hello:
+                self.send(struct.pack("<BHB", HELLO, self.node, len(TEST_DATA)) + TEST_DATA)
+
+
+class StationCircuit(Circuit, asyncio.Protocol, asyncio.DatagramProtocol):
+    """A circuit over one line after another: a connection, or datagrams of one peer."""
+
+    def __init__(self, node: int, hello: int, packets: float, timer: float) -> None:
+        super().__init__(node, hello, packets, timer)
+        self.station = ddcmp.Station(max=BLOCK, restart=True)
+        self.transport: Any = None
+        self.is_writable = True
+        self.expiry: Optional[asyncio.TimerHandle] = None
+        self.is_over = asyncio.Event()
+
+    def start_again(self) -> None:
         self.station.halt()
         self.station.start()
 
-    # The line.
+    def runs(self) -> bool:
+        return self.station.state == ddcmp.State.RUNNING
+
+    def noticed(self, notice: ddcmp.Notice) -> None:
+        if notice.kind in _RUNS:
+            self.begun()
+        elif notice.kind == ddcmp.NoticeKind.RESTARTED:
+            self.down("the neighbour has restarted")
 
     def connection_made(self, transport: Any) -> None:
         if self.transport:  # one caller at a time
@@ -155,64 +240,64 @@ class Circuit(asyncio.Protocol, asyncio.DatagramProtocol):
             self.station.expire()
             self.write()
 
-    # The routing layer.
 
-    def noticed(self, notice: ddcmp.Notice) -> None:
-        if notice.kind in _RUNS:
-            self.begin()
-            self.send(struct.pack("<BHBH3sHB", INITIALIZATION, self.node, END_NODE, BLOCK, VERSION,
-                                  self.hello, 0))
-        elif notice.kind == ddcmp.NoticeKind.RESTARTED:
+class LinkCircuit(Circuit):
+    """A circuit over `ddcmp link`, which opens its lines."""
+
+    is_running = False
+
+    def begin(self) -> None:
+        super().begin()
+        self.unacknowledged = 0
+
+    def start_again(self) -> None:
+        self.is_running = False
+        self.command("restart")
+
+    def runs(self) -> bool:
+        return self.is_running
+
+    def command(self, text: str) -> None:
+        self.stdin.write(struct.pack(">H", 0x8000 + len(text)) + text.encode())
+
+    def write(self) -> None:
+        """Sends what has room in the window, so that no command waits behind messages."""
+        while self.unsent and self.is_running and self.unacknowledged < WINDOW:
+            message = self.unsent.popleft()
+            self.stdin.write(struct.pack(">H", len(message)) + message)
+            self.unacknowledged += 1
+
+    def noticed(self, text: str) -> None:
+        """Handles an event: `notice NAME`, `notice NAME COUNT` or `lost COUNT`."""
+        name, count = (text.split() + ["0"])[1:3]
+        if name in ("Running", "RunningAndHandedUp"):
+            self.command("ready")
+            self.is_running = True
+            self.begun()
+        elif name == "Restarted":
+            self.command("ready")
+            self.is_running = False
             self.down("the neighbour has restarted")
+        elif name.endswith("Acknowledged"):
+            self.unacknowledged = max(0, self.unacknowledged - int(count))
 
-    def send(self, message: bytes) -> None:
-        self.unsent.append(message)
-        self.sent_at = time.monotonic()
-        self.write()
-
-    def received(self, message: bytes) -> None:
-        """Handles a message of the neighbour; one that may not come now restarts the circuit."""
-        self.heard_at = time.monotonic()
-        kind, is_up = message[0], self.neighbour is not None
-        if kind == INITIALIZATION and not is_up and len(message) >= 12:
-            self.initialized(message)
-        elif kind == HELLO and is_up and message[4:] == TEST_DATA[:1] * len(message[4:]):
-            pass
-        elif kind == PACKET and is_up and len(message) >= 6:
-            source = struct.unpack_from("<H", message, 3)[0]
-            report("packet", node_text(source), message[6:].decode("ascii", "replace"))
-        elif kind != VERIFICATION:
-            self.restart(f"unexpected message of type {kind}")
-
-    def initialized(self, message: bytes) -> None:
-        _, node, info, _, version, hello, _ = struct.unpack_from("<BHBH3sHB", message)
-        if version[0] != VERSION[0]:
-            self.restart(f"version {version[0]} of the neighbour")
-            return
-        if info & WANTS_VERIFICATION:
-            self.send(struct.pack("<BHB", VERIFICATION, self.node, 0))
-        self.neighbour, self.patience = node, float(MULTIPLIER * hello)
-        report("up", node_text(node))
-
-    async def run(self) -> None:
-        """Sends hellos and packets, and restarts a circuit on which nothing comes."""
-        every = 1 / self.packets if self.packets else math.inf
-        due = 0.0
+    async def follow(self, program: str, line: str) -> None:
+        """Runs the link, and handles what it writes."""
+        words = [program, "link", "--binary", "--events", "--restart", "--again", "--max",
+                 str(BLOCK), "--window", str(WINDOW), "--timer-ms", str(int(1000 * self.timer)),
+                 "--line", line]
+        run = await asyncio.create_subprocess_exec(
+            *words, stdin=asyncio.subprocess.PIPE, stdout=asyncio.subprocess.PIPE)
+        assert run.stdin and run.stdout
+        self.stdin = run.stdin
         while True:
-            await asyncio.sleep(min(0.1, every / 2))
-            now = time.monotonic()
-            if self.station.state != ddcmp.State.RUNNING:
-                continue
-            if now - self.heard_at >= self.patience:
-                self.restart("nothing was heard")
-                self.write()
-            elif self.neighbour is not None and now >= due and self.packets and not self.unsent:
-                due = now + every
-                header = struct.pack("<BHHB", PACKET, self.neighbour, self.node, 0)
-                self.send(header + b"%d %d" % (os.getpid(), self.numbered))
-                self.numbered += 1
-            elif self.neighbour is not None and now - self.sent_at >= self.hello:
-                self.send(struct.pack("<BHB", HELLO, self.node, len(TEST_DATA)) + TEST_DATA)
+            length, = struct.unpack(">H", await run.stdout.readexactly(2))
+            record = await run.stdout.readexactly(length % 0x8000)
+            if length & 0x8000:
+                self.noticed(record.decode("ascii"))
+            else:
+                self.received(record)
+            self.write()
 
 
 def line_of(text: str) -> List[Any]:
@@ -226,7 +311,7 @@ def line_of(text: str) -> List[Any]:
     return [kind, *((host, int(port)) for host, _, port in found)]
 
 
-async def lines(circuit: Circuit, kind: str, here: Any, there: Any = None) -> None:
+async def lines(circuit: StationCircuit, kind: str, here: Any, there: Any = None) -> None:
     """Opens the lines of a circuit, one after another."""
     loop = asyncio.get_running_loop()
     if kind == "udp":
@@ -245,19 +330,27 @@ async def lines(circuit: Circuit, kind: str, here: Any, there: Any = None) -> No
 async def main() -> None:
     words = argparse.ArgumentParser(description=__doc__.partition("\n\n")[0])
     words.add_argument("node", metavar="NODE", type=node_of)
-    words.add_argument("line", metavar="LINE", type=line_of)
+    words.add_argument("line", metavar="LINE")
     words.add_argument("--hello", metavar="S", type=int, default=15)
     words.add_argument("--packets", metavar="N", type=float, default=0)
     words.add_argument("--timer", metavar="S", type=float, default=3)
+    words.add_argument("--link", metavar="PROGRAM")
     given = words.parse_args()
-    circuit = Circuit(given.node, given.hello, given.packets, given.timer)
-    await asyncio.gather(circuit.run(), lines(circuit, *given.line))
+    sizes = given.node, given.hello, given.packets, given.timer
+    if given.link:
+        linked = LinkCircuit(*sizes)
+        await asyncio.gather(linked.run(), linked.follow(given.link, given.line))
+    else:
+        circuit = StationCircuit(*sizes)
+        await asyncio.gather(circuit.run(), lines(circuit, *line_of(given.line)))
 
 
 if __name__ == "__main__":
     try:
         asyncio.run(main())
-    except OSError as it:
+    except (OSError, argparse.ArgumentTypeError) as it:
         sys.exit(f"phase4: {it}")
+    except asyncio.IncompleteReadError:
+        sys.exit("phase4: the link has ended")
     except KeyboardInterrupt:
         pass
