@@ -318,7 +318,8 @@ impl Buffers {
             (D.traffic devices.new) fault }
     {
         let has_run = session.has_run();
-        let read = self.read_if(devices, has_run && is_over(&ran));
+        let reads = has_run && is_over(&ran) && !session.has_read_input();
+        let read = self.read_if(devices, reads);
         let has_more = self.has_more(session);
         self.close(session);
         match read {
@@ -329,7 +330,8 @@ impl Buffers {
 
     /// Returns whether there may be more input than was read.
     fn has_more(&self, session: &Session) -> bool
-        ensures { result ≡ (not self.now.is_over && session.now.state.options.awaits_end) }
+        ensures { result ≡ (not self.now.is_over && (not session.now.state.is_read
+            && session.now.state.options.awaits_end)) }
     {
         !self.input_is_over && session.awaits_end()
     }
