@@ -207,5 +207,5 @@ fn moved_and_dropped() {
         exchange(one, other);
         assert_eq!(other.take(), Some(b"x".to_vec()));
     }
-    assert_eq!(ddcmp::version(), 100);
+    assert_eq!(ddcmp::version(), 200);
 }
