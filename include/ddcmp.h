@@ -21,8 +21,8 @@
 #include <stddef.h>
 #include <stdint.h>
 
-#define DDCMP_VERSION "0.1.0"
-#define DDCMP_VERSION_NUMBER 100    /* major * 10000 + minor * 100 + patch */
+#define DDCMP_VERSION "0.2.0"
+#define DDCMP_VERSION_NUMBER 200    /* major * 10000 + minor * 100 + patch */
 
 #ifdef __cplusplus
 extern "C" {
@@ -211,6 +211,10 @@ DDCMP_CALL uint32_t ddcmp_config(ddcmp_station *station, struct ddcmp_config *co
 /* These two store in dropped how many queued messages were dropped. */
 DDCMP_CALL uint32_t ddcmp_start(ddcmp_station *station, uint8_t *dropped);
 DDCMP_CALL uint32_t ddcmp_enter_maintenance(ddcmp_station *station, uint8_t *dropped);
+/* Chooses, in a halted station with an empty inbox, when messages are acknowledged: when ddcmp_take
+   takes them (read them before by ddcmp_waiting_at), or when they are received, as at first. It
+   stays so over starts. Since 0.2.0. */
+DDCMP_CALL uint32_t ddcmp_acknowledge_on_take(ddcmp_station *station, bool on_take);
 DDCMP_CALL uint32_t ddcmp_halt(ddcmp_station *station);
 /* Forgets the bytes of the line so far, if the station is halted; returns whether it is. */
 DDCMP_CALL bool ddcmp_clear_line(ddcmp_station *station);

@@ -40,6 +40,12 @@ static inline uint32_t ddcmp_checked_enter_maintenance(ddcmp_station *station, u
     return ddcmp_enter_maintenance(station, dropped);
 }
 
+static inline uint32_t ddcmp_checked_acknowledge_on_take(ddcmp_station *station, bool on_take) {
+    if (station == NULL)
+        return DDCMP_NULL;
+    return ddcmp_acknowledge_on_take(station, on_take);
+}
+
 static inline uint32_t ddcmp_checked_halt(ddcmp_station *station) {
     if (station == NULL)
         return DDCMP_NULL;
@@ -267,6 +273,7 @@ static inline uint16_t ddcmp_checked_check(const uint8_t *text, size_t length) {
 #define ddcmp_free ddcmp_checked_free
 #define ddcmp_start ddcmp_checked_start
 #define ddcmp_enter_maintenance ddcmp_checked_enter_maintenance
+#define ddcmp_acknowledge_on_take ddcmp_checked_acknowledge_on_take
 #define ddcmp_halt ddcmp_checked_halt
 #define ddcmp_clear_line ddcmp_checked_clear_line
 #define ddcmp_send ddcmp_checked_send

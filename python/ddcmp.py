@@ -76,7 +76,7 @@ from typing import (
     Tuple, Type, TypeVar, Union,
 )
 
-__version__ = "0.1.0"
+__version__ = "0.2.0"
 Bytes = Union[bytes, bytearray, memoryview]
 Self = TypeVar("Self", bound="_Handle")
 
@@ -324,7 +324,7 @@ _TYPES: Dict[str, Any] = {
 }
 _CALLS = {
     "new": "4pp", "free": "vp", "config": "4pp", "start": "4pp", "enter_maintenance": "4pp",
-    "halt": "4p", "clear_line": "tp", "state": "4p", "send": "4ppnp", "send_maintenance": "4ppn",
+    "acknowledge_on_take": "4pt", "halt": "4p", "clear_line": "tp", "state": "4p", "send": "4ppnp", "send_maintenance": "4ppn",
     "send_refusal": "4ppn", "room": "tp", "outgoing": "1p", "take": "4ppnp", "waiting": "1p",
     "waiting_length": "np1", "waiting_at": "4p1pnp", "feed": "4ppnpp", "poll": "4ppnp",
     "frame_room": "np", "next_length": "np", "offset": "8p", "open": "np", "held": "np",
@@ -449,6 +449,7 @@ class Station(_Handle):
         window, inbox, longest = (_fit(it, 16) for it in config[:3])
         given = _Config(window, inbox, longest, _fit(config.syn, 8), bool(config.restart))
         super().__init__(ctypes.byref(given))
+        self.acknowledges_on_take = False
         self._size = ctypes.c_size_t()
         self._frame = (ctypes.c_uint8 * self.frame_room)()
         self._message = (ctypes.c_uint8 * config.max)()
@@ -469,6 +470,12 @@ class Station(_Handle):
     def enter_maintenance(self) -> int:
         """Enters maintenance mode; returns how many queued messages were dropped."""
         return self._count("enter_maintenance")
+
+    def acknowledge_on_take(self, on_take: bool = True) -> None:
+        """Chooses when messages are acknowledged, if the station is halted and its inbox empty:
+        when `take` takes them, or when they are received, as at first. It stays so over starts."""
+        _must("acknowledge_on_take", self._own(), on_take)
+        self.acknowledges_on_take = on_take
 
     def halt(self) -> None:
         """Halts the station."""
@@ -651,6 +658,7 @@ class Line:
         self._inbox = station.config.inbox
         self._read = self._frame = b""  # not fed yet, and not written yet
         self._expiry = time.monotonic() + timer
+        self._returned = False  # the first message of the inbox was returned
 
     def __enter__(self) -> "Line":
         return self
@@ -667,12 +675,25 @@ class Line:
         return number
 
     def receive(self, timeout: Optional[float] = None) -> bytes:
-        """Waits for the next received message, and returns it."""
+        """Waits for the next received message, and returns it. If the station acknowledges on take,
+        it takes the message that it returned before, which is acknowledged only then."""
+        self._take()
         self._until(lambda: self.station.waiting > 0, timeout)
-        return self.station.take() or b""
+        if not self.station.acknowledges_on_take:
+            return self.station.take() or b""
+        self._returned = True
+        return self.station.waiting_at(0)
+
+    def _take(self) -> None:
+        """Takes the message that `receive` returned, if it is in the inbox still."""
+        if self._returned:
+            self._returned = False
+            self.station.take()
+            self._write()
 
     def flush(self, timeout: Optional[float] = None) -> None:
         """Waits until each message is acknowledged and each frame is written."""
+        self._take()
         self._until(lambda: not self.station.outgoing and not self._frame, timeout)
 
     def __iter__(self) -> Iterator[bytes]:

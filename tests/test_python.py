@@ -520,6 +520,48 @@ def test_documented_program(number, notices):
     must_end_well(pid)
 
 
+def sends_what_is_left(connection, messages, first):
+    """Sends messages from this one on, until the line ends; how many are acknowledged then."""
+    with ddcmp.Station(window=7) as station:
+        station.start()
+        line = ddcmp.Line(station, connection, timer=0.2)
+        sent = first
+        with contextlib.suppress(EOFError, OSError):
+            for it in messages[first:]:
+                line.send(it, SOON)
+                sent += 1
+            line.flush(SOON)
+        return sent - station.outgoing
+
+
+def test_killed_receivers(tmp_path):
+    """A receiver that acknowledges on take and is killed a hundred times: it has stored whatever was
+    acknowledged, and in the end all messages, in order."""
+    name, done, stored = f"{tmp_path}/kept", 0, []
+    messages = [b"%d" % i for i in range(100000)]
+    with socket.create_server(("127.0.0.1", 0)) as listener:
+        words = [sys.executable, f"{TOP}/python/examples/keep.py", str(listener.getsockname()[1])]
+        for kill in range(100):
+            receiver = subprocess.Popen([*words, name], env=over_library())
+            connection, _ = listener.accept()
+            threading.Timer(drawn.uniform(0, 0.05), receiver.kill).start()
+            with connection:
+                done = max(done, sends_what_is_left(connection, messages, done))
+            receiver.wait()
+            stored = contents(name).splitlines()
+            assert set(messages[:done]) <= set(stored)
+        assert done < len(messages)
+        messages = messages[:done + 100]
+        receiver = subprocess.Popen([*words, name], env=over_library())
+        connection, _ = listener.accept()
+        with connection:
+            assert sends_what_is_left(connection, messages, done) == len(messages)
+        receiver.wait()
+    kept = [int(it) for it in contents(name).splitlines()]
+    assert all(0 <= then <= now + 1 for now, then in zip(kept, kept[1:]))
+    assert sorted(set(kept)) == list(range(len(messages)))
+
+
 def test_installed_by_pip(library, tmp_path):
     """`pip install ./python` into a new environment, without a network: the module, and the library
     that is named or built."""

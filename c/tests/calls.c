@@ -107,6 +107,7 @@ static void without_a_station(void) {
     ddcmp_free(&none);
     IS(ddcmp_start(&none, &byte) == DDCMP_CLOSED && byte == 7);
     IS(ddcmp_enter_maintenance(&none, &byte) == DDCMP_CLOSED && byte == 7);
+    IS(ddcmp_acknowledge_on_take(&none, true) == DDCMP_CLOSED);
     IS(ddcmp_halt(&none) == DDCMP_CLOSED);
     IS(!ddcmp_clear_line(&none));
     IS(ddcmp_state(&none) == DDCMP_NO_STATE);
@@ -170,6 +171,7 @@ static void startup(void) {
     dropped = 7;
     IS(ddcmp_start(&a, &dropped) == DDCMP_NOT_HALTED && dropped == 7);
     IS(ddcmp_enter_maintenance(&a, &dropped) == DDCMP_NOT_HALTED && dropped == 7);
+    IS(ddcmp_acknowledge_on_take(&a, true) == DDCMP_NOT_HALTED);
     IS(!ddcmp_clear_line(&a));
     IS(ddcmp_send(&a, mail, 1, &dropped) == DDCMP_WRONG_STATE && dropped == 7);
     IS(ddcmp_send_maintenance(&a, mail, 1) == DDCMP_WRONG_STATE);
@@ -281,8 +283,41 @@ static void untaken(void) {
     dropped = 7;
     IS(ddcmp_start(&b, &dropped) == DDCMP_UNTAKEN && dropped == 7);
     IS(ddcmp_enter_maintenance(&b, &dropped) == DDCMP_UNTAKEN && dropped == 7);
+    IS(ddcmp_acknowledge_on_take(&b, true) == DDCMP_UNTAKEN);
     after = seen_of(&b);
     IS(memcmp(&before, &after, sizeof before) == 0 && after.waiting == 1);
+}
+
+/* If messages are acknowledged when they are taken, no frame acknowledges one before; and a start
+   leaves it so. */
+static void acknowledged_on_take(void) {
+    uint8_t dropped, number;
+    size_t n;
+    IS(ddcmp_take(&b, mail, sizeof mail, &n) == DDCMP_OK && n == 1);
+    IS(ddcmp_halt(&a) == DDCMP_OK && ddcmp_clear_line(&a) && ddcmp_clear_line(&b));
+    IS(ddcmp_acknowledge_on_take(&b, true) == DDCMP_OK);
+    IS(ddcmp_start(&a, &dropped) == DDCMP_OK && ddcmp_start(&b, &dropped) == DDCMP_OK);
+    while (ddcmp_next_length(&a) + ddcmp_next_length(&b) > 0) {
+        pass(&a, &b);
+        pass(&b, &a);
+    }
+    IS(ddcmp_send(&a, (const uint8_t *)"x", 1, &number) == DDCMP_OK);
+    IS(ddcmp_send(&a, (const uint8_t *)"yz", 2, &number) == DDCMP_OK);
+    IS(pass(&a, &b) == DDCMP_HANDED_UP && pass(&a, &b) == DDCMP_HANDED_UP);
+    IS(pass(&b, &a) == DDCMP_NO_NOTICE);        /* ACK */
+    IS(ddcmp_send(&b, (const uint8_t *)"w", 1, &number) == DDCMP_OK);
+    IS(pass(&b, &a) == DDCMP_HANDED_UP);        /* data */
+    pass(&a, &b);
+    IS(ddcmp_expire(&a) && pass(&a, &b) == DDCMP_NO_NOTICE);
+    IS(pass(&b, &a) == DDCMP_NO_NOTICE && ddcmp_outgoing(&a) == 2);
+    IS(ddcmp_waiting_at(&b, 0, mail, sizeof mail, &n) == DDCMP_OK && n == 1 && mail[0] == 'x');
+    IS(ddcmp_next_length(&b) == 0);
+    IS(ddcmp_take(&b, mail, sizeof mail, &n) == DDCMP_OK && n == 1);
+    IS(pass(&b, &a) == DDCMP_ACKNOWLEDGED && ddcmp_outgoing(&a) == 1);
+    IS(ddcmp_take(&b, mail, sizeof mail, &n) == DDCMP_OK && n == 2);
+    IS(pass(&b, &a) == DDCMP_ACKNOWLEDGED && ddcmp_outgoing(&a) == 0);
+    IS(ddcmp_take(&a, mail, sizeof mail, &n) == DDCMP_OK && n == 1);
+    IS(ddcmp_halt(&b) == DDCMP_OK && ddcmp_acknowledge_on_take(&b, false) == DDCMP_OK);
 }
 
 /* What maintenance messages are refused. */
@@ -479,6 +514,7 @@ int main(void) {
     long_run();
     ends();
     untaken();
+    acknowledged_on_take();
     maintenance();
     frames_written();
     items_read();

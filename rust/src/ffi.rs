@@ -108,6 +108,7 @@ extern "C" {
     pub fn ddcmp_config(station: *mut ddcmp_station, config: *mut ddcmp_config) -> u32;
     pub fn ddcmp_start(station: *mut ddcmp_station, dropped: *mut u8) -> u32;
     pub fn ddcmp_enter_maintenance(station: *mut ddcmp_station, dropped: *mut u8) -> u32;
+    pub fn ddcmp_acknowledge_on_take(station: *mut ddcmp_station, on_take: bool) -> u32;
     pub fn ddcmp_halt(station: *mut ddcmp_station) -> u32;
     pub fn ddcmp_clear_line(station: *mut ddcmp_station) -> bool;
     pub fn ddcmp_state(station: *mut ddcmp_station) -> u32;

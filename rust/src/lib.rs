@@ -242,6 +242,12 @@ impl Station {
         Ok(dropped)
     }
 
+    /// Chooses when messages are acknowledged, if the station is halted and its inbox empty: when
+    /// they are taken, or when they are received, as at first. It stays so over starts.
+    pub fn acknowledge_on_take(&mut self, on_take: bool) -> Result<(), Error> {
+        checked(unsafe { ffi::ddcmp_acknowledge_on_take(self.handle.as_ptr(), on_take) })
+    }
+
     /// Halts the station.
     pub fn halt(&mut self) {
         checked(unsafe { ffi::ddcmp_halt(self.handle.as_ptr()) }).expect("a station");

@@ -44,7 +44,7 @@ fn program_command<'a>(alloc: Global) -> clap::Command<'a>
     ensures { IsMade result bare_app }
 {
     clap::Command::new(alloc, "ddcmp")
-        .version("0.1.0")
+        .version("0.2.0")
         .about("DDCMP, the data link protocol of DECnet")
         .subcommand_required(true)
 }

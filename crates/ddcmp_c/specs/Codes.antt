@@ -34,6 +34,11 @@ code_of_start_answer (Ok n) = 0
 code_of_start_answer (Err start.NotHalted) = 8
 code_of_start_answer (Err start.Untaken) = 9
 
+abbrev pub code_of_choose_answer : Result (Unit {0}) StartRefusal → ℕ
+code_of_choose_answer (Ok u) = 0
+code_of_choose_answer (Err start.NotHalted) = 8
+code_of_choose_answer (Err start.Untaken) = 9
+
 abbrev pub code_of_refusal : SendRefusal → ℕ
 code_of_refusal send.WrongState = 10
 code_of_refusal send.Empty = 11

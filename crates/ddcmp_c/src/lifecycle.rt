@@ -3,17 +3,19 @@
 ghost use Rattle.std.specs.Prelude.{◌≡◌, ◌≢◌, [], true, false, Some, None};
 ghost use Rattle.ddcmp_frame.specs.Reader.{StandsFor};
 ghost use Rattle.ddcmp_core.specs.Table.{after_start, after_enter_maintenance, after_halt};
-ghost use Rattle.ddcmp_core.specs.Table.{is_halted};
+ghost use Rattle.ddcmp_core.specs.Table.{is_halted, chosen, answer_to_choose};
 ghost use Rattle.ddcmp_proto.specs.Config.{first_refusal, core_made, config_of};
 ghost use Rattle.ddcmp_proto.specs.Station.{StationView};
 ghost use Rattle.ddcmp_proto.specs.StationCalls.{Starts as StartCall, Halts, ClearsLine};
 ghost use Rattle.ddcmp_proto.specs.StationCalls.{EntersMaintenance, with_state};
 ghost use Rattle.ddcmp_c.specs.Codes.{code_of_config, code_of_state, given_config, taken_config};
+ghost use Rattle.ddcmp_c.specs.Codes.{code_of_choose_answer};
 ghost use Rattle.ddcmp_c.specs.Calls.{Asks, FillsIn, Makes, Starts};
 
 use crate::handle::{Handle, put_back, take_out};
 use crate::values::{
-    CConfig, CLOSED, MEMORY, OK, OPEN, asked_sizes, config_code, sizes_of, start_code, state_code,
+    CConfig, CLOSED, MEMORY, OK, OPEN, asked_sizes, choose_code, config_code, sizes_of, start_code,
+    state_code,
 };
 use ddcmp_proto::{ConfigRefusal, Station};
 use std::alloc::Global;
@@ -103,6 +105,29 @@ pub extern "C" fn ddcmp_enter_maintenance(
     let answer = open.enter_maintenance();
     put_back(station, open);
     start_code(answer, dropped)
+}
+
+/// Chooses when messages are acknowledged: when they are taken, or when they are received.
+#[unsafe(no_mangle)]
+pub extern "C" fn ddcmp_acknowledge_on_take(
+    alloc: Global,
+    station: &mut Handle,
+    by_user: bool,
+) -> u32
+    ensures closed { station.old.station ≡ None
+        → (result ≡ CLOSED) × (station.new.station ≡ None) }
+    ensures state { (s : StationView) → station.old.station ≡ Some s → station.new.station
+        ≡ Some (with_state s (chosen by_user s.core.station)) }
+    ensures code { (s : StationView) → station.old.station ≡ Some s → result
+        ≡ code_of_choose_answer (answer_to_choose s.core.station) }
+    ensures refused { result ≢ OK → station.new.station ≡ station.old.station }
+{
+    let Some(mut open) = take_out(alloc, station) else {
+        return CLOSED;
+    };
+    let answer = open.acknowledge_on_take(by_user);
+    put_back(station, open);
+    choose_code(answer)
 }
 
 /// Halts the station, which then sends and accepts nothing.

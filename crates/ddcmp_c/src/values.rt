@@ -5,7 +5,7 @@ ghost use Rattle.ddcmp_core.specs.Table.{acknowledged_by};
 ghost use Rattle.ddcmp_c.specs.Codes.{code_of_config, code_of_start_answer, code_of_send_answer};
 ghost use Rattle.ddcmp_c.specs.Codes.{code_of_refusal, code_of_state, code_of_notices};
 ghost use Rattle.ddcmp_c.specs.Codes.{acknowledged_of, given_nak_counts, given_counters};
-ghost use Rattle.ddcmp_c.specs.Codes.{given_config, taken_config};
+ghost use Rattle.ddcmp_c.specs.Codes.{given_config, taken_config, code_of_choose_answer};
 
 use ddcmp_proto::{
     Config, ConfigRefusal, Counters, NakCounts, Notice, Numbers, SendRefusal, Seq, StartRefusal,
@@ -130,6 +130,18 @@ pub(crate) fn start_code(answer: Result<u8, StartRefusal>, dropped: &mut u8) -> 
             *dropped = count;
             0
         }
+        Err(StartRefusal::NotHalted) => 8,
+        Err(StartRefusal::Untaken) => 9,
+    }
+}
+
+/// Returns the code of a choice.
+pub(crate) fn choose_code(answer: Result<(), StartRefusal>) -> u32
+    ensures code { result ≡ code_of_choose_answer answer }
+    ensures refused { result ≢ OK → IsErr answer }
+{
+    match answer {
+        Ok(()) => 0,
         Err(StartRefusal::NotHalted) => 8,
         Err(StartRefusal::Untaken) => 9,
     }

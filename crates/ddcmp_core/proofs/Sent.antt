@@ -8,7 +8,8 @@ use Rattle.ddcmp_core.specs.declared.state.State.TheVariants.{Maintenance}
 use Rattle.ddcmp_core.specs.declared.state.Owed.{Owed}
 use Rattle.ddcmp_core.specs.declared.state.Owed.TheVariants.{Quiet, Ack, Nak}
 use Rattle.ddcmp_core.specs.declared.state.Timer.TheVariants.{Fresh}
-use Rattle.ddcmp_core.specs.Table.{StationState, Data, Acked, Rep, Strt, Stack, Idle, Sends}
+use Rattle.ddcmp_core.specs.Table.{StationState, resp_of, Data, Acked, Rep, Strt, Stack, Idle}
+use Rattle.ddcmp_core.specs.Table.{Sends}
 use Rattle.ddcmp_core.specs.Table.{before_next, message_at_next, is_ack, after_data, next_running}
 use Rattle.ddcmp_core.specs.Table.{next_maintenance, next_by, next}
 use Rattle.ddcmp_core.specs.NextFrame.{is_nak, SentFor, sends_strt, sends_stack, sends_nak}
@@ -31,7 +32,7 @@ sending s = by s.state refl
 
     ack_or : s.state ≡ Running → (r : Owed) → s.reply ≡ r → is_nak r ≡ false → s.rep ≡ false
         → length s.out ≤ before_next s
-        → SentFor s (cond (is_ack r) (Sends (Acked s.r) (record s { reply = Quiet })) Idle)
+        → SentFor s (cond (is_ack r) (Sends (Acked (resp_of s)) (record s { reply = Quiet })) Idle)
     ack_or e Ack r k f b = sends_ack e r f b
     ack_or e Quiet r k f b = running_idles e r f b
     ack_or e (Nak why) r k f b = absurd (cc)
@@ -39,8 +40,8 @@ sending s = by s.state refl
     data_or : s.state ≡ Running → (r : Owed) → s.reply ≡ r → is_nak r ≡ false → s.rep ≡ false
         → (b : Bool) → nat_lt (before_next s) (length s.out) ≡ b
         → SentFor s
-        (cond b (Sends (Data s.r s.t (message_at_next s)) (after_data s))
-        (cond (is_ack r) (Sends (Acked s.r) (record s { reply = Quiet })) Idle))
+        (cond b (Sends (Data (resp_of s) s.t (message_at_next s)) (after_data s))
+        (cond (is_ack r) (Sends (Acked (resp_of s)) (record s { reply = Quiet })) Idle))
     data_or e r q k f true b = sends_data e (cc) f (grind (arith))
     data_or e r q k f false b = ack_or e r q k f (grind (arith))
 
@@ -48,8 +49,8 @@ sending s = by s.state refl
         → s.rep ≡ b
         → SentFor s (cond b (Sends (Rep s.n) (record s { rep = false; timer = Fresh }))
         (cond (nat_lt (before_next s) (length s.out))
-        (Sends (Data s.r s.t (message_at_next s)) (after_data s))
-        (cond (is_ack r) (Sends (Acked s.r) (record s { reply = Quiet })) Idle)))
+        (Sends (Data (resp_of s) s.t (message_at_next s)) (after_data s))
+        (cond (is_ack r) (Sends (Acked (resp_of s)) (record s { reply = Quiet })) Idle)))
     rep_or e r q k true f = sends_rep e (cc) f
     rep_or e r q k false f = data_or e r q k f (nat_lt (before_next s) (length s.out)) refl
 

@@ -12,7 +12,7 @@ use Rattle.ddcmp_core.specs.declared.state.State.{State}
 use Rattle.ddcmp_core.specs.declared.state.State.TheVariants.{Halted, IStart, AStart, Running}
 use Rattle.ddcmp_core.specs.declared.state.State.TheVariants.{Maintenance}
 use Rattle.ddcmp_core.specs.declared.state.Owed.{Owed}
-use Rattle.ddcmp_core.specs.declared.state.Owed.TheVariants.{Quiet}
+use Rattle.ddcmp_core.specs.declared.state.Owed.TheVariants.{Quiet, Ack, Nak}
 use Rattle.ddcmp_core.specs.declared.state.Timer.{Timer}
 use Rattle.ddcmp_core.specs.declared.state.Timer.TheVariants.{Off, Fresh, On}
 use Rattle.ddcmp_core.specs.Table.{StationState, Limits, Data, Acked, Naked, Rep, Strt, Stack}
@@ -23,6 +23,7 @@ use Rattle.ddcmp_core.specs.Table.{reply_to_offer, after_offer, on_data, on_nak,
 use Rattle.ddcmp_core.specs.Table.{on_by, on, after_startup, after_halt, after_restart, may_restart}
 use Rattle.ddcmp_core.specs.Table.{on_strt, may_start, after_start, after_enter_maintenance}
 use Rattle.ddcmp_core.specs.Table.{may_send, may_send_maintenance, after_accept, after_take}
+use Rattle.ddcmp_core.specs.Table.{after_choose, owed_after_take, acknowledges_by_take}
 use Rattle.ddcmp_core.specs.Table.{after_take_arm, after_expire_in, after_expire_with, after_expire}
 use Rattle.ddcmp_core.specs.Table.{is_running, is_maintenance, is_starting, is_fresh, Next, next}
 use Rattle.ddcmp_core.specs.Table.{timer_started, after_next}
@@ -90,9 +91,9 @@ sound_halted l s h =
 
 -- ---- a beginning
 
-begun_fits : (p : State) (due : Bool) (inbox : List (List ℕ)) → inbox ≡ []
-    → FitsState (station_begun p due inbox)
-begun_fits p due inbox e =
+begun_fits : (p : State) (due u : Bool) (inbox : List (List ℕ)) → inbox ≡ []
+    → FitsState (station_begun p due u inbox)
+begun_fits p due u inbox e =
     record {
       starting_r = λ q. refl;
       starting_out = λ q. refl;
@@ -103,14 +104,14 @@ begun_fits p due inbox e =
     }
 
 sound_begun : (l : Limits) (s : StationState) (p : State) (due : Bool) → s.inbox ≡ [] → IsSound l s
-    → IsSound l (station_begun p due s.inbox)
+    → IsSound l (station_begun p due s.by_user s.inbox)
 sound_begun l s p due e h =
     record {
       r_byte = omega arith;
       in_window = window_new;
       out_stored = stored_none l.window l.longest s.out h.out_stored;
       inbox_stored = h.inbox_stored;
-      fits = begun_fits p due s.inbox e;
+      fits = begun_fits p due s.by_user s.inbox e;
     }
 
 empty_inbox : (s : StationState) → may_start s ≡ true → s.inbox ≡ []
@@ -124,7 +125,7 @@ sound_new l out inbox =
       in_window = window_new;
       out_stored = out;
       inbox_stored = inbox;
-      fits = begun_fits Halted false [] refl;
+      fits = begun_fits Halted false false [] refl;
     }
 
 pub sound_started : (l : Limits) (s : StationState) → may_start s ≡ true → IsSound l s
@@ -440,6 +441,30 @@ sound_accepted_maintenance l s message e h =
     grind (arith) in
     accepts l s message (maintains_only s.state p) f.0 f.1 f.2 h
 
+pub reply_taken : (b : Bool) (r : Owed) → is_sent_reply r ≡ true
+    → is_sent_reply (cond b (owed_after_take r) r) ≡ true
+reply_taken true Quiet e = refl
+reply_taken true Ack e = refl
+reply_taken true (Nak why) e = e
+reply_taken false r e = e
+
+pub sound_chosen : (l : Limits) (s : StationState) (b : Bool) → IsSound l s
+    → IsSound l (after_choose b s)
+sound_chosen l s b h = record {
+  r_byte = h.r_byte;
+  in_window = h.in_window;
+  out_stored = h.out_stored;
+  inbox_stored = h.inbox_stored;
+  fits = record {
+    starting_r = h.fits.starting_r;
+    starting_out = h.fits.starting_out;
+    starting_inbox = h.fits.starting_inbox;
+    maintenance_n = h.fits.maintenance_n;
+    maintenance_t = h.fits.maintenance_t;
+    sent_reply = h.fits.sent_reply;
+  };
+}
+
 pub sound_taken : (l : Limits) (s : StationState) → IsSound l s → IsSound l (after_take s)
 sound_taken l s h =
     record {
@@ -453,6 +478,6 @@ sound_taken l s h =
         starting_inbox = λ p. ap (drop 1) (h.fits.starting_inbox p);
         maintenance_n = h.fits.maintenance_n;
         maintenance_t = h.fits.maintenance_t;
-        sent_reply = h.fits.sent_reply;
+        sent_reply = reply_taken (acknowledges_by_take s) s.reply h.fits.sent_reply;
       };
     }

@@ -14,7 +14,8 @@ use Rattle.ddcmp_core.specs.declared.state.State.TheVariants.{Halted, IStart, AS
 use Rattle.ddcmp_core.specs.declared.state.State.TheVariants.{Maintenance}
 use Rattle.ddcmp_core.specs.declared.state.Timer.{Timer}
 use Rattle.ddcmp_core.specs.declared.state.Timer.TheVariants.{Off, Fresh, On}
-use Rattle.ddcmp_core.specs.Table.{StationState, Limits, Frame, Data, Acked, Naked, Rep, Strt}
+use Rattle.ddcmp_core.specs.Table.{StationState, resp_of, Limits, Frame, Data, Acked, Naked, Rep}
+use Rattle.ddcmp_core.specs.Table.{Strt}
 use Rattle.ddcmp_core.specs.Table.{Stack, Maint, Received, Good, BadHeader, BadData, TooLong}
 use Rattle.ddcmp_core.specs.Table.{BadFormat, before_next, after_ack, on_data, on_nak, on_by, on}
 use Rattle.ddcmp_core.specs.Table.{after_startup, after_halt, after_restart, may_restart, on_strt}
@@ -176,7 +177,7 @@ pub sent_in_state : (s : StationState) (f : Frame) (u : StationState) → next s
 sent_in_state s f u e = subst (OfFrame (StrtIn s)) e (strt_turn s (next s) (sending s))
 
 abbrev pub DataIn : StationState → Frame → Type 0
-DataIn s (Data resp num message) = (resp ≡ s.r) × IsSentInWindow s num message
+DataIn s (Data resp num message) = (resp ≡ resp_of s) × IsSentInWindow s num message
 DataIn s _ = Unit {0}
 
 number_of : (a t : ℕ) → a < 256 → t < 256 → t ≡ (a + ((t + 511 - a) % 256 + 1)) % 256
@@ -207,7 +208,7 @@ data_turn l s _ h (maintenance_idles p o) = tt
 
 pub data_sent : (l : Limits) (s : StationState) (resp num : ℕ) (message : List ℕ) (u : StationState)
     → IsSound l s → next s ≡ Sends (Data resp num message) u
-    → (resp ≡ s.r) × IsSentInWindow s num message
+    → (resp ≡ resp_of s) × IsSentInWindow s num message
 data_sent l s resp num message u h e =
     subst (OfFrame (DataIn s)) e (data_turn l s (next s) h (sending s))
 
@@ -235,7 +236,7 @@ read_turn l s _ h (sends_stack p d) = (refl, refl, omega arith, omega arith)
 read_turn l s _ h (sends_nak why p r) =
     let e : is_sent_reason why ≡ true = sym (ap is_sent_reply r) ∙ h.fits.sent_reply in
     let k = reason_read why e in
-    (ap (λ (w : Reason). Naked w s.r) k.0, refl, k.1, omega arith)
+    (ap (λ (w : Reason). Naked w (resp_of s)) k.0, refl, k.1, omega arith)
 read_turn l s _ h (sends_rep p r f) = (refl, refl, omega arith, omega arith)
 read_turn l s _ h (sends_data p r f place) =
     let k = h.out_stored.lengths (before_next s) place in

@@ -16,7 +16,7 @@ use Rattle.ddcmp_core.specs.Table.{Maint, Received, Good, BadHeader, BadData, To
 use Rattle.ddcmp_core.specs.Table.{outgoing, newly_acknowledged, after_ack, after_offer, on_data}
 use Rattle.ddcmp_core.specs.Table.{on_nak, on_by, on, after_startup, after_halt, after_restart}
 use Rattle.ddcmp_core.specs.Table.{may_restart, on_strt, new_station, after_start}
-use Rattle.ddcmp_core.specs.Table.{after_enter_maintenance, after_accept, after_take}
+use Rattle.ddcmp_core.specs.Table.{after_enter_maintenance, after_accept, after_take, after_choose}
 use Rattle.ddcmp_core.specs.Table.{after_expire_in, after_expire_with, after_expire, is_fresh}
 use Rattle.ddcmp_core.specs.Table.{after_take_arm, is_starting, Next, next, timer_started}
 use Rattle.ddcmp_core.specs.Table.{after_next}
@@ -231,6 +231,9 @@ timed_accepted s message h = timed_lists s (s.out ++ message ∷ []) s.inbox h
 
 pub timed_taken : (s : StationState) → IsTimed s → IsTimed (after_take s)
 timed_taken s h = record { waits = h.waits; asks = h.asks; begins = h.begins }
+
+pub timed_chosen : (s : StationState) (b : Bool) → IsTimed s → IsTimed (after_choose b s)
+timed_chosen s b h = record { waits = h.waits; asks = h.asks; begins = h.begins }
 
 pub timed_armed : (s : StationState) → IsTimed s → IsTimed (after_take_arm s)
 timed_armed s h =

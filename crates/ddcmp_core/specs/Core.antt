@@ -21,9 +21,10 @@ pub record CoreView : Type 0 where
   pub station : StationState
   pub counters : Counters
 
--- the eleven fields, of which a sender and an inbox have the numbers and the lists
-abbrev pub state_of : State → Bool → Owed → Bool → Timer → SenderView → InboxView → StationState
-state_of state due reply rep timer sender inbox = record {
+-- the twelve fields, of which a sender and an inbox have the numbers and the lists
+abbrev pub state_of : State → Bool → Owed → Bool → Timer → SenderView → InboxView → Bool
+    → StationState
+state_of state due reply rep timer sender inbox by_user = record {
   state = state;
   due = due;
   r = inbox.incoming.r;
@@ -35,6 +36,7 @@ state_of state due reply rep timer sender inbox = record {
   timer = timer;
   out = sender.outgoing.out;
   inbox = inbox.incoming.inbox;
+  by_user = by_user;
 }
 
 -- the reasons of the NAKs that a station sends

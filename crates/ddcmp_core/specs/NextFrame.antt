@@ -6,7 +6,8 @@ use Rattle.ddcmp_core.specs.declared.state.State.TheVariants.{Maintenance}
 use Rattle.ddcmp_core.specs.declared.state.Owed.{Owed}
 use Rattle.ddcmp_core.specs.declared.state.Owed.TheVariants.{Quiet, Ack, Nak}
 use Rattle.ddcmp_core.specs.declared.state.Timer.TheVariants.{Fresh}
-use Rattle.ddcmp_core.specs.Table.{StationState, Data, Acked, Naked, Rep, Strt, Stack, Maint, Next}
+use Rattle.ddcmp_core.specs.Table.{StationState, resp_of, Data, Acked, Naked, Rep, Strt, Stack}
+use Rattle.ddcmp_core.specs.Table.{Maint, Next}
 use Rattle.ddcmp_core.specs.Table.{Idle, Sends, before_next, message_at_next, after_data}
 use Rattle.ddcmp_core.specs.Table.{is_starting}
 
@@ -21,14 +22,15 @@ pub data SentFor (s : StationState) : Next → Type 0 where
   sends_stack : s.state ≡ AStart → s.due ≡ true
       → SentFor s (Sends Stack (record s { due = false; timer = Fresh }))
   sends_nak : (why : Reason) → s.state ≡ Running → s.reply ≡ Nak why
-      → SentFor s (Sends (Naked why s.r) (record s { reply = Quiet }))
+      → SentFor s (Sends (Naked why (resp_of s)) (record s { reply = Quiet }))
   sends_rep : s.state ≡ Running → is_nak s.reply ≡ false → s.rep ≡ true
       → SentFor s (Sends (Rep s.n) (record s { rep = false; timer = Fresh }))
   sends_data : s.state ≡ Running → is_nak s.reply ≡ false → s.rep ≡ false
       → before_next s < length s.out
-      → SentFor s (Sends (Data s.r s.t (message_at_next s)) (after_data s))
+      → SentFor s (Sends (Data (resp_of s) s.t (message_at_next s)) (after_data s))
   sends_ack : s.state ≡ Running → s.reply ≡ Ack → s.rep ≡ false
-      → length s.out ≤ before_next s → SentFor s (Sends (Acked s.r) (record s { reply = Quiet }))
+      → length s.out ≤ before_next s
+      → SentFor s (Sends (Acked (resp_of s)) (record s { reply = Quiet }))
   sends_maint : (message : List ℕ) (rest : List (List ℕ))
       → s.state ≡ Maintenance → s.out ≡ message ∷ rest
       → SentFor s (Sends (Maint message) (record s { out = rest }))

@@ -4,6 +4,7 @@ use Rattle.std.specs.Prelude.{ℕ, Bool, true, false, ◌&&◌, if◌then◌else
 use Rattle.std.specs.Prelude.{◌∷◌, ◌++◌, length, slice_index_or, Option, Some, None, is_none}
 use Rattle.std.specs.Prelude.{Result}
 use Rattle.ddcmp_num.specs.declared.seq.Seq.{Seq}
+use Rattle.ddcmp_num.specs.Sequence.{distance}
 use Rattle.ddcmp_frame.specs.declared.nak.Nak.{Nak as Reason}
 use Rattle.ddcmp_frame.specs.declared.nak.Nak.TheVariants as reason
 use Rattle.ddcmp_window.specs.declared.sender.SendRefusal.{SendRefusal}
@@ -55,6 +56,7 @@ pub record StationState : Type 0 where
   pub timer : Timer
   pub out : List (List ℕ)
   pub inbox : List (List ℕ)
+  pub by_user : Bool
 
 -- the numbers and messages of each direction
 abbrev pub outgoing : StationState → Outgoing
@@ -69,13 +71,18 @@ with_outgoing s o = record s { n = o.n; a = o.a; t = o.t; out = o.out }
 abbrev pub with_incoming : StationState → Incoming → StationState
 with_incoming s i = record s { r = i.r; inbox = i.inbox }
 
+-- RESP of the frames that are sent: R, or, if messages are acknowledged when they are taken, the
+-- number of the last one that was taken
+abbrev pub resp_of : StationState → ℕ
+resp_of s = if s.by_user then distance (length s.inbox) s.r else s.r
+
 -- the number of queued messages before t
 abbrev pub before_next : StationState → ℕ
 before_next s = outgoing_before_next (outgoing s)
 
 -- a station with this inbox that has sent and received nothing
-abbrev pub station_begun : State → Bool → List (List ℕ) → StationState
-station_begun state due inbox = record {
+abbrev pub station_begun : State → Bool → Bool → List (List ℕ) → StationState
+station_begun state due by_user inbox = record {
   state = state;
   due = due;
   r = 0;
@@ -87,10 +94,11 @@ station_begun state due inbox = record {
   timer = Off;
   out = [];
   inbox = inbox;
+  by_user = by_user;
 }
 
 abbrev pub new_station : StationState
-new_station = station_begun Halted false []
+new_station = station_begun Halted false false []
 
 abbrev pub is_halted : State → Bool
 is_halted Halted = true
@@ -125,10 +133,10 @@ abbrev pub answer_to_start : StationState → Result ℕ StartRefusal
 answer_to_start s = answer_unless (start_refusal s) (length s.out)
 
 abbrev pub after_start : StationState → StationState
-after_start s = station_begun IStart true s.inbox
+after_start s = station_begun IStart true s.by_user s.inbox
 
 abbrev pub after_enter_maintenance : StationState → StationState
-after_enter_maintenance s = station_begun Maintenance false s.inbox
+after_enter_maintenance s = station_begun Maintenance false s.by_user s.inbox
 
 abbrev pub after_halt : StationState → StationState
 after_halt s = record s { state = Halted; due = false; reply = Quiet; rep = false; timer = Off }
@@ -163,9 +171,37 @@ abbrev pub answer_to_send_maintenance : Limits → StationState → List ℕ
     → Result (Unit {0}) SendRefusal
 answer_to_send_maintenance l s message = answer_unless (send_maintenance_refusal l s message) tt
 
--- take
+-- take: if messages are acknowledged then, a running station owes an ACK for a message
+abbrev pub owed_after_take : Owed → Owed
+owed_after_take Quiet = Ack
+owed_after_take Ack = Ack
+owed_after_take (Nak why) = Nak why
+
+abbrev pub acknowledges_by_take : StationState → Bool
+acknowledges_by_take s = s.by_user && is_running s.state && nat_lt 0 (length s.inbox)
+
 abbrev pub after_take : StationState → StationState
-after_take s = with_incoming s (incoming_after_take (incoming s))
+after_take s =
+    record (with_incoming s (incoming_after_take (incoming s))) {
+      reply = if acknowledges_by_take s then owed_after_take s.reply else s.reply;
+    }
+
+-- all messages are taken
+abbrev pub after_take_all : StationState → StationState
+after_take_all s = record s {
+  inbox = [];
+  reply = if acknowledges_by_take s then owed_after_take s.reply else s.reply;
+}
+
+-- acknowledge_on_take: in Halted with an empty inbox, as for a start
+abbrev pub after_choose : Bool → StationState → StationState
+after_choose by_user s = record s { by_user = by_user }
+
+abbrev pub chosen : Bool → StationState → StationState
+chosen by_user s = if may_start s then after_choose by_user s else s
+
+abbrev pub answer_to_choose : StationState → Result (Unit {0}) StartRefusal
+answer_to_choose s = answer_unless (start_refusal s) tt
 
 -- expire
 abbrev pub after_expire_in : State → StationState → StationState
@@ -291,7 +327,7 @@ abbrev pub may_restart : Limits → StationState → Bool
 may_restart l s = l.restart && length s.inbox == 0
 
 abbrev pub after_restart : StationState → StationState
-after_restart s = station_begun AStart true s.inbox
+after_restart s = station_begun AStart true s.by_user s.inbox
 
 abbrev pub on_strt : Limits → StationState → StationState
 on_strt l s = if may_restart l s then after_restart s else after_halt s
@@ -427,11 +463,11 @@ is_ack _ = false
 -- Running: the first of these that applies. A NAK is pending; a REP is pending; a queued message
 -- wasn't sent since the last NAK; or an ACK is pending, which data would have carried.
 abbrev pub next_running : Owed → StationState → Next
-next_running (Nak why) s = Sends (Naked why s.r) (record s { reply = Quiet })
+next_running (Nak why) s = Sends (Naked why (resp_of s)) (record s { reply = Quiet })
 next_running reply s =
     if s.rep then Sends (Rep s.n) (record s { rep = false; timer = Fresh })
-    else if has_message s then Sends (Data s.r s.t (message_at_next s)) (after_data s)
-    else if is_ack reply then Sends (Acked s.r) (record s { reply = Quiet })
+    else if has_message s then Sends (Data (resp_of s) s.t (message_at_next s)) (after_data s)
+    else if is_ack reply then Sends (Acked (resp_of s)) (record s { reply = Quiet })
     else Idle
 
 abbrev pub next_maintenance : List (List ℕ) → StationState → Next

@@ -1,5 +1,5 @@
 //! Laws of the station's table. They hold whatever is received from the line.
-ghost use Rattle.std.specs.Prelude.{◌≡◌, ◌≢◌, ℕ, ◌+◌, ◌<◌, ◌≤◌, List, [], length, true, Some};
+ghost use Rattle.std.specs.Prelude.{◌≡◌, ◌≢◌, ℕ, ◌+◌, ◌<◌, ◌≤◌, Bool, List, [], length, true, Some};
 ghost use Rattle.ddcmp_num.specs.Sequence.{distance};
 ghost use Rattle.ddcmp_window.specs.Store.{IsStored};
 ghost use Rattle.ddcmp_window.specs.Numbers.{next_number};
@@ -11,6 +11,7 @@ ghost use Rattle.ddcmp_core.specs.Table.{next, after_next, after_ack, newly_ackn
 ghost use Rattle.ddcmp_core.specs.Table.{may_start, after_start, after_enter_maintenance};
 ghost use Rattle.ddcmp_core.specs.Table.{after_halt, may_send, may_send_maintenance, after_accept};
 ghost use Rattle.ddcmp_core.specs.Table.{after_take, after_expire, after_take_arm, is_starting};
+ghost use Rattle.ddcmp_core.specs.Table.{resp_of, after_choose};
 ghost use Rattle.ddcmp_core.specs.Frames.{frame_of, header_of, message_of};
 ghost use Rattle.ddcmp_core.specs.declared.notice.Notice.{Notice as NoticeValue};
 ghost use Rattle.ddcmp_core.specs.Laws.{BeginsRunning, IsSentInWindow, HasNothing, tells_restart};
@@ -40,6 +41,8 @@ pub fn stays_sound()
         → may_send_maintenance l s message ≡ true → IsSound l s
         → IsSound l (after_accept s message) }
     ensures takes { (l : Limits) (s : StationState) → IsSound l s → IsSound l (after_take s) }
+    ensures chooses { (l : Limits) (s : StationState) (b : Bool) → IsSound l s
+        → IsSound l (after_choose b s) }
     ensures expires { (l : Limits) (s : StationState) → IsSound l s → IsSound l (after_expire s) }
     ensures arms { (l : Limits) (s : StationState) → IsSound l s → IsSound l (after_take_arm s) }
 {}
@@ -87,11 +90,11 @@ pub fn stops_at_a_strt()
         → (on l s h).state ≡ s.state }
 {}
 
-/// A data message that is sent carries R, and is one of those queued, with a number from A + 1 to N
-/// + 1.
+/// A data message that is sent carries R, or, if messages are acknowledged when they are taken, the
+/// number of the last message taken. It is one of those queued, with a number from A + 1 to N + 1.
 pub fn sends_in_window()
     ensures { (l : Limits) (s u : StationState) (resp num : ℕ) (message : List ℕ)
-        → IsSound l s → next s ≡ Sends (Data resp num message) u → (resp ≡ s.r)
+        → IsSound l s → next s ≡ Sends (Data resp num message) u → (resp ≡ resp_of s)
         × IsSentInWindow s num message }
 {}
 
@@ -141,6 +144,19 @@ pub fn stays_timed()
     ensures accepts { (s : StationState) (message : List ℕ) → IsTimed s
         → IsTimed (after_accept s message) }
     ensures takes { (s : StationState) → IsTimed s → IsTimed (after_take s) }
+    ensures chooses { (s : StationState) (b : Bool) → IsTimed s → IsTimed (after_choose b s) }
     ensures expires { (s : StationState) → IsTimed s → IsTimed (after_expire s) }
     ensures arms { (s : StationState) → IsTimed s → IsTimed (after_take_arm s) }
+{}
+
+/// Only `acknowledge_on_take` changes when a station acknowledges: no input and no other call does.
+pub fn keeps_the_mode()
+    ensures receives { (l : Limits) (s : StationState) (h : Received) → (on l s h).by_user
+        ≡ s.by_user }
+    ensures sends { (s : StationState) → (after_next (next s) s).by_user ≡ s.by_user }
+    ensures starts { (s : StationState) → (after_start s).by_user ≡ s.by_user }
+    ensures maintains { (s : StationState) → (after_enter_maintenance s).by_user ≡ s.by_user }
+    ensures halts { (s : StationState) → (after_halt s).by_user ≡ s.by_user }
+    ensures takes { (s : StationState) → (after_take s).by_user ≡ s.by_user }
+    ensures expires { (s : StationState) → (after_expire s).by_user ≡ s.by_user }
 {}

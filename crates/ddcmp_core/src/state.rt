@@ -1,6 +1,6 @@
 //! The states of a station, its pending reply, and its reply timer.
 ghost use Rattle.std.specs.Prelude.{◌≡◌};
-ghost use Rattle.ddcmp_core.specs.Table.{timer_started};
+ghost use Rattle.ddcmp_core.specs.Table.{timer_started, owed_after_take};
 
 use ddcmp_frame::Nak;
 
@@ -28,6 +28,18 @@ pub enum Owed {
     Ack,
     /// A NAK with this reason.
     Nak(Nak),
+}
+
+impl Owed {
+    /// Returns the pending reply after a message was acknowledged: a NAK carries it too.
+    pub(crate) fn after_take(self) -> Owed
+        ensures { result ≡ owed_after_take self }
+    {
+        match self {
+            Owed::Quiet | Owed::Ack => Owed::Ack,
+            Owed::Nak(_) => self,
+        }
+    }
 }
 
 /// The reply timer. The caller keeps the time.

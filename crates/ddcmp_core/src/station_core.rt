@@ -42,6 +42,8 @@ pub struct Core<S: Store> {
     inbox: Inbox<S>,
     /// Restart when the peer restarts, if the inbox is empty.
     restart: bool,
+    /// Messages are acknowledged when they are taken, and not when they are received.
+    by_user: bool,
     counters: Counters,
 }
 
@@ -57,6 +59,7 @@ impl<S: Store + Drop> Drop for Core<S> {
             sender: _sender,
             inbox: _inbox,
             restart: _,
+            by_user: _,
             counters: _,
         } = self;
     }
@@ -77,13 +80,13 @@ impl<S: Store> Model for Core<S> {
         longest = c.sender.longest;
         restart = c.restart;
       };
-      station = state_of c.state c.due c.reply c.rep c.timer c.sender c.inbox;
+      station = state_of c.state c.due c.reply c.rep c.timer c.sender c.inbox c.by_user;
       counters = c.counters;
     } };
 
     ghost invariant = { λ c. (c.sender.longest ≡ c.inbox.longest) × IsSoundSender c.sender
         × IsSoundInbox c.inbox
-        × FitsState (state_of c.state c.due c.reply c.rep c.timer c.sender c.inbox) };
+        × FitsState (state_of c.state c.due c.reply c.rep c.timer c.sender c.inbox c.by_user) };
 }
 
 impl<S: Store> Core<S> {
@@ -92,6 +95,7 @@ impl<S: Store> Core<S> {
     ghost use Rattle.std.specs.Prelude.{if◌then◌else◌};
     ghost use Rattle.ddcmp_window.specs.Store.{first_message, with_front};
     ghost use Rattle.ddcmp_core.specs.Table.{new_station, may_start, answer_to_start, after_start};
+    ghost use Rattle.ddcmp_core.specs.Table.{chosen, answer_to_choose};
     ghost use Rattle.ddcmp_core.specs.Table.{after_enter_maintenance, station_begun, after_halt};
     ghost use Rattle.ddcmp_core.specs.Table.{send_refusal as send_refusal_of, answer_to_send};
     ghost use Rattle.ddcmp_core.specs.Table.{may_send, after_accept, answer_to_send_maintenance};
@@ -127,6 +131,7 @@ impl<S: Store> Core<S> {
             sender: Sender::new(out),
             inbox: Inbox::new(inbox),
             restart,
+            by_user: false,
             counters: Counters::none(),
         }
     }
@@ -160,7 +165,8 @@ impl<S: Store> Core<S> {
     fn begin_halted(&mut self, state: State, due: bool) -> Result<u8, StartRefusal>
         ensures state { self.new ≡ record self.old {
           station = if may_start self.old.station
-              then station_begun state due self.old.station.inbox else self.old.station;
+              then station_begun state due self.old.station.by_user self.old.station.inbox
+              else self.old.station;
         } }
         ensures answer { result ≡ answer_to_start self.old.station }
     {
@@ -176,8 +182,9 @@ impl<S: Store> Core<S> {
     /// Starts in a state with an empty inbox; returns how many messages were dropped.
     fn begin(&mut self, state: State, due: bool) -> u8
         requires { length self.old.station.inbox ≡ 0 }
-        ensures state { self.new
-            ≡ record self.old { station = station_begun state due self.old.station.inbox } }
+        ensures state { self.new ≡ record self.old {
+          station = station_begun state due self.old.station.by_user self.old.station.inbox;
+        } }
         ensures dropped { result ≡ length self.old.station.out }
     {
         let dropped = self.sender.reset();
@@ -252,7 +259,28 @@ impl<S: Store> Core<S> {
         ensures length { result ≡ option_map length (first_message self.old.station.inbox) }
         ensures out { out.new ≡ with_front (first_message self.old.station.inbox) out.old }
     {
+        if self.by_user && self.state == State::Running && self.inbox.len() > 0 {
+            self.reply = self.reply.after_take();
+        }
         self.inbox.take(out)
+    }
+
+    /// Chooses when messages are acknowledged, if the station is halted and its inbox empty: when
+    /// they are taken, or when they are received. It stays so over starts. A new station
+    /// acknowledges what it receives.
+    pub fn acknowledge_on_take(&mut self, by_user: bool) -> Result<(), StartRefusal>
+        ensures state { self.new ≡ record self.old { station = chosen by_user self.old.station } }
+        ensures answer { result ≡ answer_to_choose self.old.station }
+        ensures refused { OnErr result (self.new ≡ self.old) }
+    {
+        if self.state != State::Halted {
+            return Err(StartRefusal::NotHalted);
+        }
+        if self.inbox.len() != 0 {
+            return Err(StartRefusal::Untaken);
+        }
+        self.by_user = by_user;
+        Ok(())
     }
 
     /// Handles an expiry of the timer; returns whether it was on.

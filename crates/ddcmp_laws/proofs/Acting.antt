@@ -17,7 +17,7 @@ use Rattle.ddcmp_core.specs.Core.{IsTimed}
 use Rattle.ddcmp_core.specs.Table.{StationState, Frame, Data, Acked, Naked, Rep, Next, Idle, Sends}
 use Rattle.ddcmp_core.specs.Table.{after_data, is_starting, after_next, after_accept, after_take}
 use Rattle.ddcmp_core.specs.Table.{after_expire_in, after_expire_with, after_expire}
-use Rattle.ddcmp_core.specs.Table.{message_at_next}
+use Rattle.ddcmp_core.specs.Table.{message_at_next, resp_of}
 use Rattle.ddcmp_core.specs.NextFrame.{SentFor, sends_strt, sends_stack, sends_nak, sends_rep}
 use Rattle.ddcmp_core.specs.NextFrame.{sends_data, sends_ack, sends_maint, halted_idles}
 use Rattle.ddcmp_core.specs.NextFrame.{starting_idles, running_idles, maintenance_idles}
@@ -27,6 +27,7 @@ use Rattle.ddcmp_pair.proofs.Sendings.{counts_sent}
 use Rattle.ddcmp_pair.proofs.Calls.{take-up}
 use Rattle.ddcmp_pair.proofs.Views.{View}
 use Rattle.ddcmp_pair.proofs.Sees.{sees_sent}
+use Rattle.ddcmp_laws.proofs.Early.{early-resp, early-take}
 use Rattle.ddcmp_laws.proofs.Flights.{Flight, data_flies, ack_flies, nak_flies, rep_flies}
 use Rattle.ddcmp_laws.proofs.Flights.{strt_flies, stack_flies, frame}
 use Rattle.ddcmp_laws.proofs.Traffic.{Polls, p_strt, p_stack, p_nak, p_rep, p_data, p_ack}
@@ -57,26 +58,29 @@ module _ (x : Face) (awake : x.station.state ≢ Halted) (trains : x.station.sta
   left : length x.station.out ≡ length x.given - x.acknowledged
   left = out_length x.station x.limits.window x.given x.acknowledged v.sent v.next v.up c
 
-  pub acts-as : (z : Next) → SentFor x.station z → ActsAs x z
-  acts-as _ (sends_strt e d) =
+  resp : x.station.by_user ≡ false → resp_of x.station ≡ v.up % 256
+  resp early = early-resp x.station early ∙ c.r_is
+
+  pub acts-as : x.station.by_user ≡ false → (z : Next) → SentFor x.station z → ActsAs x z
+  acts-as early _ (sends_strt e d) =
       record { flight = strt_flies; polls = p_strt e d; frame_is = refl; counted = c }
-  acts-as _ (sends_stack e d) =
+  acts-as early _ (sends_stack e d) =
       record { flight = stack_flies; polls = p_stack e d; frame_is = refl; counted = c }
-  acts-as _ (sends_nak why e r) =
+  acts-as early _ (sends_nak why e r) =
       record {
         flight = nak_flies why v.up;
         polls = p_nak why e r;
-        frame_is = ap (λ q. Naked why q) (sym c.r_is);
+        frame_is = ap (λ q. Naked why q) (sym (resp early));
         counted = c;
       }
-  acts-as _ (sends_rep e r f) =
+  acts-as early _ (sends_rep e r f) =
       record {
         flight = rep_flies v.sent;
         polls = p_rep e r f;
         frame_is = ap (λ q. Rep q) (sym c.n_is);
         counted = c;
       }
-  acts-as _ (sends_data e r f place) =
+  acts-as early _ (sends_data e r f place) =
       let seen =
       sees_sent x.station x.limits.window x.given x.acknowledged v.sent v.next v.up x.taken
       place c in
@@ -86,29 +90,45 @@ module _ (x : Face) (awake : x.station.state ≢ Halted) (trains : x.station.sta
         polls =
             subst (λ (u : View). Polls v u (data_flies v.up v.next m)) (sym seen)
             (p_data m e r f (let n = left in omega (arith, place, n)));
-        frame_is = (λ i. Data (sym c.r_is i) (sym c.t_is i) m);
+        frame_is = (λ i. Data (sym (resp early) i) (sym c.t_is i) m);
         counted =
             subst
             (CountsAt
             (with
-            (after_next (Sends (Data x.station.r x.station.t m) (after_data x.station)) x.station)
+            (after_next (Sends (Data (resp_of x.station) x.station.t m)
+            (after_data x.station)) x.station)
             x)) (sym seen)
             (counts_sent x.station x.limits.window x.given x.acknowledged v.sent v.next v.up place
             c);
       }
-  acts-as _ (sends_ack e r f place) =
+  acts-as early _ (sends_ack e r f place) =
       record {
         flight = ack_flies v.up;
         polls =
             p_ack e r f (let n = left in omega (arith, place, n));
         frame_is =
-            ap (λ q. Acked q) (sym c.r_is);
+            ap (λ q. Acked q) (sym (resp early));
         counted = c;
       }
-  acts-as _ (sends_maint m ms e r) = absurd (trains e)
-  acts-as _ (halted_idles e) = absurd (awake e)
-  acts-as _ (starting_idles e d) = i_starts e d
-  acts-as _ (running_idles e r f place) = i_runs e r f (let n = left in omega (arith, place, n))
+  acts-as early _ (sends_maint m ms e r) = absurd (trains e)
+  acts-as early _ (halted_idles e) = absurd (awake e)
+  acts-as early _ (starting_idles e d) = i_starts e d
+  acts-as early _ (running_idles e r f place) = i_runs e r f (let n = left in omega
+      (arith, place, n))
+
+  pub idles-as : (z : Next) → SentFor x.station z → z ≡ Idle → Idles v
+  idles-as _ (sends_strt e d) q = absurd (cc q)
+  idles-as _ (sends_stack e d) q = absurd (cc q)
+  idles-as _ (sends_nak why e r) q = absurd (cc q)
+  idles-as _ (sends_rep e r f) q = absurd (cc q)
+  idles-as _ (sends_data e r f place) q = absurd (cc q)
+  idles-as _ (sends_ack e r f place) q = absurd (cc q)
+  idles-as _ (sends_maint m ms e r) q = absurd (cc q)
+  idles-as _ (halted_idles e) q = absurd (awake e)
+  idles-as _ (starting_idles e d) q = i_starts e d
+  idles-as _ (running_idles e r f place) q =
+      i_runs e r f (let n = left in omega (arith, place, n))
+  idles-as _ (maintenance_idles e o) q = absurd (trains e)
   acts-as _ (maintenance_idles e r) = absurd (trains e)
 
 -- ---- its timer expires
@@ -196,13 +216,17 @@ taking x =
       taken = x.taken ++ option_to_list (first_message x.station.inbox);
     }
 
-pub takes-as : (x : Face) → sight (taking x) ≡ sight x
-takes-as x = ap (λ l. record (sight x) { up = length l }) (take-up x.taken x.station.inbox)
+pub takes-as : (x : Face) → x.station.by_user ≡ false → sight (taking x) ≡ sight x
+takes-as x early = λ i.
+    record (sight x) {
+      reply = (early-take x.station early i).reply;
+      up = length (take-up x.taken x.station.inbox i);
+    }
 
-pub takes-counted : (x : Face) → Counted x → Counted (taking x)
-takes-counted x c =
+pub takes-counted : (x : Face) → x.station.by_user ≡ false → Counted x → Counted (taking x)
+takes-counted x early c =
     subst (λ (v : View). Counts x.station x.limits.window x.given v.acked v.sent v.next v.up)
-    (sym (takes-as x)) c
+    (sym (takes-as x early)) c
 
 abbrev pub giving : List ℕ → Face → Face
 giving m x = record x { station = after_accept x.station m; given = x.given ++ m ∷ [] }

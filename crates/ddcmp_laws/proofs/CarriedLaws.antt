@@ -17,6 +17,7 @@ use Rattle.ddcmp_core.specs.Frames.{frame_of}
 use Rattle.ddcmp_core.specs.NextFrame.{SentFor, sends_strt, sends_stack, sends_nak, sends_rep}
 use Rattle.ddcmp_core.specs.NextFrame.{sends_data, sends_ack, sends_maint, halted_idles}
 use Rattle.ddcmp_core.specs.NextFrame.{starting_idles, running_idles, maintenance_idles}
+use Rattle.ddcmp_core.specs.Table.{resp_of}
 use Rattle.ddcmp_core.specs.Table.{StationState, Limits, Frame, Data, Acked, Naked, Rep, Strt}
 use Rattle.ddcmp_core.specs.Table.{Stack, Maint, Next, outgoing, before_next, message_at_next}
 use Rattle.ddcmp_core.specs.Table.{is_running, send_refusal, may_send, answer_to_send, next}
@@ -136,7 +137,8 @@ carry_still given m (f ∷ fs) h =
 
 next_position : (s : StationState) (w : ℕ) (given : List (List ℕ)) (acked sent next up : ℕ)
     → before_next s < length s.out
-    → Counts s w given acked sent next up → CarriesPosition given (Data s.r s.t (message_at_next s))
+    → Counts s w given acked sent next up
+    → CarriesPosition given (Data (resp_of s) s.t (message_at_next s))
 next_position s w given acked sent next up room c =
     let b = before-is s w given acked sent next up c in
     let out = ap length c.out_is ∙ length-drop acked given in

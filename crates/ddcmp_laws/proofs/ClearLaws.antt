@@ -22,7 +22,7 @@ use Rattle.ddcmp_core.specs.declared.station_core.StartRefusal.TheVariants.{NotH
 use Rattle.ddcmp_core.specs.Table.{StationState, Limits, Frame, Data, Acked, Naked, Rep, Strt}
 use Rattle.ddcmp_core.specs.Table.{Stack, Maint, Good, is_halted, before_next, may_start}
 use Rattle.ddcmp_core.specs.Table.{after_start, may_send, after_accept, on, Next, Idle, Sends, next}
-use Rattle.ddcmp_core.specs.Table.{next_frame, after_next}
+use Rattle.ddcmp_core.specs.Table.{next_frame, after_next, acknowledges_by_take}
 use Rattle.ddcmp_core.specs.Frames.{frame_of, frame_of_control}
 use Rattle.ddcmp_core.specs.Counting.{count_plus}
 use Rattle.ddcmp_core.specs.Core.{CoreView, IsSound, IsReceivable}
@@ -66,6 +66,7 @@ use Rattle.ddcmp_laws.specs.Clear.{WastesNothing}
 use Rattle.ddcmp_laws.proofs.FaithfulLaws.{AllWritable, IsWell, IsStraight, straight_event}
 use Rattle.ddcmp_laws.proofs.FaithfulLaws.{well_new}
 use Rattle.ddcmp_laws.proofs.ClearSteps.{Follows, NoData, no_data_more, IsPlain, Goes, goes_nowhere}
+use Rattle.ddcmp_laws.proofs.ClearSteps.{quiet-taken}
 use Rattle.ddcmp_laws.proofs.ClearSteps.{goes_on, MayCome, hears, NoNaks, polls, expires}
 use Rattle.ddcmp_laws.proofs.ClearReads.{AllGood, good_back, AllShort, short_more, has_read, placed}
 use Rattle.ddcmp_laws.proofs.ClearReads.{way_from, heard, items_heard}
@@ -565,7 +566,12 @@ tidy_take most x y t = record {
         λ z. (let u = t.here.fresh z in
         record { starts_is = u.starts_is; r_is = u.r_is; n_is = u.n_is; out_is = u.out_is });
     once = t.here.once;
-    plain = record { quiet = t.here.plain.quiet; ahead = t.here.plain.ahead };
+    plain = record {
+      quiet =
+          quiet-taken (acknowledges_by_take x.core.station) x.core.station.reply
+          t.here.plain.quiet;
+      ahead = t.here.plain.ahead;
+    };
     no_naks = t.here.no_naks;
     order = t.here.order;
   };

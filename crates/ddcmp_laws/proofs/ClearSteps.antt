@@ -16,6 +16,7 @@ use Rattle.ddcmp_core.specs.declared.state.Owed.{Owed}
 use Rattle.ddcmp_core.specs.declared.state.Owed.TheVariants.{Quiet, Ack, Nak}
 use Rattle.ddcmp_core.specs.declared.state.Timer.{Timer}
 use Rattle.ddcmp_core.specs.declared.state.Timer.TheVariants.{Off, Fresh, On}
+use Rattle.ddcmp_core.specs.Table.{resp_of, owed_after_take}
 use Rattle.ddcmp_core.specs.Table.{StationState, Limits, Frame, Data, Acked, Naked, Rep, Strt}
 use Rattle.ddcmp_core.specs.Table.{Stack, Maint, Good, outgoing, before_next, newly_acknowledged}
 use Rattle.ddcmp_core.specs.Table.{after_ack, after_startup, after_offer, on_data, on_by, on}
@@ -109,6 +110,13 @@ follows_plain r n (Maint m ∷ fs) g p h = follows_plain r n fs g p h
 pub record IsPlain (s : StationState) : Type 0 where
   pub quiet : owes_nak s.reply ≡ false
   pub ahead : s.t ≡ next_number s.n
+
+pub quiet-taken : (b : Bool) (r : Owed) → owes_nak r ≡ false
+    → owes_nak (cond b (owed_after_take r) r) ≡ false
+quiet-taken true Quiet e = e
+quiet-taken true Ack e = e
+quiet-taken true (Nak why) e = e
+quiet-taken false r e = e
 
 -- what something that comes leaves as it was: N, and what isn't sent yet
 pub record Goes (s u : StationState) : Type 0 where
@@ -425,16 +433,17 @@ polls s _ (sends_data p r f room) other w few h =
           (one_later s.a s.t w.a_byte w.t_byte (omega (arith, room, few)))
           ∙ sym (drop-cons s.out b [] room);
       follows =
-          λ r fs k. subst (λ n. Follows r (fs ++ Data s.r s.t (message_at_next s) ∷ []) n) (sym n')
-          (follows_data r s.n s.t fs s.r (message_at_next s) h.ahead k);
+          λ r fs k. subst (λ n. Follows r (fs ++ Data (resp_of s) s.t
+          (message_at_next s) ∷ []) n) (sym n')
+          (follows_data r s.n s.t fs (resp_of s) (message_at_next s) h.ahead k);
       early = λ z. absurd (z p);
       state = refl;
       r = refl;
       halted = λ z. absurd (let y = sym p ∙ z in cc);
     }
 polls s _ (sends_ack p r f room) other w few h =
-    polls_flags s (Acked s.r) s.due Quiet s.rep s.timer Running p (λ z. cc) h refl refl refl
-    (refl, tt) (λ r fs k. follows_plain r s.n fs (Acked s.r) tt k)
+    polls_flags s (Acked (resp_of s)) s.due Quiet s.rep s.timer Running p (λ z. cc) h refl refl refl
+    (refl, tt) (λ r fs k. follows_plain r s.n fs (Acked (resp_of s)) tt k)
 polls s _ (sends_maint m ms p o) other w few h = absurd (other p)
 polls s _ (halted_idles p) other w few h = polls_idle s h
 polls s _ (starting_idles p d) other w few h = polls_idle s h

@@ -145,7 +145,7 @@ module _ (Knows : Bool → Bool → View → View → List Flight → List Fligh
   unfolding polled
   flies-polls n p q x y here there same fx fy h =
       by (next x.core.station) refl
-      (acts-as (face x) h.both.base.awake h.both.base.no_maintenance h.both.counted
+      (acts-as (face x) h.both.base.awake h.both.base.no_maintenance h.both.counted fx.early
       (next x.core.station) (sending x.core.station))
     where
       by : (z : Next) → next x.core.station ≡ z → ActsAs (face x) z
@@ -339,11 +339,12 @@ module _ (Knows : Bool → Bool → View → View → List Flight → List Fligh
         to_here = h.to_here;
       }
 
-  pub flies-takes : (p q : Bool) (x y : EndState) (here there : List ℕ) → Flies p q x y here there
+  pub flies-takes : (p q : Bool) (x y : EndState) (here there : List ℕ)
+      → x.core.station.by_user ≡ false → Flies p q x y here there
       → Flies p q (after_take_here x) y here there
-  flies-takes p q x y here there h =
+  flies-takes p q x y here there early h =
       let b = h.both in
-      let e = takes-as (face x) in
+      let e = takes-as (face x) early in
       record {
         fl = h.fl;
         gl = h.gl;
@@ -355,7 +356,7 @@ module _ (Knows : Bool → Bool → View → View → List Flight → List Fligh
               base_there =
                   subst (λ (v : View). Base y.core.limits.window (sight (face y)) v h.gl h.fl)
                   (sym e) b.base_there;
-              counted = takes-counted (face x) b.counted;
+              counted = takes-counted (face x) early b.counted;
               counted_there = b.counted_there;
             };
         knows = subst (λ (v : View). Knows p q v (sight (face y)) h.fl h.gl) (sym e) h.knows;

@@ -16,8 +16,8 @@ use Rattle.ddcmp_core.specs.declared.state.State.TheVariants.{IStart}
 use Rattle.ddcmp_core.specs.declared.station_core.StartRefusal.{StartRefusal}
 use Rattle.ddcmp_core.specs.declared.station_core.StartRefusal.TheVariants.{NotHalted, Untaken}
 use Rattle.ddcmp_core.specs.Table.{StationState, after_halt, after_start, is_halted, may_start}
-use Rattle.ddcmp_core.specs.Table.{new_station, start_refusal, station_begun}
-use Rattle.ddcmp_core.proofs.Sound.{sound_started}
+use Rattle.ddcmp_core.specs.Table.{new_station, start_refusal, station_begun, after_choose}
+use Rattle.ddcmp_core.proofs.Sound.{sound_started, sound_chosen}
 use Rattle.ddcmp_proto.specs.Config.{first_refusal, limits_of}
 use Rattle.ddcmp_proto.proofs.FeedLaws.{after_piece-none, notices_of_piece-none}
 use Rattle.ddcmp_io.specs.declared.carrier.End.{End}
@@ -163,9 +163,11 @@ pub sound-anew : (made : Made) (x : EndState) → first_refusal made.options.con
     → IsSound x.core.limits (begun-with x.core.station x.core.station.inbox)
 sound-anew made x f limits empty =
     subst (λ ib. IsSound x.core.limits (begun-with x.core.station ib)) (sym empty)
-    (subst (λ l. IsSound l (station_begun IStart true [])) (sym limits)
-    (sound_started (limits_of made.options.config) new_station refl
-    (sound_made made.options.config f)))
+    (subst (λ l. IsSound l (station_begun IStart true x.core.station.by_user [])) (sym limits)
+    (sound_started (limits_of made.options.config)
+    (after_choose x.core.station.by_user new_station) refl
+    (sound_chosen (limits_of made.options.config) new_station x.core.station.by_user
+    (sound_made made.options.config f))))
 
 -- ---- calls that neither connect nor feed
 

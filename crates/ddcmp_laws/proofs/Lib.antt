@@ -1,3 +1,4 @@
+pub mod Early
 pub mod SessionTimingLaws
 pub mod StateTableLaws
 pub mod StationLaws

@@ -22,6 +22,7 @@ use Rattle.ddcmp_core.specs.Core.{IsSound, IsReceivable}
 use Rattle.ddcmp_core.specs.NextFrame.{SentFor, sends_strt, sends_stack, sends_nak, sends_rep}
 use Rattle.ddcmp_core.specs.NextFrame.{sends_data, sends_ack, sends_maint, halted_idles}
 use Rattle.ddcmp_core.specs.NextFrame.{starting_idles, running_idles, maintenance_idles}
+use Rattle.ddcmp_core.specs.Table.{resp_of}
 use Rattle.ddcmp_core.specs.Table.{Limits, StationState, Data, Acked, Naked, Rep, Strt, Stack}
 use Rattle.ddcmp_core.specs.Table.{Maint, Received, Good, BadHeader, BadData, TooLong, BadFormat}
 use Rattle.ddcmp_core.specs.Table.{Next, Idle, Sends, outgoing, next_frame, after_next, after_ack}
@@ -230,7 +231,7 @@ module _ (w : ℕ) (l : Limits) (s : StationState) (h : IsSound l s) where
       let x = due_of s.state AStart s.due true p d in
       let y = due_of s.state AStart false false p refl in omega (arith, x, y)
   pays _ (sends_nak why p r) =
-      let x = ap (price_of_reply w) r in let y = pays_nak w why s.r in omega (arith, x, y)
+      let x = ap (price_of_reply w) r in let y = pays_nak w why (resp_of s) in omega (arith, x, y)
   pays _ (sends_rep p r f) = let x = ap (price_of_rep w) f in omega (arith, x)
   pays _ (sends_data p r f place) =
       let c = h.out_stored.count in let m = h.out_stored.limit_max in let i = h.in_window in

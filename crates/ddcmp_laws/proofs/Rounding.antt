@@ -36,7 +36,7 @@ use Rattle.ddcmp_laws.proofs.Learning.{Learns, l_sleeps, learnt}
 use Rattle.ddcmp_laws.proofs.Starting.{Idles, i_starts, i_runs, woken}
 use Rattle.ddcmp_laws.proofs.Repeating.{repeated, begins as repeats-begins}
 use Rattle.ddcmp_laws.proofs.Hearing.{sight, Counted, bounds-of}
-use Rattle.ddcmp_laws.proofs.Acting.{ActsAs, acts-as}
+use Rattle.ddcmp_laws.proofs.Acting.{idles-as}
 use Rattle.ddcmp_laws.proofs.Staying.{Stays, First, first-stays, Second, second-stays}
 use Rattle.ddcmp_laws.proofs.Delivering.{Carried, Both, Flies, flies-turned, flies-polls}
 use Rattle.ddcmp_laws.proofs.Delivering.{flies-arrives, flies-expires, flies-takes, flies-sends}
@@ -80,10 +80,10 @@ module _ (Knows : Bool → Bool → View → View → List Flight → List Fligh
       (flies-expires Knows stays q p l.pair.b l.pair.a l.to_b l.to_a (run-alone l.pair r).b.timed
       (flies-turned Knows stays p q _ _ _ _ h))
   flies-event n p q (event.Take A) rest l g f r s h =
-      flies-takes Knows stays p q l.pair.a l.pair.b l.to_a l.to_b h
+      flies-takes Knows stays p q l.pair.a l.pair.b l.to_a l.to_b s.a.early h
   flies-event n p q (event.Take B) rest l g f r s h =
       from-b p q _ _ _ _
-      (flies-takes Knows stays q p l.pair.b l.pair.a l.to_b l.to_a
+      (flies-takes Knows stays q p l.pair.b l.pair.a l.to_b l.to_a s.b.early
       (flies-turned Knows stays p q _ _ _ _ h))
   flies-event n p q (event.Send A m) rest l g f r s h =
       flies-sends Knows stays p q l.pair.a l.pair.b m l.to_a l.to_b h
@@ -201,9 +201,8 @@ pub idles : (x y : EndState) (fl gl : List Flight) → Both (face x) (face y) fl
     → line_bytes x ≡ None
     → Idles (sight (face x))
 idles x y fl gl b e =
-    subst (ActsAs (face x)) (idle-is x e)
-    (acts-as (face x) b.base.awake b.base.no_maintenance b.counted (next x.core.station)
-    (sending x.core.station))
+    idles-as (face x) b.base.awake b.base.no_maintenance b.counted (next x.core.station)
+    (sending x.core.station) (idle-is x e)
 
 pub counted-of : (x y : EndState) → Shows x y → Counted (face x)
 counted-of x y h =

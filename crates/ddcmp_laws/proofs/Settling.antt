@@ -36,6 +36,8 @@ use Rattle.ddcmp_laws.specs.LossFree.{IsLossFree, run_on_line, empty_line, Comes
 use Rattle.ddcmp_laws.specs.Price.{price_of_received, price_of_items, items_on_way}
 use Rattle.ddcmp_laws.specs.Price.{price_of_station, price_of_end, price, frames_of}
 use Rattle.ddcmp_laws.specs.Price.{frames_given, refusal_price, added_by, added}
+use Rattle.ddcmp_pair.proofs.Modes.{mode-here}
+use Rattle.ddcmp_laws.proofs.Early.{early-take}
 use Rattle.ddcmp_laws.proofs.Prices.{received_most, station_most, paid, pays, expiry_brings}
 use Rattle.ddcmp_laws.proofs.Prices.{send_brings, start_brings, halt_brings}
 use Rattle.ddcmp_laws.proofs.Ways.{Receivable, arrives, written}
@@ -46,6 +48,7 @@ pub record Fine (w : ℕ) (x : EndState) (way : List ℕ) : Type 0 where
   pub window : x.core.limits.window ≤ w
   pub sound : IsSound x.core.limits x.core.station
   pub whole : ComesWhole x way
+  pub early : x.core.station.by_user ≡ false
 
 -- ---- an end writes
 
@@ -70,6 +73,7 @@ polls w x y here there same f g = by (next x.core.station) refl
           window = f.window;
           sound = sound_next x.core.limits x.core.station f.sound;
           whole = record { closed = f.whole.closed; receivable = f.whole.receivable };
+          early = mode-here (event.Poll A) x ∙ f.early;
         }
 
     paid_for : price_of_station w (after_next (next x.core.station) x.core.station)
@@ -107,6 +111,7 @@ polls w x y here there same f g = by (next x.core.station) refl
                 window = g.window;
                 sound = g.sound;
                 whole = subst (ComesWhole y) (sym way) r.whole;
+                early = g.early;
               };
           falls = omega (arith, paid_for, given, p, q, t);
         }
@@ -140,6 +145,7 @@ reaches w x bytes rest way e f =
             window = omega (arith, narrow, n);
             sound = a.sound;
             whole = subst (ComesWhole (after_arrival_here bytes x)) (sym left) a.whole;
+            early = mode-here (event.Arrive A bytes) x ∙ f.early;
           };
       falls = omega (arith, p, q, r);
     }
@@ -162,6 +168,7 @@ expires w x way f =
             window = f.window;
             sound = sound_expired x.core.limits x.core.station f.sound;
             whole = record { closed = f.whole.closed; receivable = f.whole.receivable };
+            early = mode-here (event.Expire A) x ∙ f.early;
           };
       falls = omega (arith, p);
     }
@@ -173,8 +180,11 @@ takes w x way f = record {
         window = f.window;
         sound = sound_taken x.core.limits x.core.station f.sound;
         whole = record { closed = f.whole.closed; receivable = f.whole.receivable };
+        early = f.early;
       };
-  falls = omega arith;
+  falls =
+      let p = ap (λ (s : StationState). price_of_station w s) (early-take x.core.station f.early) in
+      omega (arith, p);
 }
 
 halts : (w : ℕ) (x : EndState) (way : List ℕ) → Fine w x way → Called w x (after_halt_here x) way 0
@@ -186,6 +196,7 @@ halts w x way f =
             window = f.window;
             sound = sound_halted x.core.limits x.core.station f.sound;
             whole = record { closed = f.whole.closed; receivable = f.whole.receivable };
+            early = f.early;
           };
       falls = omega (arith, p);
     }
@@ -206,6 +217,7 @@ sends w x message way f =
             accepted_sound x.core.limits x.core.station message
             (may_send x.core.limits x.core.station message) refl f.sound;
         whole = record { closed = f.whole.closed; receivable = f.whole.receivable };
+        early = mode-here (event.Send A message) x ∙ f.early;
       };
       falls = omega (arith, p);
     }
@@ -224,6 +236,7 @@ starts w x way f =
         window = f.window;
         sound = started_sound x.core.limits x.core.station (may_start x.core.station) refl f.sound;
         whole = record { closed = f.whole.closed; receivable = f.whole.receivable };
+        early = mode-here (event.Start A) x ∙ f.early;
       };
       falls = omega (arith, p);
     }
@@ -360,8 +373,8 @@ run_keeps w (e ∷ rest) l n h = run_keeps w rest (after_on_line e l) n.1 (steps
 
 pub begins : (l : Line) → IsWhole l → Settles (larger_window l.pair) l
 begins l h = record {
-  a = record { window = omega arith; sound = h.sound_a; whole = h.whole_a };
-  b = record { window = omega arith; sound = h.sound_b; whole = h.whole_b };
+  a = record { window = omega arith; sound = h.sound_a; whole = h.whole_a; early = h.early.a };
+  b = record { window = omega arith; sound = h.sound_b; whole = h.whole_b; early = h.early.b };
   same = h.same;
 }
 
@@ -380,6 +393,7 @@ whole_again events l h n =
       same = s.same;
       whole_a = s.a.whole;
       whole_b = s.b.whole;
+      early = record { a = s.a.early; b = s.b.early };
     }
 
 -- ---- the most
@@ -434,6 +448,7 @@ from_new first second events f g same n =
       same = same;
       whole_a = nothing_comes first;
       whole_b = nothing_comes second;
+      early = record { a = refl; b = refl };
     } in
     let s = settles events l h n in
     let a = ap (price_of_items w) (items_added-none first.max []) in

@@ -20,7 +20,7 @@ use Rattle.ddcmp_core.specs.declared.notice.Notice.TheVariants as notice
 use Rattle.ddcmp_core.specs.Table.{StationState, Limits, Data, Acked, Naked, Rep, Strt, Stack}
 use Rattle.ddcmp_core.specs.Table.{Maint, Received, Good, BadHeader, BadData, TooLong, BadFormat}
 use Rattle.ddcmp_core.specs.Table.{newly_acknowledged, after_ack, acknowledged_notice}
-use Rattle.ddcmp_core.specs.Table.{Frame, before_next, after_offer}
+use Rattle.ddcmp_core.specs.Table.{Frame, before_next, after_offer, resp_of}
 use Rattle.ddcmp_core.specs.Table.{acknowledged_by, reply_to_offer, on_data, data_notice, on_nak}
 use Rattle.ddcmp_core.specs.Table.{may_restart, after_restart, after_halt, on_maintenance}
 use Rattle.ddcmp_core.specs.Table.{maintenance_notice, on_running, running_notice, takes_data}
@@ -379,30 +379,30 @@ takes_nothing_else l s h e is = while_running (HandsUpNothing s) l s h e (by h i
 -- ---- what is asked for
 
 nak_is_next : (s : StationState) (why : Reason) → s.state ≡ Running → s.reply ≡ Nak why
-    → next_frame (next s) ≡ Some (Naked why s.r)
+    → next_frame (next s) ≡ Some (Naked why (resp_of s))
 unfolding next
 nak_is_next s why e f =
     ap (λ p. next_frame (next_by p s)) e ∙ ap (λ w. next_frame (next_running w s)) f
 
 asks : (s : StationState) (why : Reason) (k : ℕ) → s.state ≡ Running → s.reply ≡ Nak why
-    → subtype_of why ≡ k → SendsNak k s.r s
+    → subtype_of why ≡ k → SendsNak k (resp_of s) s
 asks s why k e f n = record { why = why; subtype = n; frame = nak_is_next s why e f }
 
 -- a NAK of this reason is owed and nothing else has changed
 owes : (s : StationState) (why : Reason) (k : ℕ) → s.state ≡ Running → k ≡ subtype_of why
-    → SendsNak k s.r (record s { reply = Nak why })
+    → SendsNak k (resp_of s) (record s { reply = Nak why })
     × (record s { reply = Nak why } ≡ record s { reply = Nak why })
 owes s why k e n = (asks (record s { reply = Nak why }) why k e refl (sym n), refl)
 
 pub asks_for_unread : (l : Limits) (s : StationState) (h : Received) (k : ℕ) → s.state ≡ Running
     → CallsFor h k
-    → SendsNak k s.r (on l s h) × (on l s h ≡ record s { reply = (on l s h).reply })
+    → SendsNak k (resp_of s) (on l s h) × (on l s h ≡ record s { reply = (on l s h).reply })
 asks_for_unread l s h k e calls =
-    while_running (λ u told. SendsNak k s.r u × (u ≡ record s { reply = u.reply })) l s h e
+    while_running (λ u told. SendsNak k (resp_of s) u × (u ≡ record s { reply = u.reply })) l s h e
     (by h calls)
   where
     by : (h : Received) → CallsFor h k
-        → SendsNak k s.r (on_running l s h)
+        → SendsNak k (resp_of s) (on_running l s h)
         × (on_running l s h ≡ record s { reply = (on_running l s h).reply })
     by (Good frame) r = absurd r
     by BadHeader r = owes s reason.HeaderCheck k e r
@@ -414,20 +414,20 @@ asks_for_unread l s h k e calls =
 
 pub asks_for_unkept : (l : Limits) (s : StationState) (resp num : ℕ) (message : List ℕ)
     → s.state ≡ Running → num ≡ (s.r + 1) % 256 → l.room ≤ length s.inbox
-    → SendsNak 8 s.r (on l s (Good (Data resp num message)))
+    → SendsNak 8 (resp_of s) (on l s (Good (Data resp num message)))
 asks_for_unkept l s resp num message e is full =
-    by_tests (λ u told. SendsNak 8 s.r u) l s resp num message true false e (grind (arith))
+    by_tests (λ u told. SendsNak 8 (resp_of s) u) l s resp num message true false e (grind (arith))
     (grind (arith))
     (asks (data_by s resp num message true false) reason.NoBuffer 8 e refl refl)
 
 pub asks_for_missing : (l : Limits) (s : StationState) (num : ℕ) → s.state ≡ Running → num ≢ s.r
-    → SendsNak 3 s.r (on l s (Good (Rep num)))
+    → SendsNak 3 (resp_of s) (on l s (Good (Rep num)))
     × (on l s (Good (Rep num)) ≡ record s { reply = (on l s (Good (Rep num))).reply })
 asks_for_missing l s num e isnt =
-    while_running (λ u told. SendsNak 3 s.r u × (u ≡ record s { reply = u.reply })) l s
+    while_running (λ u told. SendsNak 3 (resp_of s) u × (u ≡ record s { reply = u.reply })) l s
     (Good (Rep num)) e
     (subst
-    (λ b. SendsNak 3 s.r (record s { reply = cond b Ack (Nak reason.ReplyToRep) })
+    (λ b. SendsNak 3 (resp_of s) (record s { reply = cond b Ack (Nak reason.ReplyToRep) })
     × (record s { reply = cond b Ack (Nak reason.ReplyToRep) }
     ≡ record s { reply = cond b Ack (Nak reason.ReplyToRep) })) (sym other)
     (owes s reason.ReplyToRep 3 e refl))

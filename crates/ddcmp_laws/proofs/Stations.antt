@@ -10,6 +10,7 @@ use Rattle.ddcmp_core.specs.declared.state.Timer.{Timer}
 use Rattle.ddcmp_core.specs.declared.state.Timer.TheVariants.{Off, Fresh, On}
 use Rattle.ddcmp_core.specs.declared.counters.Counters.{Counters}
 use Rattle.ddcmp_core.specs.Numbers.{is_within, next_number}
+use Rattle.ddcmp_core.specs.Table.{resp_of}
 use Rattle.ddcmp_core.specs.Table.{Limits, StationState, Data, Acked, Naked, Rep, Strt, Stack}
 use Rattle.ddcmp_core.specs.Table.{Maint, Received, Good, BadHeader, BadData, TooLong, BadFormat}
 use Rattle.ddcmp_core.specs.Table.{newly_acknowledged, after_ack, on_data, on_nak, on_rep}
@@ -205,11 +206,11 @@ next_running_armed s reply = by s.rep (has_message s) (is_ack reply)
     by : (b m a : Bool)
         → SameNext s
         (cond b (Sends (Rep s.n) (record s { rep = false; timer = Fresh }))
-        (cond m (Sends (Data s.r s.t (message_at_next s)) (after_data s))
-        (cond a (Sends (Acked s.r) (record s { reply = Quiet })) Idle)))
+        (cond m (Sends (Data (resp_of s) s.t (message_at_next s)) (after_data s))
+        (cond a (Sends (Acked (resp_of s)) (record s { reply = Quiet })) Idle)))
         (cond b (Sends (Rep s.n) (record s { rep = false; timer = Fresh }))
-        (cond m (Sends (Data s.r s.t (message_at_next s)) (after_data (after_take_arm s)))
-        (cond a (Sends (Acked s.r) (record (after_take_arm s) { reply = Quiet })) Idle)))
+        (cond m (Sends (Data (resp_of s) s.t (message_at_next s)) (after_data (after_take_arm s)))
+        (cond a (Sends (Acked (resp_of s)) (record (after_take_arm s) { reply = Quiet })) Idle)))
     by true m a = record { state = refl; frame = refl; counts = λ c. refl }
     by false true a =
         record {

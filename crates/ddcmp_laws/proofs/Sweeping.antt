@@ -10,7 +10,8 @@ use Rattle.ddcmp_core.specs.declared.state.State.TheVariants.{Maintenance}
 use Rattle.ddcmp_core.specs.declared.state.Timer.TheVariants.{Fresh}
 use Rattle.ddcmp_core.specs.declared.state.Owed.{Owed}
 use Rattle.ddcmp_core.specs.declared.state.Owed.TheVariants.{Quiet, Ack, Nak}
-use Rattle.ddcmp_core.specs.Table.{StationState, Data, Acked, Rep, Strt, Stack, Next, Idle, Sends}
+use Rattle.ddcmp_core.specs.Table.{StationState, Data, Acked, Naked, Rep, Strt, Stack, Next, Idle}
+use Rattle.ddcmp_core.specs.Table.{Sends, resp_of}
 use Rattle.ddcmp_core.specs.Table.{next, next_by, next_running, next_maintenance, next_frame}
 use Rattle.ddcmp_core.specs.Table.{after_next, has_message, message_at_next, after_data}
 use Rattle.ddcmp_core.specs.Core.{CoreView}
@@ -23,7 +24,8 @@ use Rattle.ddcmp_pair.specs.declared.event.Event.TheVariants as event
 use Rattle.ddcmp_pair.specs.Run.{EndState, PairState, line_bytes, wrote, took, after_poll_here}
 use Rattle.ddcmp_pair.specs.Run.{after_arrival_here, after_take_here, after_event, reply_to}
 use Rattle.ddcmp_laws.specs.LossFree.{Line, bytes_or_none, after_on_line, LosesNothing}
-use Rattle.ddcmp_laws.specs.LossFree.{IsLossFree, run_on_line}
+use Rattle.ddcmp_laws.specs.LossFree.{IsLossFree, run_on_line, IsEarly}
+use Rattle.ddcmp_laws.proofs.Early.{early-resp, early-take, early-event}
 use Rattle.ddcmp_laws.specs.Price.{price, frames_of, added_by, added}
 use Rattle.ddcmp_laws.specs.Delivers.{IsAtRest}
 use Rattle.ddcmp_laws.specs.Sweeps.{OnlyCarries, bytes_to, bytes_brought, is_poll, is_asked}
@@ -33,13 +35,16 @@ use Rattle.ddcmp_laws.proofs.InStep.{line-append}
 
 -- ---- what an end sends next doesn't depend on its inbox
 
-frame-taken : (s : StationState) (i : List (List ℕ))
+frame-taken : (s : StationState) (i : List (List ℕ)) → s.by_user ≡ false
     → next_frame (next (record s { inbox = i })) ≡ next_frame (next s)
 unfolding next
-frame-taken s i = by s.state
+frame-taken s i early = by s.state
   where
     u : StationState
     u = record s { inbox = i }
+
+    same : resp_of u ≡ resp_of s
+    same = early-resp u early ∙ sym (early-resp s early)
 
     starts : (b : Bool)
         → next_frame (cond b (Sends Strt (record u { due = false; timer = Fresh })) Idle)
@@ -55,20 +60,20 @@ frame-taken s i = by s.state
 
     runs : (b c d : Bool)
         → next_frame (cond b (Sends (Rep s.n) (record u { rep = false; timer = Fresh }))
-        (cond c (Sends (Data s.r s.t (message_at_next s)) (after_data u))
-        (cond d (Sends (Acked s.r) (record u { reply = Quiet })) Idle)))
+        (cond c (Sends (Data (resp_of u) s.t (message_at_next s)) (after_data u))
+        (cond d (Sends (Acked (resp_of u)) (record u { reply = Quiet })) Idle)))
         ≡ next_frame (cond b (Sends (Rep s.n) (record s { rep = false; timer = Fresh }))
-        (cond c (Sends (Data s.r s.t (message_at_next s)) (after_data s))
-        (cond d (Sends (Acked s.r) (record s { reply = Quiet })) Idle)))
+        (cond c (Sends (Data (resp_of s) s.t (message_at_next s)) (after_data s))
+        (cond d (Sends (Acked (resp_of s)) (record s { reply = Quiet })) Idle)))
     runs true c d = refl
-    runs false true d = refl
-    runs false false true = refl
+    runs false true d = ap (λ q. Some (Data q s.t (message_at_next s))) same
+    runs false false true = ap (λ q. Some (Acked q)) same
     runs false false false = refl
 
     running : (r : Owed) → next_frame (next_running r u) ≡ next_frame (next_running r s)
     running Quiet = runs s.rep (has_message s) false
     running Ack = runs s.rep (has_message s) true
-    running (Nak why) = refl
+    running (Nak why) = ap (λ q. Some (Naked why q)) same
 
     maintains : (out : List (List ℕ))
         → next_frame (next_maintenance out u) ≡ next_frame (next_maintenance out s)
@@ -82,10 +87,12 @@ frame-taken s i = by s.state
     by Running = running s.reply
     by Maintenance = maintains s.out
 
-bytes-taken : (x : EndState) → line_bytes (after_take_here x) ≡ line_bytes x
-bytes-taken x =
+bytes-taken : (x : EndState) → x.core.station.by_user ≡ false
+    → line_bytes (after_take_here x) ≡ line_bytes x
+bytes-taken x early =
     ap (λ f. option_map (frame_on_line x.syn) f)
-    (frame-taken x.core.station (drop 1 x.core.station.inbox))
+    (ap (λ (s : StationState). next_frame (next s)) (early-take x.core.station early)
+    ∙ frame-taken x.core.station (drop 1 x.core.station.inbox) early)
 
 -- ---- a poll that gives no frame, and an arrival of nothing
 
@@ -133,6 +140,18 @@ bytes-arrived bytes x e =
 left-nothing : (bytes way : List ℕ) → bytes ≡ [] → way ≡ [] → drop (length bytes) way ≡ []
 left-nothing bytes way e f = ap (λ (b : List ℕ). drop (length b) way) e ∙ f
 
+-- ---- stations go on to acknowledge messages when they are received
+
+early-on : (e : Event) (l : Line) → IsEarly l.pair → IsEarly (after_on_line e l).pair
+early-on e l h =
+    subst (λ (p : PairState). IsEarly p) (sym (pair_is e l)) (early-event e l.pair h)
+
+pub early-along : (events : List Event) (l : Line) → IsEarly l.pair
+    → IsEarly (run_on_line events l).pair
+unfolding run_on_line
+early-along [] l h = h
+early-along (e ∷ rest) l h = early-along rest (after_on_line e l) (early-on e l h)
+
 -- ---- an event by which no frame is sent, with nothing in flight
 
 record Still (l m : Line) : Type 0 where
@@ -145,9 +164,10 @@ more-written : (way : List ℕ) (o : Option (List ℕ)) → o ≡ None → way +
 more-written way o e = ap (λ z. way ++ bytes_or_none z) e ∙ append-nil way
 
 still : (e : Event) (rest : List Event) (l : Line) → OnlyCarries (e ∷ rest) → LosesNothing e l
-    → frames_of (reply_to e l.pair) ≡ 0 → l.to_a ≡ [] → l.to_b ≡ [] → Still l (after_on_line e l)
+    → frames_of (reply_to e l.pair) ≡ 0 → l.to_a ≡ [] → l.to_b ≡ [] → IsEarly l.pair
+    → Still l (after_on_line e l)
 unfolding after_event reply_to
-still (event.Poll A) rest l c n z a b =
+still (event.Poll A) rest l c n z a b h =
     let o = none-written (line_bytes l.pair.a) z in
     record {
       none_to_a = a;
@@ -155,7 +175,7 @@ still (event.Poll A) rest l c n z a b =
       same_a = bytes-polled l.pair.a o;
       same_b = refl;
     }
-still (event.Poll B) rest l c n z a b =
+still (event.Poll B) rest l c n z a b h =
     let o = none-written (line_bytes l.pair.b) z in
     record {
       none_to_a = more-written l.to_a (line_bytes l.pair.b) o ∙ a;
@@ -163,7 +183,7 @@ still (event.Poll B) rest l c n z a b =
       same_a = refl;
       same_b = bytes-polled l.pair.b o;
     }
-still (event.Arrive A bytes) rest l c n z a b =
+still (event.Arrive A bytes) rest l c n z a b h =
     let e = nothing-in-front bytes n.0 l.to_a n.1 a in
     record {
       none_to_a = left-nothing bytes l.to_a e a;
@@ -171,7 +191,7 @@ still (event.Arrive A bytes) rest l c n z a b =
       same_a = bytes-arrived bytes l.pair.a e;
       same_b = refl;
     }
-still (event.Arrive B bytes) rest l c n z a b =
+still (event.Arrive B bytes) rest l c n z a b h =
     let e = nothing-in-front bytes n.0 l.to_b n.1 b in
     record {
       none_to_a = a;
@@ -179,15 +199,15 @@ still (event.Arrive B bytes) rest l c n z a b =
       same_a = refl;
       same_b = bytes-arrived bytes l.pair.b e;
     }
-still (event.Take A) rest l c n z a b =
-    record { none_to_a = a; none_to_b = b; same_a = bytes-taken l.pair.a; same_b = refl }
-still (event.Take B) rest l c n z a b =
-    record { none_to_a = a; none_to_b = b; same_a = refl; same_b = bytes-taken l.pair.b }
-still (event.Start e) rest l c n z a b = absurd c
-still (event.Halt e) rest l c n z a b = absurd c
-still (event.Send e m) rest l c n z a b = absurd c
-still (event.Expire e) rest l c n z a b = absurd c
-still event.Clear rest l c n z a b = absurd c
+still (event.Take A) rest l c n z a b h =
+    record { none_to_a = a; none_to_b = b; same_a = bytes-taken l.pair.a h.a; same_b = refl }
+still (event.Take B) rest l c n z a b h =
+    record { none_to_a = a; none_to_b = b; same_a = refl; same_b = bytes-taken l.pair.b h.b }
+still (event.Start e) rest l c n z a b h = absurd c
+still (event.Halt e) rest l c n z a b h = absurd c
+still (event.Send e m) rest l c n z a b h = absurd c
+still (event.Expire e) rest l c n z a b h = absurd c
+still event.Clear rest l c n z a b h = absurd c
 
 pub carries-on : (e : Event) (rest : List Event) → OnlyCarries (e ∷ rest) → OnlyCarries rest
 carries-on (event.Poll e) rest c = c
@@ -345,24 +365,24 @@ no-more true e = refl
 no-more false e = e
 
 idle-now : (c d : Bool) (events : List Event) (l : Line) → OnlyCarries events
-    → IsLossFree events l → frames_on events l ≡ 0 → l.to_a ≡ [] → l.to_b ≡ []
+    → IsLossFree events l → frames_on events l ≡ 0 → l.to_a ≡ [] → l.to_b ≡ [] → IsEarly l.pair
     → (c ≡ true → line_bytes l.pair.a ≡ None) → (d ≡ true → line_bytes l.pair.b ≡ None)
     → (c || is_asked A events) ≡ true → (d || is_asked B events) ≡ true
     → IsAtRest (run_on_line events l)
 unfolding run_on_line is_asked frames_on
-idle-now c d [] l o n z a b f g p q = record {
+idle-now c d [] l o n z a b h f g p q = record {
   none_to_a = a;
   none_to_b = b;
   idle_a = f (no-more c p);
   idle_b = g (no-more d q);
 }
-idle-now c d (e ∷ rest) l o n z a b f g p q =
+idle-now c d (e ∷ rest) l o n z a b h f g p q =
     let first : frames_of (reply_to e l.pair) ≡ 0 = omega (arith, z) in
-    let s = still e rest l o n.0 first a b in
+    let s = still e rest l o n.0 first a b h in
     let i = idle-asked e rest l o first in
     idle-now (is_poll A e || c) (is_poll B e || d) rest (after_on_line e l)
     (carries-on e rest o) n.1
-    (omega (arith, z)) s.none_to_a s.none_to_b
+    (omega (arith, z)) s.none_to_a s.none_to_b (early-on e l h)
     (known (is_poll A e) c (line_bytes l.pair.a) _ i.0 f s.same_a)
     (known (is_poll B e) d (line_bytes l.pair.b) _ i.1 g s.same_b)
     (sym (later c (is_poll A e) (is_asked A rest)) ∙ p)
@@ -386,12 +406,12 @@ no-frame (event.Expire e) rest l c r = absurd c
 no-frame event.Clear rest l c r = absurd c
 
 pub rest-stays : (events : List Event) (l : Line) → OnlyCarries events → IsLossFree events l
-    → IsAtRest l → IsAtRest (run_on_line events l)
+    → IsEarly l.pair → IsAtRest l → IsAtRest (run_on_line events l)
 unfolding run_on_line
-rest-stays [] l c n r = r
-rest-stays (e ∷ rest) l c n r =
-    let s = still e rest l c n.0 (no-frame e rest l c r) r.none_to_a r.none_to_b in
-    rest-stays rest (after_on_line e l) (carries-on e rest c) n.1
+rest-stays [] l c n h r = r
+rest-stays (e ∷ rest) l c n h r =
+    let s = still e rest l c n.0 (no-frame e rest l c r) r.none_to_a r.none_to_b h in
+    rest-stays rest (after_on_line e l) (carries-on e rest c) n.1 (early-on e l h)
     (record {
       none_to_a = s.none_to_a;
       none_to_b = s.none_to_b;
@@ -406,15 +426,16 @@ loss-parts [] second l n = (tt, n)
 loss-parts (e ∷ first) second l n =
     let p = loss-parts first second (after_on_line e l) n.1 in ((n.0, p.0), p.1)
 
-pub sweeps-stay : (sweeps : List (List Event)) (l : Line) → IsAtRest l
+pub sweeps-stay : (sweeps : List (List Event)) (l : Line) → IsEarly l.pair → IsAtRest l
     → IsLossFree (in_a_row sweeps) l → AreSweeps sweeps l
     → IsAtRest (run_on_line (in_a_row sweeps) l)
 unfolding run_on_line in_a_row
-sweeps-stay [] l r n s = r
-sweeps-stay (sweep ∷ rest) l r n s =
+sweeps-stay [] l h r n s = r
+sweeps-stay (sweep ∷ rest) l h r n s =
     let p = loss-parts sweep (in_a_row rest) l n in
     subst (λ (m : Line). IsAtRest m) (sym (line-append sweep (in_a_row rest) l))
-    (sweeps-stay rest (run_on_line sweep l) (rest-stays sweep l s.0.carries p.0 r) p.1 s.1)
+    (sweeps-stay rest (run_on_line sweep l) (early-along sweep l h)
+    (rest-stays sweep l s.0.carries p.0 h r) p.1 s.1)
 
 -- ---- sweeps enough
 
@@ -465,8 +486,9 @@ come-to-rest w c (sweep ∷ rest) l f s h e n =
         → IsAtRest (run_on_line (in_a_row rest) m)
     by zero true z e n more =
         let o = e refl in
-        sweeps-stay rest m
-        (idle-now false false sweep l s.0.carries free.0 z o.0 o.1 (λ p. absurd (cc p))
+        sweeps-stay rest m (record { a = keeps.a.early; b = keeps.b.early })
+        (idle-now false false sweep l s.0.carries free.0 z o.0 o.1
+        (record { a = h.a.early; b = h.b.early }) (λ p. absurd (cc p))
         (λ p. absurd (cc p)) s.0.asked_a s.0.asked_b) free.1 s.1
     by zero false z e n more =
         let f = falls w sweep l free.0 h in more true keeps (λ p. empty z) (omega (arith, f, z, n))

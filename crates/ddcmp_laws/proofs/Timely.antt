@@ -19,6 +19,7 @@ use Rattle.ddcmp_core.specs.declared.state.Owed.TheVariants.{Quiet, Ack, Nak}
 use Rattle.ddcmp_core.specs.NextFrame.{SentFor, sends_strt, sends_stack, sends_nak, sends_rep}
 use Rattle.ddcmp_core.specs.NextFrame.{sends_data, sends_ack, sends_maint, halted_idles}
 use Rattle.ddcmp_core.specs.NextFrame.{starting_idles, running_idles, maintenance_idles}
+use Rattle.ddcmp_core.specs.Table.{resp_of, owed_after_take, acknowledges_by_take, after_take}
 use Rattle.ddcmp_core.specs.Table.{Limits, StationState, Data, Acked, Naked, Rep, Strt, Stack}
 use Rattle.ddcmp_core.specs.Table.{Frame, has_room, Maint, Received, Good, BadHeader, BadData}
 use Rattle.ddcmp_core.specs.Table.{TooLong, BadFormat, Next, next, next_frame, after_next}
@@ -253,7 +254,7 @@ goes : (s : StationState) (z : Next) → SentFor s z
 goes s _ (sends_strt p d) = omega arith
 goes s _ (sends_stack p d) = omega arith
 goes s _ (sends_nak why p r) =
-    let x = ap refused r in let y = nak-tells why s.r in omega (arith, x, y)
+    let x = ap refused r in let y = nak-tells why (resp_of s) in omega (arith, x, y)
 goes s _ (sends_rep p r f) = omega arith
 goes s _ (sends_data p r f place) = omega arith
 goes s _ (sends_ack p r f place) = omega arith
@@ -304,6 +305,16 @@ all-add w (e ∷ rest) l c =
 abbrev both_refused : Line → ℕ
 both_refused l = refused l.pair.a.core.station.reply + refused l.pair.b.core.station.reply
 
+-- a take refuses none
+refused-taken : (s : StationState) → refused (after_take s).reply ≡ refused s.reply
+refused-taken s = by (acknowledges_by_take s) s.reply
+  where
+    by : (b : Bool) (r : Owed) → refused (cond b (owed_after_take r) r) ≡ refused r
+    by true Quiet = refl
+    by true Ack = refl
+    by true (Nak why) = refl
+    by false r = refl
+
 -- ---- where all finds room, no more are reported than were refused before
 
 tells : (e : Event) (rest : List Event) (l : Line) → OnlyCarries (e ∷ rest)
@@ -319,8 +330,10 @@ tells (event.Arrive B bytes) rest l c f =
     let x = l.pair.b in
     let i = items-come (items_added x.core.limits.longest x.arrived bytes) x.core f in
     omega (arith, i)
-tells (event.Take A) rest l c f = omega arith
-tells (event.Take B) rest l c f = omega arith
+tells (event.Take A) rest l c f =
+    let n = refused-taken l.pair.a.core.station in omega (arith, n)
+tells (event.Take B) rest l c f =
+    let n = refused-taken l.pair.b.core.station in omega (arith, n)
 tells (event.Start e) rest l c f = absurd c
 tells (event.Halt e) rest l c f = absurd c
 tells (event.Send e m) rest l c f = absurd c
@@ -379,8 +392,12 @@ delivers (event.Arrive A bytes) rest l c f =
     let i = arrives-up bytes l.pair.a f in omega (arith, i)
 delivers (event.Arrive B bytes) rest l c f =
     let i = arrives-up bytes l.pair.b f in omega (arith, i)
-delivers (event.Take A) rest l c f = let u = takes-up l.pair.a in omega (arith, u)
-delivers (event.Take B) rest l c f = let u = takes-up l.pair.b in omega (arith, u)
+delivers (event.Take A) rest l c f =
+    let u = takes-up l.pair.a in
+    let n = refused-taken l.pair.a.core.station in omega (arith, u, n)
+delivers (event.Take B) rest l c f =
+    let u = takes-up l.pair.b in
+    let n = refused-taken l.pair.b.core.station in omega (arith, u, n)
 delivers (event.Start e) rest l c f = absurd c
 delivers (event.Halt e) rest l c f = absurd c
 delivers (event.Send e m) rest l c f = absurd c

@@ -1,6 +1,7 @@
 -- Turns of `drive` are calls.
 use Rattle.std.proofs.Common.{◌≡◌, ℕ, Bool, true, false, cond, ◌&&◌, List, [], ◌∷◌, ◌++◌, length}
-use Rattle.std.proofs.Common.{map, replicate, refl, sym, ◌∙◌, ap, subst, append_assoc, append-nil}
+use Rattle.std.proofs.Common.{map, replicate, drop, refl, sym, ◌∙◌, ap, subst, append_assoc}
+use Rattle.std.proofs.Common.{append-nil}
 use Rattle.std.proofs.Common.{Option, Some, None}
 use Rattle.std.specs.Prelude.{nat_le, option_map, option_to_list}
 use Rattle.ddcmp_frame.specs.Wire.{wire}
@@ -14,7 +15,9 @@ use Rattle.ddcmp_station.specs.Driving.{core_after_message, frame_bytes, core_af
 use Rattle.ddcmp_station.specs.Driving.{before_read, after_read, after_turn, after_turns}
 use Rattle.ddcmp_pair.specs.Place.{WholeFrame}
 use Rattle.ddcmp_pair.specs.Run.{EndState, with_station, whole_frame, after_poll_here}
-use Rattle.ddcmp_pair.specs.Run.{after_arrival_here}
+use Rattle.ddcmp_pair.specs.Run.{after_arrival_here, after_take_here}
+use Rattle.ddcmp_core.specs.Store.{first_message}
+use Rattle.ddcmp_pair.proofs.Crossings.{emptied, emptied-none, emptied-after-take}
 use Rattle.ddcmp_laws.specs.Faithful.{bytes_of, written}
 use Rattle.ddcmp_laws.specs.PairCalls.{Call, Halt, Send, Poll, Arrive, Expire, Take, Arm}
 use Rattle.ddcmp_laws.specs.PairCalls.{after_arm_here, after_call_here, after_calls_here}
@@ -123,25 +126,22 @@ message_shown offered x = by (is_user_asked x.core) refl
     by true e = ap (λ b. cond b (Asked x.core.limits.longest offered ∷ []) [] ++ []) e
     by false e = refl
 
--- an end with this mail
-abbrev mailed : List (List ℕ) → EndState → EndState
-mailed inbox x = with_station (record x.core.station { inbox = inbox }) x
-
-mail_done : (inbox : List (List ℕ)) (x : EndState)
-    → after_calls_here (replicate (length inbox) Take) (mailed inbox x)
-    ≡ record (mailed [] x) { taken = x.taken ++ inbox }
+mail_done : (inbox : List (List ℕ)) (x : EndState) → x.core.station.inbox ≡ inbox
+    → after_calls_here (replicate (length inbox) Take) x ≡ emptied x
 unfolding after_calls_here
-mail_done [] x = ap (λ y. record (mailed [] x) { taken = y }) (sym (append-nil x.taken))
-mail_done (m ∷ inbox) x =
-    mail_done inbox (record x { taken = x.taken ++ m ∷ [] })
-    ∙ ap (λ y. record (mailed [] x) { taken = y }) (append_assoc x.taken (m ∷ []) inbox)
+mail_done [] x e = sym (emptied-none x e)
+mail_done (m ∷ inbox) x e =
+    mail_done inbox (after_take_here x) (ap (drop 1) e) ∙ emptied-after-take x
 
-mail_shown : (inbox : List (List ℕ)) (x : EndState)
-    → shown_in (replicate (length inbox) Take) (mailed inbox x) ≡ map Handed inbox
+mail_shown : (inbox : List (List ℕ)) (x : EndState) → x.core.station.inbox ≡ inbox
+    → shown_in (replicate (length inbox) Take) x ≡ map Handed inbox
 unfolding shown_in
-mail_shown [] x = refl
-mail_shown (m ∷ inbox) x =
-    ap (λ y. Handed m ∷ y) (mail_shown inbox (record x { taken = x.taken ++ m ∷ [] }))
+mail_shown [] x e = refl
+mail_shown (m ∷ inbox) x e =
+    ap
+    (λ (l : List (List ℕ)). map Handed (option_to_list (first_message l))
+    ++ shown_in (replicate (length inbox) Take) (after_take_here x)) e
+    ∙ ap (λ y. Handed m ∷ y) (mail_shown inbox (after_take_here x) (ap (drop 1) e))
 
 -- ---- an end and a driven station go together
 
@@ -286,11 +286,11 @@ module _ (came : List ℕ) (x : EndState) (deadline : Option ℕ) (before : List
   read_calls = Arrive came ∷ replicate (length fed.core.station.inbox) Take
 
   abbrev read_to : EndState
-  read_to = record (mailed [] fed) { taken = fed.taken ++ fed.core.station.inbox }
+  read_to = emptied fed
 
   read_all : after_calls_here read_calls x ≡ read_to
   unfolding after_calls_here
-  read_all = mail_done fed.core.station.inbox fed
+  read_all = mail_done fed.core.station.inbox fed refl
 
   abbrev read_sees : List UserCall
   read_sees = calls_of_notices (notices_of_piece x.arrived came x.core) ++ calls_of_mail fed.core
@@ -299,7 +299,7 @@ module _ (came : List ℕ) (x : EndState) (deadline : Option ℕ) (before : List
   unfolding shown_in
   read_shown =
       ap (λ y. calls_of_notices (notices_of_piece x.arrived came x.core) ++ y)
-      (mail_shown fed.core.station.inbox fed)
+      (mail_shown fed.core.station.inbox fed refl)
 
   pub went_read : Went (calls_of_read came (at_end x deadline before seen)) x before seen
       (after_read came (at_end x deadline before seen))

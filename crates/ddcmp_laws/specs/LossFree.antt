@@ -79,11 +79,17 @@ pub record ComesWhole (x : EndState) (way : List ℕ) : Type 0 where
   pub receivable : All (λ (g : ReadItem). IsReceivable x.core.limits (received_of g))
       (items_added x.core.limits.longest x.arrived way)
 
--- Both stations are sound and accept messages of the same lengths, and all that is in flight
--- arrives whole.
+-- both stations acknowledge messages when they are received, and not when they are taken
+pub record IsEarly (p : PairState) : Type 0 where
+  pub a : p.a.core.station.by_user ≡ false
+  pub b : p.b.core.station.by_user ≡ false
+
+-- Both stations are sound, accept messages of the same lengths and acknowledge them when they are
+-- received, and all that is in flight arrives whole.
 pub record IsWhole (l : Line) : Type 0 where
   pub sound_a : IsSound l.pair.a.core.limits l.pair.a.core.station
   pub sound_b : IsSound l.pair.b.core.limits l.pair.b.core.station
   pub same : l.pair.a.core.limits.longest ≡ l.pair.b.core.limits.longest
   pub whole_a : ComesWhole l.pair.a l.to_a
   pub whole_b : ComesWhole l.pair.b l.to_b
+  pub early : IsEarly l.pair

@@ -21,6 +21,7 @@ ghost use Rattle.ddcmp_core.specs.Table.{Maint, Received, Good, Idle, Sends, on,
 ghost use Rattle.ddcmp_core.specs.Table.{acknowledged_by, next, after_next, next_frame, after_halt};
 ghost use Rattle.ddcmp_core.specs.Table.{may_send, may_send_maintenance, answer_to_send};
 ghost use Rattle.ddcmp_core.specs.Table.{after_accept, after_take, after_expire, after_take_arm};
+ghost use Rattle.ddcmp_core.specs.Table.{resp_of};
 ghost use Rattle.ddcmp_core.specs.Core.{IsSound, IsReceivable};
 ghost use Rattle.ddcmp_laws.specs.Calls.{Call, after_calls, SendsInOrder, HandsUpInOrder};
 ghost use Rattle.ddcmp_laws.specs.Calls.{LeavesUnanswered};
@@ -125,18 +126,19 @@ pub fn data_end_a_startup()
 {}
 
 /// A header that can't be read, and a data message that is damaged or too long, are answered by a
-/// NAK at once: the next frame is a NAK with R and the reason, and nothing else has changed. The
-/// same holds for the next message if there is no room. The reply to a REP is an ACK if all
-/// messages that it asks for were received, and otherwise a NAK.
+/// NAK at once: the next frame is a NAK with R (or, if messages are acknowledged when they are
+/// taken, the last one taken) and the reason, and nothing else has changed. The same holds for the
+/// next message if there is no room. The reply to a REP is an ACK if all messages that it asks for
+/// were received, and otherwise a NAK.
 pub fn asks_at_once()
     ensures fault { (l : Limits) (s : StationState) (h : Received) (k : ℕ) → s.state ≡ Running
-        → CallsFor h k → SendsNak k s.r (on l s h)
+        → CallsFor h k → SendsNak k (resp_of s) (on l s h)
         × (on l s h ≡ record s { reply = (on l s h).reply }) }
     ensures no_room { (l : Limits) (s : StationState) (resp num : ℕ) (message : List ℕ)
         → s.state ≡ Running → num ≡ (s.r + 1) % 256 → l.room ≤ length s.inbox
-        → SendsNak 8 s.r (on l s (Good (Data resp num message))) }
+        → SendsNak 8 (resp_of s) (on l s (Good (Data resp num message))) }
     ensures missing { (l : Limits) (s : StationState) (num : ℕ) → s.state ≡ Running → num ≢ s.r
-        → SendsNak 3 s.r (on l s (Good (Rep num)))
+        → SendsNak 3 (resp_of s) (on l s (Good (Rep num)))
         × (on l s (Good (Rep num)) ≡ record s { reply = (on l s (Good (Rep num))).reply }) }
     ensures all_came { (l : Limits) (s : StationState) → s.state ≡ Running
         → on l s (Good (Rep s.r)) ≡ record s { reply = Ack } }

@@ -5,7 +5,7 @@ ghost use Rattle.ddcmp_proto.specs.declared.config.Config.{Config as ConfigValue
 ghost use Rattle.ddcmp_pair.specs.Recovery.{IsDone};
 ghost use Rattle.ddcmp_pair.specs.Run.{new_pair, run};
 ghost use Rattle.ddcmp_pair.specs.declared.event.Event.{Event as EventValue};
-ghost use Rattle.ddcmp_laws.specs.LossFree.{Line, IsLossFree, run_on_line, IsWhole};
+ghost use Rattle.ddcmp_laws.specs.LossFree.{Line, IsLossFree, run_on_line, IsWhole, IsEarly};
 ghost use Rattle.ddcmp_laws.specs.Rests.{IsUnderWay};
 ghost use Rattle.ddcmp_laws.specs.Delivers.{IsAtRest};
 ghost use Rattle.ddcmp_laws.specs.Vectors.{abc};
@@ -13,18 +13,18 @@ ghost use Rattle.ddcmp_laws.specs.SweepStory.{after_loss, recovery_events};
 ghost use Rattle.ddcmp_laws.specs.Sweeps.{IsSweep, sweep_of, AreSweeps, in_a_row};
 ghost use Rattle.ddcmp_laws.specs.Sweeps.{AreEnough, AreAtOnce, AreInTime, IsRecoveryBySweeps};
 
-/// A line that loses nothing comes to rest. From two sound ends in any states, with anything in
-/// flight that arrives whole: after enough sweeps nothing is in flight and neither end has a frame
-/// to send, and further sweeps leave it so. Enough are two more than twice the number of frames
-/// that may be sent. In numbers, w being the larger window, and with 4 * w + 2 more for each item
-/// in flight: if received messages are taken at once, so that there is room for all that arrives,
-/// 32 * w + 26 sweeps; if a line that is under way has only room for a message whenever bytes
-/// arrive, 8 * w * w more.
+/// A line that loses nothing comes to rest. From two sound ends in any states that acknowledge
+/// messages when they are received, with anything in flight that arrives whole: after enough sweeps
+/// nothing is in flight and neither end has a frame to send, and further sweeps leave it so. Enough
+/// are two more than twice the number of frames that may be sent. In numbers, w being the larger
+/// window, and with 4 * w + 2 more for each item in flight: if received messages are taken at once,
+/// so that there is room for all that arrives, 32 * w + 26 sweeps; if a line that is under way has
+/// only room for a message whenever bytes arrive, 8 * w * w more.
 pub fn comes_to_rest()
     ensures rests { (sweeps : List (List EventValue)) (l : Line) → IsWhole l
         → IsLossFree (in_a_row sweeps) l → AreEnough sweeps l
         → IsAtRest (run_on_line (in_a_row sweeps) l) }
-    ensures stays { (sweeps : List (List EventValue)) (l : Line) → IsAtRest l
+    ensures stays { (sweeps : List (List EventValue)) (l : Line) → IsEarly l.pair → IsAtRest l
         → IsLossFree (in_a_row sweeps) l → AreSweeps sweeps l
         → IsAtRest (run_on_line (in_a_row sweeps) l) }
     ensures at_once { (sweeps : List (List EventValue)) (l : Line) → IsWhole l

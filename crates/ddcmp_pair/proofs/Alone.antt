@@ -24,6 +24,9 @@ use Rattle.ddcmp_core.proofs.StartLaws.{next_state, expired_state}
 use Rattle.ddcmp_core.proofs.Sent.{sending}
 use Rattle.ddcmp_core.proofs.TimedLaws.{timed_on, timed_next, timed_new, timed_started}
 use Rattle.ddcmp_core.proofs.TimedLaws.{timed_halted, timed_accepted, timed_taken, timed_expired}
+use Rattle.ddcmp_core.proofs.TimedLaws.{timed_chosen}
+use Rattle.ddcmp_core.specs.Table.{after_choose}
+use Rattle.ddcmp_pair.specs.Choices.{Act, Happens, Chooses, after_choice_here, after_act}
 use Rattle.ddcmp_proto.specs.Bytes.{received_of, after_item, after_items, notices_of_item}
 use Rattle.ddcmp_proto.specs.Bytes.{notices_of_items, items_added}
 use Rattle.ddcmp_proto.specs.declared.config.Config.{Config}
@@ -250,6 +253,18 @@ alone-take x h = record {
   young = λ m t. taken-none x.taken x.core.station.inbox (h.young m t);
 }
 
+alone-choice : (by_user : Bool) (x : EndState) → Alone x → Alone (after_choice_here by_user x)
+alone-choice by_user x h = by (may_start x.core.station)
+  where
+    by : (b : Bool)
+        → IsAlone (cond b (after_choose by_user x.core.station) x.core.station) x.taken x.starts
+    by false = h
+    by true = record {
+      timed = timed_chosen x.core.station by_user h.timed;
+      idle = h.idle;
+      young = h.young;
+    }
+
 alone-halt : (x : EndState) → Alone x → Alone (after_event_here (event.Halt A) x)
 alone-halt x h =
     record {
@@ -335,6 +350,11 @@ pub alone-run : (events : List Event) (p : PairState) → BothAlone p → BothAl
 unfolding run
 alone-run [] p h = h
 alone-run (e ∷ events) p h = alone-run events (after_event e p) (alone-after e p h)
+
+pub alone-act : (act : Act) (p : PairState) → BothAlone p → BothAlone (after_act act p)
+alone-act (Happens e) p h = alone-after e p h
+alone-act (Chooses A by_user) p h = record { a = alone-choice by_user p.a h.a; b = h.b }
+alone-act (Chooses B by_user) p h = record { a = h.a; b = alone-choice by_user p.b h.b }
 
 alone-new : (config : Config) → Alone (new_end config)
 alone-new config =

@@ -1,5 +1,6 @@
 -- What the user does at an end, and its timer, keep the links.
-use Rattle.std.proofs.Common.{◌≡◌, ℕ, ◌-◌, ◌<◌, ◌≤◌, Bool, true, List, [], ◌∷◌, ◌++◌, length, drop}
+use Rattle.std.proofs.Common.{◌≡◌, ℕ, ◌-◌, ◌<◌, ◌≤◌, Bool, true, false, cond, List, [], ◌∷◌, ◌++◌}
+use Rattle.std.proofs.Common.{length, drop}
 use Rattle.std.proofs.Common.{refl, sym, ap, ◌∙◌, subst, arith, append_assoc, append-nil}
 use Rattle.std.proofs.Common.{length-append, length-drop}
 use Rattle.std.specs.Prelude.{option_to_list}
@@ -13,12 +14,13 @@ use Rattle.ddcmp_core.specs.declared.state.Timer.TheVariants.{Off, Fresh, On}
 use Rattle.ddcmp_core.specs.Store.{first_message}
 use Rattle.ddcmp_core.specs.Table.{StationState, Frame, after_halt, after_start, may_send}
 use Rattle.ddcmp_core.specs.Table.{is_running, after_accept, after_take, after_expire_in}
+use Rattle.ddcmp_core.specs.Table.{after_choose}
 use Rattle.ddcmp_core.specs.Table.{after_expire_with, after_expire}
 use Rattle.ddcmp_pair.specs.Link.{IsReached, link_of}
 use Rattle.ddcmp_pair.proofs.Reached.{reached-give, reached-counts}
 use Rattle.ddcmp_pair.proofs.Wires.{wire-more}
 use Rattle.ddcmp_pair.proofs.Relation.{Face, up, Counts, StateFits, Stands, not_begun, begun, Fits}
-use Rattle.ddcmp_pair.proofs.Relation.{pending_station}
+use Rattle.ddcmp_pair.proofs.Relation.{pending_station, confirmed}
 
 -- flags and timer play no part
 pub stands_flags : (x : Face) (due : Bool) (reply : Owed) (rep : Bool) (timer : Timer) (n t : ℕ)
@@ -38,7 +40,7 @@ pub fits_flags : (x y : Face) (fs fs' : List Frame) (due : Bool) (reply : Owed) 
 fits_flags x y fs fs' due reply rep timer h =
     pending_station x y fs fs' [] []
     (record x.station { due = due; reply = reply; rep = rep; timer = timer }) x.taken refl
-    (stands_flags x due reply rep timer) h
+    (omega arith) (omega arith) (stands_flags x due reply rep timer) h
 
 -- ---- halt, expire and take
 
@@ -50,7 +52,8 @@ stands_halt x n t (begun s c p) = begun s c tt
 pub fits_halt : (x y : Face) (fs fs' : List Frame) → Fits x y fs fs'
     → Fits (record x { station = after_halt x.station }) y fs fs'
 fits_halt x y fs fs' h =
-    pending_station x y fs fs' [] [] (after_halt x.station) x.taken refl (stands_halt x) h
+    pending_station x y fs fs' [] [] (after_halt x.station) x.taken refl
+    (omega arith) (omega arith) (stands_halt x) h
 
 pub fits_expire : (x y : Face) (fs fs' : List Frame) → Fits x y fs fs'
     → Fits (record x { station = after_expire x.station }) y fs fs'
@@ -86,6 +89,30 @@ stands_take x n t (begun s c p) =
     (subst (λ l. Counts x.station x.limits.window x.given x.acknowledged n t (length l))
     (sym (take-up x.taken x.station.inbox)) c) p
 
+fewer : (inbox : List (List ℕ)) → length (drop 1 inbox) ≤ length inbox
+fewer [] = omega arith
+fewer (m ∷ inbox) = omega arith
+
+-- a message that is taken may be reported
+confirms-taken : (x : Face) → confirmed x
+    ≤ confirmed
+    (record x {
+      station = after_take x.station;
+      taken = x.taken ++ option_to_list (first_message x.station.inbox);
+    })
+confirms-taken x = by x.station.by_user
+  where
+    by : (b : Bool)
+        → cond b (length x.taken) (length (up x))
+        ≤ cond b (length (x.taken ++ option_to_list (first_message x.station.inbox)))
+        (length ((x.taken ++ option_to_list
+        (first_message x.station.inbox)) ++ drop 1 x.station.inbox))
+    by true =
+        let l = length-append x.taken (option_to_list (first_message x.station.inbox)) in
+        omega (arith, l)
+    by false =
+        let l = ap length (take-up x.taken x.station.inbox) in omega (arith, l)
+
 pub fits_take : (x y : Face) (fs fs' : List Frame) → Fits x y fs fs'
     → Fits
     (record x {
@@ -94,7 +121,30 @@ pub fits_take : (x y : Face) (fs fs' : List Frame) → Fits x y fs fs'
     }) y fs fs'
 fits_take x y fs fs' h =
     pending_station x y fs fs' [] [] (after_take x.station) _ (take-up x.taken x.station.inbox)
-    (stands_take x) h
+    (fewer x.station.inbox) (confirms-taken x) (stands_take x) h
+
+-- ---- the user chooses when messages are acknowledged
+
+stands_choose : (x : Face) (by_user : Bool) (n t : ℕ) → Stands x n t
+    → Stands (record x { station = after_choose by_user x.station }) n t
+stands_choose x by_user n t (not_begun s p g u) = not_begun s p g u
+stands_choose x by_user n t (begun s c p) = begun s c p
+
+pub fits_choose : (x y : Face) (fs fs' : List Frame) (by_user : Bool) → x.station.inbox ≡ []
+    → Fits x y fs fs' → Fits (record x { station = after_choose by_user x.station }) y fs fs'
+fits_choose x y fs fs' by_user e h =
+    pending_station x y fs fs' [] [] (after_choose by_user x.station) x.taken refl
+    (omega arith) (same x.station.by_user by_user) (stands_choose x by_user) h
+  where
+    all : length (up x) ≡ length x.taken
+    all = ap (λ l. length (x.taken ++ l)) e ∙ ap length (append-nil x.taken)
+
+    same : (b c : Bool)
+        → cond b (length x.taken) (length (up x)) ≤ cond c (length x.taken) (length (up x))
+    same true true = omega arith
+    same true false = omega (arith, all)
+    same false true = omega (arith, all)
+    same false false = omega arith
 
 -- ---- send
 
@@ -167,6 +217,10 @@ fits_give x y fs fs' m e h = record {
   stands' = h.stands';
   wire = wire-more m h.wire;
   wire' = h.wire';
+  mail = record { room = h.mail.room; inbox = h.mail.inbox };
+  mail' = h.mail';
+  rising = h.rising;
+  rising' = h.rising';
 }
 
 -- ---- the first start
@@ -223,4 +277,8 @@ fits_start x y fs fs' starts z some h = record {
   stands' = h.stands';
   wire = h.wire;
   wire' = h.wire';
+  mail = record { room = h.mail.room; inbox = h.mail.inbox };
+  mail' = h.mail';
+  rising = h.rising;
+  rising' = h.rising';
 }

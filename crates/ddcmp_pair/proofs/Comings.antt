@@ -1,5 +1,6 @@
 -- A frame arrives: its position and its count are taken off the wire, and then used or lost.
-use Rattle.std.proofs.Common.{◌≡◌, ℕ, suc, ◌+◌, ◌-◌, ◌%◌, ◌<◌, ◌≤◌, max, Bool, true, false, List}
+use Rattle.std.proofs.Common.{◌≡◌, ℕ, suc, ◌+◌, ◌-◌, ◌%◌, ◌<◌, ◌≤◌, max, Bool, true, false, cond}
+use Rattle.std.proofs.Common.{List}
 use Rattle.std.proofs.Common.{[], ◌∷◌, ◌++◌, length, Some, refl, sym, ap, ◌∙◌, subst, arith}
 use Rattle.std.proofs.Common.{append_assoc, length-append}
 use Rattle.std.specs.Prelude.{◌==◌, nat_lt, slice_get, slice_index_or}
@@ -16,7 +17,8 @@ use Rattle.ddcmp_pair.proofs.Wires.{reached-lose-backs, get-index}
 use Rattle.ddcmp_pair.proofs.Numbers.{newly-is, counts-after-ack}
 use Rattle.ddcmp_pair.proofs.Calls.{fits_flags}
 use Rattle.ddcmp_pair.proofs.Relation.{Face, up, Wire, Numbers, Counts, StateFits, begun, Fits}
-use Rattle.ddcmp_pair.proofs.Relation.{Pending}
+use Rattle.ddcmp_pair.proofs.Relation.{Pending, Mail, confirmed}
+use Rattle.ddcmp_pair.proofs.Links.{Rising, rising-after, rising-high}
 
 -- they are lost
 pub passed : (x y : Face) (fs fs' : List Frame) (ks qs : List ℕ) → Pending x y fs fs' ks qs
@@ -38,6 +40,10 @@ passed x y fs fs' ks qs h = record {
   stands' = h.stands';
   wire = h.wire;
   wire' = h.wire';
+  mail = h.mail;
+  mail' = h.mail';
+  rising = rising-after x.acknowledged (confirmed y) qs h.back h.rising;
+  rising' = h.rising';
 }
 
 -- the first frame that isn't lost comes
@@ -90,6 +96,13 @@ comes x y fs lost f rest h =
             stands' = h.stands';
             wire = h.wire;
             wire' = t.wire;
+            mail = h.mail;
+            mail' = h.mail';
+            rising =
+                subst (λ qs. Rising x.acknowledged (confirmed y) qs) t.qs_are
+                (rising-after x.acknowledged (confirmed y) z.lost_qs z.rest_qs
+                (subst (λ qs. Rising x.acknowledged (confirmed y) qs) z.qs_are h.rising));
+            rising' = h.rising';
           };
     }
 
@@ -144,6 +157,10 @@ use_count x y fs fs' ks q h s c p =
       stands' = h.stands';
       wire = h.wire;
       wire' = h.wire';
+      mail = record { room = h.mail.room; inbox = h.mail.inbox };
+      mail' = h.mail';
+      rising = subst (λ n. Rising n (confirmed y) h.back) a h.rising.1;
+      rising' = h.rising';
     }
 
 -- ---- a position is used
@@ -167,7 +184,7 @@ counts_offer s w given acked sent next up up' num e c = record {
 }
 
 -- what is owed for data that come
-abbrev owed : Limits → StationState → ℕ → Owed
+abbrev pub owed : Limits → StationState → ℕ → Owed
 owed l s num = reply_to_offer (answer_to_offer l.room (incoming s) num) s.reply
 
 -- data are taken, find no room, or aren't the next
@@ -176,15 +193,40 @@ taken : (l : Limits) (s : StationState) (num : ℕ) (m : List ℕ) → (num == n
     → after_offer l s num m ≡ record s { r = num; inbox = s.inbox ++ m ∷ []; reply = owed l s num }
 taken l s num m e d = rw (e, d) refl
 
-no-room : (l : Limits) (s : StationState) (num : ℕ) (m : List ℕ) → (num == next_number s.r) ≡ true
+pub no-room : (l : Limits) (s : StationState) (num : ℕ) (m : List ℕ)
+    → (num == next_number s.r) ≡ true
     → nat_lt (length s.inbox) l.room ≡ false
     → after_offer l s num m ≡ record s { reply = owed l s num }
 no-room l s num m e d = rw (e, d) refl
 
-out-of-sequence : (l : Limits) (s : StationState) (num : ℕ) (m : List ℕ)
+pub out-of-sequence : (l : Limits) (s : StationState) (num : ℕ) (m : List ℕ)
     → (num == next_number s.r) ≡ false
     → after_offer l s num m ≡ record s { reply = owed l s num }
 out-of-sequence l s num m e = rw e refl
+
+one-more : (x : Face) (message : List ℕ) → Mail x
+    → nat_lt (length x.station.inbox) x.limits.room ≡ true
+    → length (x.station.inbox ++ message ∷ []) ≤ 255
+one-more x message h room =
+    let below : length x.station.inbox < x.limits.room = grind (arith, room) in
+    let l = length-append x.station.inbox (message ∷ []) in
+    omega (arith, l, below, h.room)
+
+confirms-more : (x : Face) (message : List ℕ)
+    → confirmed x
+    ≤ cond x.station.by_user (length x.taken) (length (x.taken ++
+    (x.station.inbox ++ message ∷ [])))
+confirms-more x message = by x.station.by_user
+  where
+    by : (b : Bool) → cond b (length x.taken) (length (up x))
+        ≤ cond b (length x.taken) (length (x.taken ++ (x.station.inbox ++ message ∷ [])))
+    by true = omega arith
+    by false = omega (
+      arith,
+      length-append x.taken x.station.inbox,
+      length-append x.taken (x.station.inbox ++ message ∷ []),
+      length-append x.station.inbox (message ∷ []),
+    )
 
 pub use_position : (x y : Face) (fs fs' : List Frame) (k num : ℕ) (message : List ℕ)
     (h : Pending x y fs fs' (suc k ∷ []) []) → num ≡ suc k % 256
@@ -257,4 +299,10 @@ use_position x y fs fs' k num message h e g s c p =
           stands' = h.stands';
           wire = h.wire;
           wire' = h.wire';
+          mail = record { room = h.mail.room; inbox = one-more x message h.mail room };
+          mail' = h.mail';
+          rising = h.rising;
+          rising' =
+              rising-high y.acknowledged (confirmed x) _ h.back'
+              (confirms-more x message) h.rising';
         })

@@ -4,7 +4,8 @@ use Rattle.std.proofs.Common.{None, refl, sym, ap, ◌∙◌, append-nil}
 use Rattle.std.specs.Prelude.{◌&&◌, ◌||◌, is_some, option_map}
 use Rattle.ddcmp_io.specs.declared.carrier.End.TheVariants.{A, B}
 use Rattle.ddcmp_pair.specs.declared.event.Event.TheVariants as event
-use Rattle.ddcmp_core.specs.Table.{Frame, next_frame, next}
+use Rattle.ddcmp_core.specs.Table.{Frame, next_frame, next, after_take_all}
+use Rattle.ddcmp_core.proofs.Taken.{take_all_after, take_all_none}
 use Rattle.ddcmp_core.specs.Frames.{header_of}
 use Rattle.ddcmp_proto.specs.Bytes.{frame_on_line}
 use Rattle.ddcmp_pair.specs.Run.{EndState, PairState, with_station, after_poll_here}
@@ -20,19 +21,21 @@ use Rattle.ddcmp_pair.proofs.Runs.{run-append, crossing-writes, crossing-idles}
 
 abbrev pub emptied : EndState → EndState
 emptied x =
-    record (with_station (record x.core.station { inbox = [] }) x) {
+    record (with_station (after_take_all x.core.station) x) {
       taken = x.taken ++ x.core.station.inbox;
     }
 
-emptied-after-take : (x : EndState) → emptied (after_take_here x) ≡ emptied x
-emptied-after-take x =
-    ap (λ t. record (emptied x) { taken = t }) (take-up x.taken x.core.station.inbox)
+pub emptied-after-take : (x : EndState) → emptied (after_take_here x) ≡ emptied x
+emptied-after-take x = λ i.
+    record (with_station (take_all_after x.core.station i) x) {
+      taken = take-up x.taken x.core.station.inbox i;
+    }
 
 pub emptied-none : (x : EndState) → x.core.station.inbox ≡ [] → emptied x ≡ x
 emptied-none x e =
     let t : x.taken ++ x.core.station.inbox ≡ x.taken =
     ap (λ l. x.taken ++ l) e ∙ append-nil x.taken in
-    λ i. record (with_station (record x.core.station { inbox = sym e i }) x) { taken = t i }
+    λ i. record (with_station (take_all_none x.core.station e i) x) { taken = t i }
 
 taken-a : (inbox : List (List ℕ)) (p : PairState) → p.a.core.station.inbox ≡ inbox
     → run (replicate (length inbox) (event.Take A)) p ≡ record p { a = emptied p.a }

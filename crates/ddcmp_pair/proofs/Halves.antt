@@ -2,11 +2,22 @@
 -- numbers see that frame.
 use Rattle.std.proofs.Common.{◌≡◌, ◌⊎◌, ℕ, ◌+◌, ◌-◌, ◌%◌, ◌<◌, ◌≤◌, Bool, true, false, List, []}
 use Rattle.std.proofs.Common.{◌∷◌, ◌++◌, length, refl, sym, ap, ◌∙◌, subst, arith, append-nil}
-use Rattle.std.specs.Prelude.{◌&&◌, nat_le, is_some, option_map, option_to_list}
+use Rattle.std.proofs.Common.{cond}
+use Rattle.std.specs.Prelude.{◌&&◌, ◌==◌, nat_lt, nat_le, is_some, option_map, option_to_list}
 use Rattle.ddcmp_frame.specs.Reading.{good_frames}
 use Rattle.ddcmp_core.specs.Sequence.{distance}
-use Rattle.ddcmp_core.specs.declared.state.State.TheVariants.{AStart, Running}
+use Rattle.ddcmp_core.specs.declared.state.State.{State}
+use Rattle.ddcmp_core.specs.declared.state.State.TheVariants.{Halted, IStart, AStart, Running}
+use Rattle.ddcmp_core.specs.declared.state.State.TheVariants.{Maintenance}
+use Rattle.ddcmp_core.specs.declared.state.Owed.{Owed}
+use Rattle.ddcmp_core.specs.declared.state.Owed.TheVariants.{Ack}
+use Rattle.ddcmp_core.specs.declared.state.Timer.TheVariants.{Off}
+use Rattle.ddcmp_core.specs.Numbers.{next_number, is_within}
 use Rattle.ddcmp_core.specs.Table.{Limits, StationState, Frame, Data, Acked, Naked, Rep, Strt}
+use Rattle.ddcmp_core.specs.Table.{resp_of, owed_after_take, acknowledges_by_take, after_take_all}
+use Rattle.ddcmp_core.specs.Table.{Received, Maint, incoming, after_ack, after_offer, on_data}
+use Rattle.ddcmp_core.specs.Table.{after_startup, after_restart, after_halt, may_restart}
+use Rattle.ddcmp_core.specs.Table.{is_running}
 use Rattle.ddcmp_core.specs.Table.{Stack, Good, Next, Idle, Sends, next, next_frame, after_next}
 use Rattle.ddcmp_core.specs.Table.{before_next, message_at_next, on, on_by, notice_of, notice_by}
 use Rattle.ddcmp_core.specs.Table.{acknowledged_by, is_starting}
@@ -26,13 +37,15 @@ use Rattle.ddcmp_pair.specs.Run.{EndState, PairState, handed_up, after_poll_here
 use Rattle.ddcmp_pair.specs.Run.{line_bytes, whole_frame}
 use Rattle.ddcmp_pair.proofs.WholeArrivals.{hears, arrives-as, still-closed, honest-arrival}
 use Rattle.ddcmp_pair.proofs.WholeArrivals.{no-restart, stays-awake}
-use Rattle.ddcmp_pair.proofs.Crossings.{emptied, turned, crossed_by, half}
+use Rattle.ddcmp_pair.proofs.Crossings.{emptied, emptied-none, turned, crossed_by, half}
+use Rattle.ddcmp_core.proofs.Taken.{none_owed, sound_taken_all, timed_taken_all}
 use Rattle.ddcmp_pair.proofs.Relation.{Counts}
 use Rattle.ddcmp_pair.proofs.Numbering.{sent_is, next_is, out_length}
 use Rattle.ddcmp_pair.proofs.Views.{View, Ordered, Crossing, c_strt, c_stack, c_nak, c_rep, c_data}
 use Rattle.ddcmp_pair.proofs.Views.{c_ack, c_waits, c_rests}
 use Rattle.ddcmp_pair.proofs.Sees.{looks, same_test, sees_sent, sees_strt, sees_stack, sees_nak}
-use Rattle.ddcmp_pair.proofs.Sees.{sees_rep, sees_data, sees_ack}
+use Rattle.ddcmp_pair.proofs.Sees.{sees_rep, sees_data, sees_ack, reply_up}
+use Rattle.ddcmp_pair.proofs.Comings.{owed, no-room, out-of-sequence}
 use Rattle.ddcmp_pair.proofs.Steady.{Shows, IsKept, Steady, steady-turned, steady-shows, half-kept}
 use Rattle.ddcmp_pair.proofs.Steady.{inbox-sent, starts-same}
 
@@ -43,16 +56,31 @@ abbrev InRange : Limits → Next → Type 0
 InRange l Idle = Unit {0}
 InRange l (Sends f u) = IsReceivable l (Good f)
 
+resp-byte : (s : StationState) → s.r < 256 → resp_of s < 256
+resp-byte s h = by s.by_user
+  where
+    by : (b : Bool) → cond b (distance (length s.inbox) s.r) s.r < 256
+    by true = omega arith
+    by false = h
+
+-- where all is taken, RESP is R
+resp-rest : (s : StationState) → s.inbox ≡ [] → s.r < 256 → resp_of s ≡ s.r
+resp-rest s e h = by s.by_user
+  where
+    by : (b : Bool) → cond b (distance (length s.inbox) s.r) s.r ≡ s.r
+    by true = omega (arith, ap length e, h)
+    by false = refl
+
 in-range : (l m : Limits) (s : StationState) → l.longest ≡ m.longest → IsSound l s → (z : Next)
     → SentFor s z → InRange m z
 in-range l m s same h _ (sends_strt e d) = tt
 in-range l m s same h _ (sends_stack e d) = tt
-in-range l m s same h _ (sends_nak why e r) = h.r_byte
+in-range l m s same h _ (sends_nak why e r) = resp-byte s h.r_byte
 in-range l m s same h _ (sends_rep e r f) = tt
 in-range l m s same h _ (sends_data e r f place) =
     let g = h.out_stored.lengths (before_next s) place in
-    (h.r_byte, h.in_window.t_byte, g.0, omega (arith, g.1, same))
-in-range l m s same h _ (sends_ack e r f place) = h.r_byte
+    (resp-byte s h.r_byte, h.in_window.t_byte, g.0, omega (arith, g.1, same))
+in-range l m s same h _ (sends_ack e r f place) = resp-byte s h.r_byte
 in-range l m s same h _ (sends_maint message rest e o) =
     let g = h.out_stored.lengths 0 (omega (arith, ap length o)) in
     let g' = rw o at g in
@@ -68,40 +96,118 @@ receivable-sent l m s f u same h e =
     subst (InRange m) e (in-range l m s same h (next s) (sending s))
 
 -- all mail is taken
-pub sound-emptied : (l : Limits) (s : StationState) → IsSound l s
-    → IsSound l (record s { inbox = [] })
-sound-emptied l s h = record {
-  r_byte = h.r_byte;
-  in_window = h.in_window;
-  out_stored = h.out_stored;
-  inbox_stored = record {
-    limit_min = h.inbox_stored.limit_min;
-    limit_max = h.inbox_stored.limit_max;
-    longest_min = h.inbox_stored.longest_min;
-    longest_max = h.inbox_stored.longest_max;
-    count = omega arith;
-    lengths = λ i below. absurd (omega (arith, below));
-  };
-  fits = record {
-    starting_r = h.fits.starting_r;
-    starting_out = h.fits.starting_out;
-    starting_inbox = λ e. refl;
-    maintenance_n = h.fits.maintenance_n;
-    maintenance_t = h.fits.maintenance_t;
-    sent_reply = h.fits.sent_reply;
-  };
-}
-
-pub timed-inbox : (s : StationState) (inbox : List (List ℕ)) → IsTimed s
-    → IsTimed (record s { inbox = inbox })
-timed-inbox s inbox h = record { waits = h.waits; asks = h.asks; begins = h.begins }
-
 abbrev pub view : EndState → View
 view x = looks x.core.station x.acknowledged x.taken x.given
 
-pub view-emptied : (x : EndState) → view (emptied x) ≡ view x
-view-emptied x =
-    ap (λ l. record (view x) { up = length l }) (append-nil (x.taken ++ x.core.station.inbox))
+pub view-emptied : (x : EndState) → x.core.station.inbox ≡ [] → view (emptied x) ≡ view x
+view-emptied x e = ap view (emptied-none x e)
+
+-- what came to an empty inbox is owed an ACK
+owes-none : (s : StationState) → s.inbox ≡ [] → acknowledges_by_take s ≡ true → s.reply ≡ Ack
+owes-none s e f =
+    absurd
+    (let z = none_owed (s.by_user && is_running s.state) s.inbox e in let y = sym f ∙ z in cc y)
+
+owes-offer : (l : Limits) (s : StationState) (num : ℕ) (message : List ℕ) → s.inbox ≡ []
+    → acknowledges_by_take (after_offer l s num message) ≡ true
+    → (after_offer l s num message).reply ≡ Ack
+owes-offer l s num message e =
+    by (num == next_number s.r) refl (nat_lt (length s.inbox) l.room) refl
+  where
+    none : (reply : Owed) → acknowledges_by_take (record s { reply = reply }) ≡ false
+    none reply = none_owed (s.by_user && is_running s.state) s.inbox e
+
+    by : (b : Bool) → (num == next_number s.r) ≡ b → (d : Bool)
+        → nat_lt (length s.inbox) l.room ≡ d
+        → acknowledges_by_take (after_offer l s num message) ≡ true
+        → (after_offer l s num message).reply ≡ Ack
+    by true e true d f =
+        reply_up l.room (incoming s) num s.reply d ∙ ap (λ b. cond b Ack s.reply) e
+    by true e false d f =
+        absurd
+        (let y = sym f ∙ ap acknowledges_by_take (no-room l s num message e d)
+        ∙ none (owed l s num) in cc y)
+    by false e d x f =
+        absurd
+        (let y = sym f ∙ ap acknowledges_by_take (out-of-sequence l s num message e)
+        ∙ none (owed l s num) in cc y)
+
+owes-by : (l : Limits) (s : StationState) (p : State) → s.state ≡ p → (f : Received) → s.inbox ≡ []
+    → acknowledges_by_take (on_by p l s f) ≡ true → (on_by p l s f).reply ≡ Ack
+owes-by l s Halted p f e = owes-none s e
+owes-by l s IStart p (Good Strt) e = owes-none (on_by IStart l s (Good Strt)) e
+owes-by l s IStart p (Good Stack) e = owes-none (on_by IStart l s (Good Stack)) e
+owes-by l s IStart p f e = owes-none s e
+owes-by l s AStart p (Good Stack) e = owes-none (on_by AStart l s (Good Stack)) e
+owes-by l s AStart p (Good Strt) e = owes-none (on_by AStart l s (Good Strt)) e
+owes-by l s AStart p (Good (Acked resp)) e = by (resp == 0)
+  where
+    by : (b : Bool) → acknowledges_by_take (cond b (after_startup s) s) ≡ true
+        → (cond b (after_startup s) s).reply ≡ Ack
+    by true = owes-none (after_startup s) e
+    by false = owes-none s e
+owes-by l s AStart p (Good (Data resp num message)) e = by (resp == 0)
+  where
+    by : (b : Bool)
+        → acknowledges_by_take (cond b (on_data l (after_startup s) resp num message) s) ≡ true
+        → (cond b (on_data l (after_startup s) resp num message) s).reply ≡ Ack
+    by true = owes-offer l (after_ack (after_startup s) resp) num message e
+    by false = owes-none s e
+owes-by l s AStart p f e = owes-none s e
+owes-by l s Running p (Good Strt) e = by (may_restart l s)
+  where
+    by : (b : Bool) → acknowledges_by_take (cond b (after_restart s) (after_halt s)) ≡ true
+        → (cond b (after_restart s) (after_halt s)).reply ≡ Ack
+    by true = owes-none (after_restart s) e
+    by false = owes-none (after_halt s) e
+owes-by l s Running p (Good (Naked why resp)) e = by (is_within s.a resp s.n)
+  where
+    by : (b : Bool)
+        → acknowledges_by_take
+        (cond b
+        (record (after_ack s resp)
+        { t = next_number (after_ack s resp).a; rep = false; timer = Off }) s) ≡ true
+        → (cond b
+        (record (after_ack s resp)
+        { t = next_number (after_ack s resp).a; rep = false; timer = Off }) s).reply ≡ Ack
+    by true =
+        owes-none
+        (record (after_ack s resp)
+        { t = next_number (after_ack s resp).a; rep = false; timer = Off }) e
+    by false = owes-none s e
+owes-by l s Running p (Good (Data resp num message)) e =
+    owes-offer l (after_ack s resp) num message e
+owes-by l s Running p f e = owes-none (on_by Running l s f) e
+owes-by l s Maintenance p (Good (Maint message)) e = λ f.
+    absurd
+    (maintains s.by_user s.state (ap is_running p)
+    (nat_lt 0 (length (on_by Maintenance l s (Good (Maint message))).inbox)) f)
+  where
+    maintains : (b : Bool) (q : State) → is_running q ≡ false → (d : Bool)
+        → ((b && is_running q) && d) ≡ true → ⊥
+    maintains b q n d f = by b (is_running q) n f
+      where
+        by : (b c : Bool) → c ≡ false → ((b && c) && d) ≡ true → ⊥
+        by true true n f = cc n
+        by true false n f = cc f
+        by false c n f = cc f
+owes-by l s Maintenance p f e = owes-none s e
+
+-- an end that heard a frame with an empty inbox shows the same numbers when all is taken
+view-heard : (x : EndState) (f : Received) → x.core.station.inbox ≡ [] → (y : EndState)
+    → y.core.station ≡ on x.core.limits x.core.station f → view (emptied y) ≡ view y
+unfolding on
+view-heard x f e y same = λ i.
+    record (view y) {
+      reply = owes (acknowledges_by_take y.core.station) y.core.station.reply
+          (subst (λ (u : StationState). acknowledges_by_take u ≡ true → u.reply ≡ Ack) (sym same)
+          (owes-by x.core.limits x.core.station x.core.station.state refl f e)) i;
+      up = length (append-nil (y.taken ++ y.core.station.inbox) i);
+    }
+  where
+    owes : (b : Bool) (r : Owed) → (b ≡ true → r ≡ Ack) → cond b (owed_after_take r) r ≡ r
+    owes true r h = let z = h refl in ap owed_after_take z ∙ sym z
+    owes false r h = refl
 
 first-of : (b d : Bool) → (b && d) ≡ true → b ≡ true
 first-of true d e = refl
@@ -202,9 +308,9 @@ module _ (Holds : PairState → Type 0) (k : IsKept Holds) (W : ℕ) (p : PairSt
     comes-in-range : IsReceivable y.core.limits (Good f)
     comes-in-range = receivable-sent x.core.limits y.core.limits s f u h.same h.a.sound e
 
-    sound-hearing : IsSound y.core.limits (record (on y.core.limits t (Good f)) { inbox = [] })
+    sound-hearing : IsSound y.core.limits (after_take_all (on y.core.limits t (Good f)))
     sound-hearing =
-        sound-emptied y.core.limits (on y.core.limits t (Good f))
+        sound_taken_all y.core.limits (on y.core.limits t (Good f))
         (sound_on y.core.limits t (Good f) comes-in-range h.b.sound)
 
     steady-after : Steady Holds W after
@@ -221,7 +327,7 @@ module _ (Holds : PairState → Type 0) (k : IsKept Holds) (W : ℕ) (p : PairSt
       a = record {
         sound = sound-hearing;
         timed =
-            timed-inbox (on y.core.limits t (Good f)) []
+            timed_taken_all (on y.core.limits t (Good f))
             (timed_on y.core.limits t (Good f) h.b.timed);
         awake = stays-awake y.core.limits t f (no-strt f u e) h.b.awake;
         empty = refl;
@@ -325,6 +431,9 @@ module _ (Holds : PairState → Type 0) (k : IsKept Holds) (W : ℕ) (p : PairSt
       subst (λ (z : View × View). Crossing (view p.a) (view p.b) b z.0 z.1)
       (λ i. (sym e i, sym f i)) g
 
+  rest : resp_of s ≡ s.r
+  rest = resp-rest s h.a.empty h.a.sound.r_byte
+
   all-sent : length p.a.core.station.out ≤ before_next p.a.core.station
       → length p.a.given < p.a.acknowledged + 1 + before_next p.a.core.station
   all-sent r = omega (arith, r, left)
@@ -345,7 +454,7 @@ module _ (Holds : PairState → Type 0) (k : IsKept Holds) (W : ℕ) (p : PairSt
       there.next (length (handed_up y)) c' y.taken t.state) (c_stack e d)
   crossing-by _ (sends_nak why e r) =
       to true _ _ _ _ refl
-      (heard-sees (Naked why s.r) ∙ ap (λ q. sees-view (Naked why q)) c.r_is
+      (heard-sees (Naked why (resp_of s)) ∙ ap (λ q. sees-view (Naked why q)) (rest ∙ c.r_is)
       ∙ sees_nak y.core.limits t y.core.limits.window y.given y.acknowledged there.sent
       there.next (length (handed_up y)) c' y.taken t.state why up o'.low told)
       (c_nak why e r)
@@ -363,8 +472,8 @@ module _ (Holds : PairState → Type 0) (k : IsKept Holds) (W : ℕ) (p : PairSt
       to true _ _ _ _
       (sees_sent s x.core.limits.window x.given x.acknowledged here.sent here.next
       (length (handed_up x)) x.taken place c)
-      (heard-sees (Data s.r s.t (message_at_next s))
-      ∙ ap (λ q. sees-view (Data q s.t (message_at_next s))) c.r_is
+      (heard-sees (Data (resp_of s) s.t (message_at_next s))
+      ∙ ap (λ q. sees-view (Data q s.t (message_at_next s))) (rest ∙ c.r_is)
       ∙ sees_data y.core.limits t y.core.limits.window y.given y.acknowledged there.sent there.next
       (length (handed_up y)) c' y.taken t.state up s.t v.next (message_at_next s)
       none-up h.b.empty room refl (c.t_is ∙ ap (λ m. m % 256) (sym coming))
@@ -373,7 +482,7 @@ module _ (Holds : PairState → Type 0) (k : IsKept Holds) (W : ℕ) (p : PairSt
       (c_data e r f all)
   crossing-by _ (sends_ack e r f place) =
       to true _ _ _ _ refl
-      (heard-sees (Acked s.r) ∙ ap (λ q. sees-view (Acked q)) c.r_is
+      (heard-sees (Acked (resp_of s)) ∙ ap (λ q. sees-view (Acked q)) (rest ∙ c.r_is)
       ∙ sees_ack y.core.limits t y.core.limits.window y.given y.acknowledged there.sent
       there.next (length (handed_up y)) c' y.taken t.state up none-up o'.low told)
       (c_ack e r f (all-sent place))
@@ -403,7 +512,7 @@ module _ (Holds : PairState → Type 0) (k : IsKept Holds) (W : ℕ) (p : PairSt
         ∙ ap (λ z. looks (after_next z s) x.acknowledged x.taken x.given) e;
     hearer =
         ap (λ (q : PairState). view q.a) (half-sends f u e)
-        ∙ view-emptied (hears f (frame_on_line x.syn f) y);
+        ∙ view-heard y (Good f) h.b.empty (hears f (frame_on_line x.syn f) y) refl;
   }
 
   pub steady-crossing : Crossing (view p.a) (view p.b) (is_some (line_bytes p.a)) (view (half p).b)

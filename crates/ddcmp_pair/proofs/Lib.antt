@@ -14,6 +14,7 @@ pub mod Limits
 pub mod Lines
 pub mod Linked
 pub mod Links
+pub mod Modes
 pub mod Modulo
 pub mod Numbering
 pub mod Numbers

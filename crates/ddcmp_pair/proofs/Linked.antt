@@ -2,7 +2,8 @@
 use Rattle.std.proofs.Common.{◌≡◌, ℕ, suc, ◌<◌, ◌≤◌, Bool, true, false, cond, List, [], ◌∷◌, ◌++◌}
 use Rattle.std.proofs.Common.{map, length, drop, refl, sym, ap, ◌∙◌, subst, arith, length-append}
 use Rattle.std.proofs.Common.{Option, Some, None}
-use Rattle.std.specs.Prelude.{is_some, option_map, option_to_list}
+use Rattle.std.specs.Prelude.{◌==◌, is_none, is_some, option_map, option_to_list}
+use Rattle.std.specs.Prelude.{if◌then◌else◌}
 use Rattle.std.proofs.lemmas.List.{map-append, drop-append-le}
 use Rattle.ddcmp_frame.specs.Reading.{ReadItem, items, good_frames, good_frames_in}
 use Rattle.ddcmp_core.specs.declared.notice.Notice.{Notice}
@@ -11,7 +12,9 @@ use Rattle.ddcmp_core.specs.declared.state.State.TheVariants.{Halted, IStart, Ru
 use Rattle.ddcmp_core.specs.Core.{CoreView}
 use Rattle.ddcmp_core.specs.Counting.{count_plus}
 use Rattle.ddcmp_core.specs.Table.{Limits, Frame, Next, Idle, Sends, may_start, after_start}
-use Rattle.ddcmp_core.specs.Table.{may_send, after_accept, next, next_frame}
+use Rattle.ddcmp_core.specs.Table.{may_send, after_accept, next, next_frame, after_choose}
+use Rattle.ddcmp_core.specs.Table.{StationState, is_halted}
+use Rattle.ddcmp_core.specs.declared.station_core.StartRefusal.TheVariants.{NotHalted, Untaken}
 use Rattle.ddcmp_core.specs.Laws.{tells_restart}
 use Rattle.ddcmp_core.proofs.StartLaws.{next_state, expired_state}
 use Rattle.ddcmp_proto.specs.Bytes.{items_added, after_items}
@@ -19,13 +22,16 @@ use Rattle.ddcmp_proto.proofs.FeedLaws.{items_added-all, after_items-limits}
 use Rattle.ddcmp_pair.specs.declared.event.Event.{Event}
 use Rattle.ddcmp_pair.specs.declared.event.Event.TheVariants as event
 use Rattle.ddcmp_pair.specs.Place.{place_of, place_from}
-use Rattle.ddcmp_pair.specs.Run.{EndState, restarts_in, whole_frame, frames_polled, notices_at}
+use Rattle.ddcmp_pair.specs.Run.{EndState, with_station, restarts_in, whole_frame, frames_polled}
+use Rattle.ddcmp_pair.specs.Run.{notices_at}
 use Rattle.ddcmp_pair.specs.Run.{after_start_here, after_halt_here, after_send_here}
 use Rattle.ddcmp_pair.specs.Run.{after_poll_here, after_arrival_here, after_expire_here}
 use Rattle.ddcmp_pair.specs.Run.{after_take_here, after_event_here, is_honest_here}
 use Rattle.ddcmp_pair.proofs.Places.{place-stays, good_frames_in-append, place_from-append}
 use Rattle.ddcmp_pair.proofs.Relation.{Face, face, Stands, not_begun, begun, Fits, fits_turned}
+use Rattle.ddcmp_pair.specs.Choices.{after_choice_here}
 use Rattle.ddcmp_pair.proofs.Calls.{fits_halt, fits_expire, fits_take, fits_give, fits_start}
+use Rattle.ddcmp_pair.proofs.Calls.{fits_choose}
 use Rattle.ddcmp_pair.proofs.Sendings.{frames_next, fits_poll}
 use Rattle.ddcmp_pair.proofs.Startups.{starting-kept, starting-sends, starting-starts}
 use Rattle.ddcmp_pair.proofs.Arrivals.{seen, on_the_way, Related, NoRestart, items-come}
@@ -159,6 +165,37 @@ linked-take x y h =
     linked-kept x y (after_take_here x) h refl refl refl
     (related-kept (face x) (face y) (face (after_take_here x)) _ _ h.related
     (fits_take (face x) (face y) _ _ h.related.fits) refl (λ p. p) (λ r. r))
+
+-- ---- the user chooses when messages are acknowledged
+
+no-mail : (s : StationState) → may_start s ≡ true → s.inbox ≡ []
+no-mail s e = by (is_halted s.state) (length s.inbox == 0) refl e
+  where
+    empty : (inbox : List (List ℕ)) → (length inbox == 0) ≡ true → inbox ≡ []
+    empty [] e = refl
+    empty (m ∷ inbox) e =
+        absurd (let z : length (m ∷ inbox) ≡ 0 = grind (arith) in omega (arith, z))
+
+    by : (b d : Bool) → (length s.inbox == 0) ≡ d
+        → is_none (if b then (if d then None else Some Untaken) else Some NotHalted) ≡ true
+        → s.inbox ≡ []
+    by true true d e = empty s.inbox d
+    by true false d e = absurd (cc e)
+    by false b d e = absurd (cc e)
+
+pub linked-choose : (by_user : Bool) (x y : EndState) → Linked x y
+    → Linked (after_choice_here by_user x) y
+linked-choose by_user x y h = by (may_start x.core.station) refl
+  where
+    by : (b : Bool) → may_start x.core.station ≡ b
+        → Linked
+        (with_station (cond b (after_choose by_user x.core.station) x.core.station) x) y
+    by false e = h
+    by true e =
+        linked-kept x y _ h refl refl refl
+        (related-kept (face x) (face y) _ _ _ h.related
+        (fits_choose (face x) (face y) _ _ by_user (no-mail x.core.station e) h.related.fits)
+        refl (λ p. p) (λ r. r))
 
 -- ---- a frame is sent
 

@@ -1,11 +1,13 @@
 -- What every move on a link keeps: the order of what is in flight.
 use Rattle.std.proofs.Common.{◌≡◌, ℕ, zero, suc, ◌+◌, ◌-◌, ◌<◌, ◌≤◌, max, Bool, true, false, List}
 use Rattle.std.proofs.Common.{[], ◌∷◌, ◌++◌, length, refl, sym, ap, subst, ◌∙◌, arith, append_assoc}
+use Rattle.std.proofs.Common.{◌%◌}
 use Rattle.std.proofs.Common.{length-append}
 use Rattle.std.specs.Prelude.{if◌then◌else◌, ◌==◌, remove, slice_index_or}
 use Rattle.ddcmp_pair.specs.Prefix.{IsPrefixOf}
 use Rattle.ddcmp_pair.specs.Link.{Link, Move, Give, Send, Answer, LoseForward, LoseBack}
 use Rattle.ddcmp_pair.specs.Link.{ForwardComes, BackComes, new_link, may_send_position}
+use Rattle.ddcmp_pair.specs.Link.{last_count, may_answer}
 use Rattle.ddcmp_pair.specs.Link.{after_send_position, message_at, handed_up_by}
 use Rattle.ddcmp_pair.specs.Link.{after_forward_comes, after_back_comes, after_move, after_moves}
 
@@ -33,12 +35,12 @@ pub record Keeps (w : ℕ) (l : Link) : Type 0 where
 
 -- ---- numbers delivered, in flight back
 
-rising-low : (low lower high : ℕ) (qs : List ℕ) → lower ≤ low → Rising low high qs
+pub rising-low : (low lower high : ℕ) (qs : List ℕ) → lower ≤ low → Rising low high qs
     → Rising lower high qs
 rising-low low lower high [] h r = omega arith
 rising-low low lower high (q ∷ qs) h r = (omega arith, r.1)
 
-rising-high : (low high higher : ℕ) (qs : List ℕ) → high ≤ higher → Rising low high qs
+pub rising-high : (low high higher : ℕ) (qs : List ℕ) → high ≤ higher → Rising low high qs
     → Rising low higher qs
 rising-high low high higher [] h r = omega arith
 rising-high low high higher (q ∷ qs) h r = (r.0, rising-high q high higher qs h r.1)
@@ -47,9 +49,22 @@ pub rising-ends : (low high : ℕ) (qs : List ℕ) → Rising low high qs → lo
 rising-ends low high [] r = r
 rising-ends low high (q ∷ qs) r = omega (arith, rising-ends q high qs r.1, r.0)
 
-rising-more : (low high : ℕ) (qs : List ℕ) → Rising low high qs → Rising low high (qs ++ high ∷ [])
-rising-more low high [] r = (r, omega arith)
-rising-more low high (q ∷ qs) r = (r.0, rising-more q high qs r.1)
+pub rising-more : (low high k : ℕ) (qs : List ℕ) → last_count low qs ≤ k → k ≤ high
+    → Rising low high qs → Rising low high (qs ++ k ∷ [])
+unfolding last_count
+rising-more low high k [] a b r = (a, b)
+rising-more low high k (q ∷ qs) a b r = (r.0, rising-more q high k qs a b r.1)
+
+pub rising-last : (low high : ℕ) (qs : List ℕ) → Rising low high qs → last_count low qs ≤ high
+unfolding last_count
+rising-last low high [] r = r
+rising-last low high (q ∷ qs) r = rising-last q high qs r.1
+
+pub rising-after : (low high : ℕ) (lost qs : List ℕ) → Rising low high (lost ++ qs)
+    → Rising low high qs
+rising-after low high [] qs r = r
+rising-after low high (q ∷ lost) qs r =
+    rising-low q low high qs r.0 (rising-after q high lost qs r.1)
 
 rising-remove : (low high i : ℕ) (qs : List ℕ) → Rising low high qs → Rising low high (remove qs i)
 rising-remove low high zero [] r = r
@@ -132,14 +147,15 @@ keeps-give w l m h = record {
   rising = h.rising;
 }
 
-keeps-answer : (w : ℕ) (l : Link) → Keeps w l
-    → Keeps w (record l { back = l.back ++ length l.handed_up ∷ [] })
-keeps-answer w l h = record {
+keeps-answer : (w q : ℕ) (l : Link) → last_count l.acknowledged l.back ≤ q
+    → q ≤ length l.handed_up → Keeps w l
+    → Keeps w (record l { back = l.back ++ q ∷ [] })
+keeps-answer w q l a b h = record {
   prefix = h.prefix;
   within = h.within;
   has_message = h.has_message;
   ahead = h.ahead;
-  rising = rising-more l.acknowledged (length l.handed_up) l.back h.rising;
+  rising = rising-more l.acknowledged (length l.handed_up) q l.back a b h.rising;
 }
 
 keeps-lose-forward : (w : ℕ) (l : Link) (i : ℕ) → Keeps w l
@@ -251,7 +267,15 @@ keeps-move w (Send k) l h = by (may_send_position w k l) refl
         → Keeps w (if b then after_send_position k l else l)
     by true e = keeps-send w k l e h
     by false e = h
-keeps-move w Answer l h = keeps-answer w l h
+keeps-move w (Answer q) l h = by (may_answer q l) refl
+  where
+    by : (b : Bool) → may_answer q l ≡ b
+        → Keeps w (if b then record l { back = l.back ++ q ∷ [] } else l)
+    by true e =
+        let m : (last_count l.acknowledged l.back ≤ q) × (q ≤ length l.handed_up) =
+        grind (arith) in
+        keeps-answer w q l m.0 m.1 h
+    by false e = h
 keeps-move w (LoseForward i) l h = keeps-lose-forward w l i h
 keeps-move w (LoseBack i) l h = keeps-lose-back w l i h
 keeps-move w ForwardComes l h = by l.forward refl

@@ -9,6 +9,7 @@ use Rattle.ddcmp_core.specs.declared.state.State.{State}
 use Rattle.ddcmp_core.specs.declared.state.State.TheVariants.{Halted, IStart, AStart, Running}
 use Rattle.ddcmp_core.specs.declared.state.State.TheVariants.{Maintenance}
 use Rattle.ddcmp_core.specs.Limits.{MAX_WINDOW}
+use Rattle.ddcmp_proto.specs.declared.config.TheConstants.{MAX_INBOX}
 use Rattle.ddcmp_core.specs.Seq.{Seq}
 use Rattle.ddcmp_core.specs.SendRefusal.{SendRefusal}
 use Rattle.ddcmp_core.specs.Store.{first_message}
@@ -19,7 +20,7 @@ use Rattle.ddcmp_core.specs.declared.station_core.StartRefusal.{StartRefusal}
 use Rattle.ddcmp_core.specs.declared.station_core.StartRefusal.TheVariants.{NotHalted, Untaken}
 use Rattle.ddcmp_proto.specs.Config.{first_refusal, is_size}
 use Rattle.ddcmp_proto.specs.declared.config.Config.{Config}
-use Rattle.ddcmp_proto.specs.declared.config.ConfigRefusal.TheVariants.{Window}
+use Rattle.ddcmp_proto.specs.declared.config.ConfigRefusal.TheVariants.{Window, Inbox}
 use Rattle.ddcmp_io.specs.declared.carrier.End.{End}
 use Rattle.ddcmp_io.specs.declared.carrier.End.TheVariants.{A, B}
 use Rattle.ddcmp_pair.specs.declared.event.Event.{Event}
@@ -35,7 +36,7 @@ use Rattle.ddcmp_pair.specs.Run.{started, accepted, wrote, took, line_bytes, run
 use Rattle.ddcmp_pair.specs.Run.{is_clean}
 use Rattle.ddcmp_pair.proofs.Reached.{reached-new, reached-in-order, reached-counts}
 use Rattle.ddcmp_pair.proofs.Places.{place_of-none}
-use Rattle.ddcmp_pair.proofs.Relation.{face, no_wire, not_begun, Fits}
+use Rattle.ddcmp_pair.proofs.Relation.{face, no_wire, not_begun, Fits, Mail}
 use Rattle.ddcmp_pair.proofs.Startups.{starting-nothing}
 use Rattle.ddcmp_pair.proofs.Arrivals.{on_the_way, Related}
 use Rattle.ddcmp_pair.proofs.Linked.{Linked, linked-turned, linked-event, linked-arrival}
@@ -47,6 +48,8 @@ use Rattle.ddcmp_pair.proofs.Runs.{run-append, run-one}
 pub record Holds (p : PairState) : Type 0 where
   pub small : p.a.core.limits.window ≤ 255
   pub small' : p.b.core.limits.window ≤ 255
+  pub room : p.a.core.limits.room ≤ 255
+  pub room' : p.b.core.limits.room ≤ 255
   pub linked : p.honest ≡ true → is_clean p ≡ true → Linked p.a p.b
 
 both : (a b : Bool) → (a && b) ≡ true → (a ≡ true) × (b ≡ true)
@@ -59,18 +62,16 @@ clean-means m n c = let z = both (nat_le m 1) (nat_le n 1) c in (grind (arith, z
 clean-is : (m n : ℕ) → m ≤ 1 → n ≤ 1 → (nat_le m 1 && nat_le n 1) ≡ true
 clean-is m n h g = grind (arith)
 
-limits-stay : (e : Event) (x : EndState)
-    → (after_event_here e x).core.limits.window ≡ x.core.limits.window
+limits-stay : (e : Event) (x : EndState) → (after_event_here e x).core.limits ≡ x.core.limits
 limits-stay e x = by e
   where
-    by : (e : Event) → (after_event_here e x).core.limits.window ≡ x.core.limits.window
+    by : (e : Event) → (after_event_here e x).core.limits ≡ x.core.limits
     by (event.Start e) = refl
     by (event.Halt e) = refl
     by (event.Send e message) = refl
     by (event.Poll e) = refl
     by (event.Arrive e bytes) =
-        ap (λ (l : Limits). l.window)
-        (after_items-limits (items_added x.core.limits.longest x.arrived bytes) x.core)
+        after_items-limits (items_added x.core.limits.longest x.arrived bytes) x.core
     by (event.Expire e) = refl
     by (event.Take e) = refl
     by event.Clear = refl
@@ -80,6 +81,7 @@ limits-stay e x = by e
 -- an end that is halted and has no mail, and whose histories begin
 pub record IsFresh (x : EndState) : Type 0 where
   pub small : x.core.limits.window ≤ 255
+  pub room : x.core.limits.room ≤ 255
   pub halted : x.core.station.state ≡ Halted
   pub inbox : x.core.station.inbox ≡ []
   pub given : x.given ≡ []
@@ -109,6 +111,10 @@ fresh-place x y f g =
     (ap (items x.core.limits.longest) f.arrived ∙ items-nothing x.core.limits.longest)
     ∙ place_of-none y.sent
 
+fresh-mail : (x : EndState) → IsFresh x → Mail (face x)
+fresh-mail x f =
+    record { room = f.room; inbox = (let z = ap length f.inbox in omega (arith, z)) }
+
 fresh-fits : (x y : EndState) → IsFresh x → IsFresh y → Fits (face x) (face y) [] []
 fresh-fits x y f g = record {
   sent = 0;
@@ -127,6 +133,10 @@ fresh-fits x y f g = record {
   stands' = not_begun g.starts g.halted g.given (fresh-up y g);
   wire = no_wire;
   wire' = no_wire;
+  mail = fresh-mail x f;
+  mail' = fresh-mail y g;
+  rising = (let z = f.acknowledged in omega (arith, z));
+  rising' = (let z = g.acknowledged in omega (arith, z));
 }
 
 pub fresh-linked : (x y : EndState) → IsFresh x → IsFresh y → Linked x y
@@ -151,7 +161,13 @@ fresh-linked x y f g = record {
 
 holds-fresh : (p : PairState) → IsFresh p.a → IsFresh p.b → Holds p
 holds-fresh p f g =
-    record { small = f.small; small' = g.small; linked = λ h c. fresh-linked p.a p.b f g }
+    record {
+      small = f.small;
+      small' = g.small;
+      room = f.room;
+      room' = g.room;
+      linked = λ h c. fresh-linked p.a p.b f g;
+    }
 
 -- ---- new pairs, and a line that is cleared
 
@@ -166,9 +182,27 @@ window-small config e = by (is_size MAX_WINDOW config.window) refl e
         refused : is_size MAX_WINDOW config.window ≡ false → first_refusal config ≡ Some Window
         refused s = rw s refl
 
+room-small : (config : Config) → first_refusal config ≡ None → config.inbox ≤ 255
+room-small config e =
+    by (is_size MAX_WINDOW config.window) refl (is_size MAX_INBOX config.inbox) refl e
+  where
+    by : (b : Bool) → is_size MAX_WINDOW config.window ≡ b → (d : Bool)
+        → is_size MAX_INBOX config.inbox ≡ d → first_refusal config ≡ None → config.inbox ≤ 255
+    by b s true z e = grind (arith)
+    by true s false z e = absurd (let y = sym (refused s z) ∙ e in cc)
+      where
+        refused : is_size MAX_WINDOW config.window ≡ true → is_size MAX_INBOX config.inbox ≡ false
+            → first_refusal config ≡ Some Inbox
+        refused s z = rw (s, z) refl
+    by false s false z e = absurd (let y = sym (refused s) ∙ e in cc)
+      where
+        refused : is_size MAX_WINDOW config.window ≡ false → first_refusal config ≡ Some Window
+        refused s = rw s refl
+
 pub fresh-new : (config : Config) → first_refusal config ≡ None → IsFresh (new_end config)
 fresh-new config e = record {
   small = window-small config e;
+  room = room-small config e;
   halted = refl;
   inbox = refl;
   given = refl;
@@ -196,11 +230,12 @@ is-empty [] e = refl
 is-empty (m ∷ inbox) e =
     let z : length (m ∷ inbox) ≡ 0 = eqb-true _ _ e in absurd (omega (arith, z))
 
-pub fresh-cleared : (x : EndState) → x.core.limits.window ≤ 255
+pub fresh-cleared : (x : EndState) → x.core.limits.window ≤ 255 → x.core.limits.room ≤ 255
     → is_halted x.core.station.state ≡ true
     → (length x.core.station.inbox == 0) ≡ true → IsFresh (cleared x)
-fresh-cleared x small h i = record {
+fresh-cleared x small room h i = record {
   small = small;
+  room = room;
   halted = is-halted x.core.station.state h;
   inbox = is-empty x.core.station.inbox i;
   given = refl;
@@ -236,15 +271,17 @@ holds-clear : (o : Option StartRefusal) (p : PairState) → clear_refusal p ≡ 
 holds-clear (Some refusal) p e h = h
 holds-clear None p e h =
     let m = may-clear p e in
-    holds-fresh _ (fresh-cleared p.a h.small m.halted m.inbox)
-    (fresh-cleared p.b h.small' m.halted' m.inbox')
+    holds-fresh _ (fresh-cleared p.a h.small h.room m.halted m.inbox)
+    (fresh-cleared p.b h.small' h.room' m.halted' m.inbox')
 
 -- ---- each event
 
 pub holds-at : (o : Option End) (e : Event) (p : PairState) → Holds p → Holds (after_event_at o e p)
 holds-at (Some A) e p h = record {
-  small = (let s = limits-stay e p.a in let n = h.small in omega (arith, s, n));
+  small = subst (λ (l : Limits). l.window ≤ 255) (sym (limits-stay e p.a)) h.small;
   small' = h.small';
+  room = subst (λ (l : Limits). l.room ≤ 255) (sym (limits-stay e p.a)) h.room;
+  room' = h.room';
   linked = λ honest clean.
       let f = both _ _ honest in
       let c = clean-means _ _ clean in
@@ -253,7 +290,9 @@ holds-at (Some A) e p h = record {
 }
 holds-at (Some B) e p h = record {
   small = h.small;
-  small' = (let s = limits-stay e p.b in let n = h.small' in omega (arith, s, n));
+  small' = subst (λ (l : Limits). l.window ≤ 255) (sym (limits-stay e p.b)) h.small';
+  room = h.room;
+  room' = subst (λ (l : Limits). l.room ≤ 255) (sym (limits-stay e p.b)) h.room';
   linked = λ honest clean.
       let f = both _ _ honest in
       let c = clean-means _ _ clean in
@@ -264,7 +303,7 @@ holds-at (Some B) e p h = record {
 }
 holds-at None e p h = holds-clear (clear_refusal p) p refl h
 
-holds-after : (e : Event) (p : PairState) → Holds p → Holds (after_event e p)
+pub holds-after : (e : Event) (p : PairState) → Holds p → Holds (after_event e p)
 unfolding after_event
 holds-after e p h = holds-at (end_of e) e p h
 
@@ -281,13 +320,17 @@ run-holds p r =
 
 -- ---- what follows of it
 
-pub run-linked : (p : PairState) → IsRun p → p.honest ≡ true → is_clean p ≡ true
+pub holds-linked : (p : PairState) → Holds p → p.honest ≡ true → is_clean p ≡ true
     → IsLink p.a p.b × IsLink p.b p.a
-run-linked p r h c =
-    let f = ((run-holds p r).linked h c).related.fits in (
+holds-linked p r h c =
+    let f = (r.linked h c).related.fits in (
       record { sent = f.sent; forward = f.forward; back = f.back; is_reached = f.reached },
       record { sent = f.sent'; forward = f.forward'; back = f.back'; is_reached = f.reached' },
     )
+
+pub run-linked : (p : PairState) → IsRun p → p.honest ≡ true → is_clean p ≡ true
+    → IsLink p.a p.b × IsLink p.b p.a
+run-linked p r h c = holds-linked p (run-holds p r) h c
 
 pub delivers : (from to : EndState) → IsLink from to → Delivers from to
 delivers from to l =
@@ -296,13 +339,16 @@ delivers from to l =
       acknowledged = (reached-counts _ _ l.is_reached).0;
     }
 
-pub run-in-order : (p : PairState) → IsRun p → IsInOrder p
-run-in-order p r = record {
-  where_clean = λ h c. let linked = run-linked p r h c in record {
+pub holds-in-order : (p : PairState) → Holds p → IsInOrder p
+holds-in-order p r = record {
+  where_clean = λ h c. let linked = holds-linked p r h c in record {
     a_to_b = delivers p.a p.b linked.0;
     b_to_a = delivers p.b p.a linked.1;
   };
 }
+
+pub run-in-order : (p : PairState) → IsRun p → IsInOrder p
+run-in-order p r = holds-in-order p (run-holds p r)
 
 -- ---- more events of a run
 

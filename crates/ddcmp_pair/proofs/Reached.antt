@@ -5,9 +5,10 @@ use Rattle.std.specs.Prelude.{if◌then◌else◌, ◌==◌, slice_index_or}
 use Rattle.ddcmp_pair.specs.Prefix.{IsPrefixOf}
 use Rattle.ddcmp_pair.specs.Link.{Link, Move, Give, Send, Answer, LoseForward, LoseBack}
 use Rattle.ddcmp_pair.specs.Link.{ForwardComes, BackComes, new_link, link_of, may_send_position}
+use Rattle.ddcmp_pair.specs.Link.{last_count, may_answer}
 use Rattle.ddcmp_pair.specs.Link.{message_at, after_move, after_moves}
 pub use Rattle.ddcmp_pair.specs.Link.{IsReached}
-use Rattle.ddcmp_pair.proofs.Links.{Keeps, keeps-run, rising-ends, ahead-ends}
+use Rattle.ddcmp_pair.proofs.Links.{Keeps, keeps-run, rising-ends, rising-last, ahead-ends}
 
 pub reached-keeps : (w : ℕ) (l : Link) → IsReached w l → Keeps w l
 reached-keeps w l r = subst (λ k. Keeps w k) r.leads (keeps-run w r.moves)
@@ -58,9 +59,24 @@ module _ (w : ℕ) (given : List (List ℕ)) (acknowledged sent : ℕ) (up : Lis
       → IsReached w (link_of (given ++ m ∷ []) acknowledged sent up forward back)
   reached-give m r = reached-move w (Give m) _ r
 
+  -- a count no less than the last one
+  pub reached-answer-less : (q : ℕ) → last_count acknowledged back ≤ q → q ≤ length up
+      → IsReached w (link_of given acknowledged sent up forward back)
+      → IsReached w (link_of given acknowledged sent up forward (back ++ q ∷ []))
+  reached-answer-less q a b r =
+      let e : may_answer q (link_of given acknowledged sent up forward back) ≡ true =
+      grind (arith) in
+      reached-to w (Answer q) _ _
+      (ap
+      (λ b. if b then link_of given acknowledged sent up forward (back ++ q ∷ [])
+      else link_of given acknowledged sent up forward back) e) r
+
   pub reached-answer : IsReached w (link_of given acknowledged sent up forward back)
       → IsReached w (link_of given acknowledged sent up forward (back ++ length up ∷ []))
-  reached-answer r = reached-move w Answer _ r
+  reached-answer r =
+      let h = reached-keeps w _ r in
+      reached-answer-less (length up) (rising-last acknowledged (length up) back h.rising)
+      (omega arith) r
 
   pub reached-send : (k : ℕ) → acknowledged < k → k ≤ sent + 1 → k ≤ length given
       → k ≤ acknowledged + w

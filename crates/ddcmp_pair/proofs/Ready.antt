@@ -13,8 +13,8 @@ use Rattle.ddcmp_pair.proofs.Reached.{reached-in-order, reached-counts}
 use Rattle.ddcmp_pair.proofs.Relation.{face, StateFits}
 use Rattle.ddcmp_pair.proofs.Sendings.{awake}
 use Rattle.ddcmp_pair.proofs.Linked.{Linked, linked-turned}
-use Rattle.ddcmp_pair.proofs.Ordered.{run-holds, run-event}
-use Rattle.ddcmp_pair.proofs.Alone.{Alone, BothAlone, alone-run, alone-begun}
+use Rattle.ddcmp_pair.proofs.Ordered.{Holds, holds-after, run-holds, run-event}
+use Rattle.ddcmp_pair.proofs.Alone.{Alone, BothAlone, alone-after, alone-run, alone-begun}
 use Rattle.ddcmp_pair.proofs.Steady.{Shows, IsKept}
 use Rattle.ddcmp_pair.proofs.Rounds.{Recovers}
 use Rattle.ddcmp_pair.proofs.Repairs.{ready-recovers, ready-repaired}
@@ -69,6 +69,26 @@ kept = record {
       (linked-turned p.a p.b ((run-holds p r).linked honest clean)) (run-alone p r).b
       (began-once p.a.starts p.b.starts clean).1 w.b;
 }
+
+-- the same if users choose when their stations acknowledge
+pub record Holding (p : PairState) : Type 0 where
+  pub holds : Holds p
+  pub alone : BothAlone p
+
+holding-kept : IsKept (λ p. Holding p)
+holding-kept = record {
+  event = λ e p h. record { holds = holds-after e p h.holds; alone = alone-after e p h.alone };
+  from_a =
+      λ p h honest clean w. shows-of p.a p.b (h.holds.linked honest clean) h.alone.a
+      (began-once p.a.starts p.b.starts clean).0 w.a;
+  from_b =
+      λ p h honest clean w. shows-of p.b p.a (linked-turned p.a p.b (h.holds.linked honest clean))
+      h.alone.b (began-once p.a.starts p.b.starts clean).1 w.b;
+}
+
+pub holding-repaired : (p : PairState) → Holding p → IsSound p.a.core.limits p.a.core.station
+    → IsSound p.b.core.limits p.b.core.station → is_ready p ≡ true → IsRepaired p
+holding-repaired p h a b e = ready-repaired (λ q. Holding q) holding-kept p h h.alone a b e
 
 pub run-repaired : (p : PairState) → IsRun p → IsSound p.a.core.limits p.a.core.station
     → IsSound p.b.core.limits p.b.core.station → is_ready p ≡ true → IsRepaired p

@@ -117,6 +117,10 @@ fits_back x y fs fs' f = record {
   stands' = f.stands';
   wire = f.wire;
   wire' = f.wire';
+  mail = record { room = f.mail.room; inbox = f.mail.inbox };
+  mail' = f.mail';
+  rising = f.rising;
+  rising' = f.rising';
 }
 
 hear_nak : (x y : Face) (fs fs' : List Frame) (resp : ℕ) {ks qs : List ℕ} (why : Reason)
@@ -197,7 +201,7 @@ state_to : (x y : Face) (fs fs' : List Frame) (p q : State) (due : Bool) (reply 
     }) y fs fs'
 state_to x y fs fs' p q due reply timer e up f h =
     quiet _ y fs fs'
-    (pending_station x y fs fs' [] [] _ x.taken refl
+    (pending_station x y fs fs' [] [] _ x.taken refl (omega arith) (omega arith)
     (λ n t. stands_state x p q n t due reply timer e up f) h)
 
 starting-awake : IStart ≡ Halted → ⊥
@@ -245,6 +249,7 @@ first_data x y fs rest resp num message e zero c =
     (Some (cond (takes_data x.limits x.station num) notice.RunningAndHandedUp notice.Running)) =
     omega (arith, m, told) in
     let h = pending_station x y fs rest c.ks c.qs (after_startup x.station) x.taken refl
+    (omega arith) (omega arith)
     (λ n t. stands_state x AStart Running n t false x.station.reply Off e answering-awake (λ g. tt))
     c.pending in
     subst

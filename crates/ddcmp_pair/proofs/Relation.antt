@@ -1,7 +1,7 @@
 -- Two ends, and the frames in flight between them, are two links.
 use Rattle.std.specs.Prelude.{◌≡◌, ℕ, suc, ◌+◌, ◌%◌, ◌<◌, ◌≤◌, List, [], ◌∷◌, ◌++◌, length, drop}
-use Rattle.std.specs.Prelude.{Some, slice_get}
-use Rattle.std.proofs.Common.{sym, subst}
+use Rattle.std.specs.Prelude.{Some, slice_get, if◌then◌else◌}
+use Rattle.std.proofs.Common.{sym, subst, arith}
 use Rattle.ddcmp_frame.specs.declared.nak.Nak.{Nak as Reason}
 use Rattle.ddcmp_core.specs.declared.state.State.{State}
 use Rattle.ddcmp_core.specs.declared.state.State.TheVariants.{Halted, IStart, AStart, Running}
@@ -10,6 +10,7 @@ use Rattle.ddcmp_core.specs.Table.{Limits, StationState, Frame, Data, Acked, Nak
 use Rattle.ddcmp_core.specs.Table.{Stack}
 use Rattle.ddcmp_pair.specs.Link.{IsReached, link_of}
 use Rattle.ddcmp_pair.specs.Run.{EndState}
+use Rattle.ddcmp_pair.proofs.Links.{Rising, rising-high}
 
 -- What the relation sees of an end.
 pub record Face : Type 0 where
@@ -32,6 +33,15 @@ face x = record {
 
 abbrev pub up : Face → List (List ℕ)
 up x = x.taken ++ x.station.inbox
+
+-- how many messages may be reported acknowledged to the other end
+abbrev pub confirmed : Face → ℕ
+confirmed x = if x.station.by_user then length x.taken else length (up x)
+
+-- the inbox, and the room for it
+pub record Mail (x : Face) : Type 0 where
+  pub room : x.limits.room ≤ 255
+  pub inbox : length x.station.inbox ≤ 255
 
 -- ---- frames in flight
 
@@ -117,6 +127,10 @@ pub record Pending (x y : Face) (fs fs' : List Frame) (ks qs : List ℕ) : Type 
   pub stands' : Stands y sent' next'
   pub wire : Wire x.given fs forward back'
   pub wire' : Wire y.given fs' forward' back
+  pub mail : Mail x
+  pub mail' : Mail y
+  pub rising : Rising x.acknowledged (confirmed y) (qs ++ back)
+  pub rising' : Rising y.acknowledged (confirmed x) back'
 
 -- nothing has come that isn't used
 abbrev pub Fits : Face → Face → List Frame → List Frame → Type 0
@@ -125,10 +139,12 @@ Fits x y fs fs' = Pending x y fs fs' [] []
 -- another station, and messages taken, with the same delivered
 pub pending_station : (x y : Face) (fs fs' : List Frame) (ks qs : List ℕ) (s : StationState)
     (taken : List (List ℕ)) → taken ++ s.inbox ≡ up x
+    → length s.inbox ≤ length x.station.inbox
+    → confirmed x ≤ confirmed (record x { station = s; taken = taken })
     → ((n t : ℕ) → Stands x n t → Stands (record x { station = s; taken = taken }) n t)
     → Pending x y fs fs' ks qs
     → Pending (record x { station = s; taken = taken }) y fs fs' ks qs
-pending_station x y fs fs' ks qs s taken e f h = record {
+pending_station x y fs fs' ks qs s taken e i g f h = record {
   sent = h.sent;
   next = h.next;
   forward = h.forward;
@@ -148,6 +164,10 @@ pending_station x y fs fs' ks qs s taken e f h = record {
   stands' = h.stands';
   wire = h.wire;
   wire' = h.wire';
+  mail = record { room = h.mail.room; inbox = (let m = h.mail.inbox in omega (arith, m, i)) };
+  mail' = h.mail';
+  rising = h.rising;
+  rising' = rising-high y.acknowledged (confirmed x) _ h.back' g h.rising';
 }
 
 pub fits_turned : (x y : Face) (fs fs' : List Frame) → Fits x y fs fs' → Fits y x fs' fs
@@ -168,4 +188,8 @@ fits_turned x y fs fs' h = record {
   stands' = h.stands;
   wire = h.wire';
   wire' = h.wire;
+  mail = h.mail';
+  mail' = h.mail;
+  rising = h.rising';
+  rising' = h.rising;
 }

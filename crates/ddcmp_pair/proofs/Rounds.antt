@@ -32,7 +32,8 @@ use Rattle.ddcmp_pair.proofs.Waking.{wakes_here, resends_there, resends_here, ru
 use Rattle.ddcmp_pair.proofs.Waking.{learnt, resent}
 use Rattle.ddcmp_pair.proofs.Steady.{IsKept, run-keeps, expired-inbox, Settles, Steady}
 use Rattle.ddcmp_pair.proofs.Steady.{steady-turned, steady-shows}
-use Rattle.ddcmp_pair.proofs.Halves.{sound-emptied, timed-inbox, view, view-emptied, steady-ordered}
+use Rattle.ddcmp_core.proofs.Taken.{sound_taken_all, timed_taken_all}
+use Rattle.ddcmp_pair.proofs.Halves.{view, view-emptied, steady-ordered}
 use Rattle.ddcmp_pair.proofs.Halves.{steady-half, steady-crossing}
 use Rattle.ddcmp_pair.proofs.Quiets.{Rests, Quiets, settles-quiet}
 
@@ -245,7 +246,9 @@ module _ (Holds : PairState → Type 0) (k : IsKept Holds) (W : ℕ) where
   expired-here : (p : PairState) → Steady Holds W p → Rests p
       → Expired (view (emptied (after_expire_here p.a)))
   expired-here p h r =
-      subst Expired (sym (view-emptied (after_expire_here p.a)))
+      subst Expired
+      (sym
+      (view-emptied (after_expire_here p.a) (expired-inbox p.a.core.station ∙ h.a.empty)))
       (expired-crossing p h (crossing-rests p h r))
 
   -- ---- a settle begins
@@ -259,8 +262,8 @@ module _ (Holds : PairState → Type 0) (k : IsKept Holds) (W : ℕ) where
 
   settles-mailed : (x : EndState) → Calm x → Settles W (emptied x)
   settles-mailed x h = record {
-    sound = sound-emptied x.core.limits x.core.station h.sound;
-    timed = timed-inbox x.core.station [] h.timed;
+    sound = sound_taken_all x.core.limits x.core.station h.sound;
+    timed = timed_taken_all x.core.station h.timed;
     awake = h.awake;
     empty = refl;
     window = h.window;
@@ -345,7 +348,7 @@ module _ (Holds : PairState → Type 0) (k : IsKept Holds) (W : ℕ) where
   -- an expiry leaves what was delivered
   expired-up : (x : EndState) → (view (emptied (after_expire_here x))).up ≡ (view x).up
   expired-up x =
-      ap (λ (v : View). v.up) (view-emptied (after_expire_here x))
+      ap length (append-nil (x.taken ++ (after_expire x.core.station).inbox))
       ∙ ap (λ l. length (x.taken ++ l)) (expired-inbox x.core.station)
 
   -- ---- after the first round, the second begins

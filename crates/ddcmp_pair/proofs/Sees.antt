@@ -134,7 +134,8 @@ module _ (s : StationState) (w : ℕ) (given : List (List ℕ)) (acked sent next
       within_bytes = omega (arith, c.a_is, c.n_is, c.small, lo, hi, c.sent_given, c.window)
 
 -- what is owed for a message that comes in its order or not, where there is room
-reply_up : (room : ℕ) (i : Incoming) (num : ℕ) (reply : Owed) → nat_lt (length i.inbox) room ≡ true
+pub reply_up : (room : ℕ) (i : Incoming) (num : ℕ) (reply : Owed)
+    → nat_lt (length i.inbox) room ≡ true
     → reply_to_offer (answer_to_offer room i num) reply ≡ cond (num == next_number i.r) Ack reply
 reply_up room i num reply g = by (num == next_number i.r) refl
   where

@@ -1,7 +1,7 @@
 -- What an end sends keeps the links.
 use Rattle.std.proofs.Common.{◌≡◌, ◌≢◌, ℕ, suc, ◌+◌, ◌-◌, ◌%◌, ◌<◌, max, Bool, true, false, cond}
 use Rattle.std.proofs.Common.{List, [], ◌∷◌, ◌++◌, length, drop, Some, refl, sym, ap, ◌∙◌, subst}
-use Rattle.std.proofs.Common.{arith, length-drop, append-nil}
+use Rattle.std.proofs.Common.{arith, length-append, length-drop, append-nil, ◌≤◌}
 use Rattle.std.specs.Prelude.{◌==◌, slice_get, slice_index_or}
 use Rattle.std.proofs.lemmas.List.{get_or-drop}
 use Rattle.ddcmp_core.specs.Numbers.{next_number}
@@ -13,18 +13,21 @@ use Rattle.ddcmp_core.specs.declared.state.Timer.TheVariants.{Fresh}
 use Rattle.ddcmp_core.specs.Frames.{frame_of, header_of, message_of}
 use Rattle.ddcmp_core.specs.Table.{StationState, Frame, Data, Acked, Naked, Rep, Strt, Stack, Next}
 use Rattle.ddcmp_core.specs.Table.{Idle, Sends, before_next, message_at_next, timer_started}
-use Rattle.ddcmp_core.specs.Table.{after_next, next}
+use Rattle.ddcmp_core.specs.Table.{after_next, next, resp_of}
+use Rattle.ddcmp_core.specs.Sequence.{distance}
 use Rattle.ddcmp_core.specs.NextFrame.{SentFor, sends_strt, sends_stack, sends_nak, sends_rep}
 use Rattle.ddcmp_core.specs.NextFrame.{sends_data, sends_ack, sends_maint, halted_idles}
 use Rattle.ddcmp_core.specs.NextFrame.{starting_idles, running_idles, maintenance_idles}
 use Rattle.ddcmp_core.proofs.Sent.{sending}
 use Rattle.ddcmp_pair.specs.Link.{IsReached, link_of}
-use Rattle.ddcmp_pair.proofs.Reached.{reached-answer, reached-send}
+use Rattle.ddcmp_pair.proofs.Links.{Rising, rising-more, rising-last}
+use Rattle.ddcmp_pair.proofs.Reached.{reached-answer-less, reached-send}
 use Rattle.ddcmp_pair.proofs.Wires.{wire-append, get-at}
 use Rattle.ddcmp_pair.proofs.Numbers.{before-is}
 use Rattle.ddcmp_pair.proofs.Relation.{Face, up, Wire, no_wire, wire_data, wire_ack, wire_nak}
 use Rattle.ddcmp_pair.proofs.Relation.{wire_rep, wire_strt, wire_stack, Numbers, Counts, StateFits}
 use Rattle.ddcmp_pair.proofs.Relation.{Stands, not_begun, begun, Fits}
+use Rattle.ddcmp_pair.proofs.Relation.{Mail, confirmed}
 
 -- a frame that is sent, as it is read
 abbrev pub as_read : Frame → Frame
@@ -53,9 +56,10 @@ fits_sends : (x y : Face) (fs fs' new : List Frame) (h : Fits x y fs fs') (due :
     (link_of x.given x.acknowledged sent (up y) (h.forward ++ ks) h.back)
     → IsReached y.limits.window
     (link_of y.given y.acknowledged h.sent' (up x) h.forward' (h.back' ++ qs))
+    → Rising y.acknowledged (confirmed x) (h.back' ++ qs)
     → Stands (sender x due n t reply rep timer) sent next
     → Fits (sender x due n t reply rep timer) y (fs ++ new) fs'
-fits_sends x y fs fs' new h due n t reply rep timer ks qs sent next w r r' s = record {
+fits_sends x y fs fs' new h due n t reply rep timer ks qs sent next w r r' g s = record {
   sent = sent;
   next = next;
   forward = h.forward ++ ks;
@@ -72,6 +76,10 @@ fits_sends x y fs fs' new h due n t reply rep timer ks qs sent next w r r' s = r
   stands' = h.stands';
   wire = wire-append h.wire w;
   wire' = h.wire';
+  mail = record { room = h.mail.room; inbox = h.mail.inbox };
+  mail' = h.mail';
+  rising = h.rising;
+  rising' = g;
 }
 
 stands_sends : (x : Face) (due : Bool) (reply : Owed) (rep : Bool) (timer : Timer) (n t : ℕ)
@@ -93,19 +101,45 @@ fits_plain x y fs fs' new due reply rep timer w h =
     (λ l. IsReached y.limits.window
     (link_of y.given y.acknowledged h.sent' (up x) h.forward' l)) (sym (append-nil h.back'))
     h.reached')
+    (subst (λ l. Rising y.acknowledged (confirmed x) l) (sym (append-nil h.back')) h.rising')
     (stands_sends x due reply rep timer h.sent h.next h.stands)
+
+-- what may be reported was delivered
+confirms-delivered : (x : Face) → confirmed x ≤ length (up x)
+confirms-delivered x = by x.station.by_user
+  where
+    by : (b : Bool) → cond b (length x.taken) (length (up x)) ≤ length (up x)
+    by true = let l = length-append x.taken x.station.inbox in omega (arith, l)
+    by false = omega arith
+
+-- RESP is the number of what may be reported
+resp-is : (x : Face) → Mail x → x.station.r ≡ length (up x) % 256
+    → resp_of x.station ≡ confirmed x % 256
+resp-is x m e = by x.station.by_user
+  where
+    by : (b : Bool)
+        → cond b (distance (length x.station.inbox) x.station.r) x.station.r
+        ≡ cond b (length x.taken) (length (up x)) % 256
+    by true =
+        let l = length-append x.taken x.station.inbox in
+        let i = m.inbox in
+        omega (arith, l, i, e)
+    by false = e
 
 -- a frame that carries a count
 fits_counted : (x y : Face) (fs fs' new : List Frame) (due : Bool) (reply : Owed) (rep : Bool)
-    (timer : Timer) → Wire x.given new [] (length (up x) ∷ [])
+    (timer : Timer) → Wire x.given new [] (confirmed x ∷ [])
     → Fits x y fs fs'
     → Fits (sender x due x.station.n x.station.t reply rep timer) y (fs ++ new) fs'
 fits_counted x y fs fs' new due reply rep timer w h =
-    fits_sends x y fs fs' new h due _ _ reply rep timer [] (length (up x) ∷ []) h.sent h.next w
+    fits_sends x y fs fs' new h due _ _ reply rep timer [] (confirmed x ∷ []) h.sent h.next w
     (subst (λ l. IsReached x.limits.window (link_of x.given x.acknowledged h.sent (up y) l h.back))
     (sym (append-nil h.forward)) h.reached)
-    (reached-answer y.limits.window y.given y.acknowledged h.sent' (up x)
-    h.forward' h.back' h.reached')
+    (reached-answer-less y.limits.window y.given y.acknowledged h.sent' (up x)
+    h.forward' h.back' (confirmed x) (rising-last y.acknowledged (confirmed x) h.back' h.rising')
+    (confirms-delivered x) h.reached')
+    (rising-more y.acknowledged (confirmed x) (confirmed x) h.back'
+    (rising-last y.acknowledged (confirmed x) h.back' h.rising') (omega arith) h.rising')
     (stands_sends x due reply rep timer h.sent h.next h.stands)
 
 -- nothing
@@ -172,7 +206,7 @@ fits_data : (x y : Face) (fs fs' : List Frame) → before_next x.station < lengt
     (cond (x.station.t == next_number x.station.n) x.station.t x.station.n)
     (next_number x.station.t) Quiet x.station.rep
     (timer_started x.station.timer)) y
-    (fs ++ Data x.station.r x.station.t (message_at_next x.station) ∷ []) fs'
+    (fs ++ Data (resp_of x.station) x.station.t (message_at_next x.station) ∷ []) fs'
 fits_data x y fs fs' room started state h c =
     let s = x.station in
     let w = x.limits.window in
@@ -183,16 +217,19 @@ fits_data x y fs fs' room started state h c =
     ap length c.out_is ∙ length-drop x.acknowledged x.given in
     let k : ℕ = x.acknowledged + p in
     let e : suc k ≡ h.next = omega (arith, b, c.t_low) in
-    fits_sends x y fs fs' (Data s.r s.t (slice_index_or s.out p []) ∷ []) h s.due
+    fits_sends x y fs fs' (Data (resp_of s) s.t (slice_index_or s.out p []) ∷ []) h s.due
     (cond (s.t == next_number s.n) s.t s.n) (next_number s.t) Quiet s.rep
-    (timer_started s.timer) (suc k ∷ []) (u ∷ []) (max h.sent (suc k)) (h.next + 1)
-    (wire_data {k = k} c.r_is (c.t_is ∙ ap (λ n. n % 256) (sym e))
+    (timer_started s.timer) (suc k ∷ []) (confirmed x ∷ []) (max h.sent (suc k)) (h.next + 1)
+    (wire_data {k = k} (resp-is x h.mail c.r_is) (c.t_is ∙ ap (λ n. n % 256) (sym e))
     (at_drop x.given s.out x.acknowledged p k c.out_is refl room) no_wire)
     (reached-send w x.given x.acknowledged h.sent (up y) h.forward h.back (suc k) (omega arith)
     (omega (arith, c.t_high, e)) (omega (arith, o, room))
     (omega (arith, o, room, c.window)) h.reached)
-    (reached-answer y.limits.window y.given y.acknowledged h.sent' (up x)
-    h.forward' h.back' h.reached')
+    (reached-answer-less y.limits.window y.given y.acknowledged h.sent' (up x)
+    h.forward' h.back' (confirmed x) (rising-last y.acknowledged (confirmed x) h.back' h.rising')
+    (confirms-delivered x) h.reached')
+    (rising-more y.acknowledged (confirmed x) (confirmed x) h.back'
+    (rising-last y.acknowledged (confirmed x) h.back' h.rising') (omega arith) h.rising')
     (begun started
     (subst
     (λ n. Numbers s.a (cond (s.t == next_number s.n) s.t s.n) (next_number s.t)
@@ -224,8 +261,9 @@ fits_next x y fs fs' _ (sends_stack p d) h =
     (wire_stack no_wire) h
 fits_next x y fs fs' _ (sends_nak why p r) h =
     let b = awake x h.sent h.next (is-awake x p) h.stands in
-    fits_counted x y fs fs' (as_read (Naked why x.station.r) ∷ [])
-    x.station.due Quiet x.station.rep x.station.timer (wire_nak b.counts.r_is no_wire) h
+    fits_counted x y fs fs' (as_read (Naked why (resp_of x.station)) ∷ [])
+    x.station.due Quiet x.station.rep x.station.timer (wire_nak
+    (resp-is x h.mail b.counts.r_is) no_wire) h
 fits_next x y fs fs' _ (sends_rep p n r) h =
     fits_plain x y fs fs' (Rep x.station.n ∷ []) x.station.due x.station.reply false Fresh
     (wire_rep no_wire) h
@@ -234,8 +272,9 @@ fits_next x y fs fs' _ (sends_data p n r room) h =
     fits_data x y fs fs' room b.started b.state h b.counts
 fits_next x y fs fs' _ (sends_ack p r n room) h =
     let b = awake x h.sent h.next (is-awake x p) h.stands in
-    fits_counted x y fs fs' (Acked x.station.r ∷ [])
-    x.station.due Quiet x.station.rep x.station.timer (wire_ack b.counts.r_is no_wire) h
+    fits_counted x y fs fs' (Acked (resp_of x.station) ∷ [])
+    x.station.due Quiet x.station.rep x.station.timer (wire_ack
+    (resp-is x h.mail b.counts.r_is) no_wire) h
 fits_next x y fs fs' _ (sends_maint message rest p o) h =
     let b = awake x h.sent h.next (λ q. let z = sym p ∙ q in cc) h.stands in
     let never : StateFits Maintenance x.given = subst (λ s. StateFits s x.given) p b.state in

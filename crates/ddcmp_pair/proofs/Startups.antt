@@ -4,7 +4,8 @@ use Rattle.std.proofs.Common.{◌∙◌, subst, arith, append-nil}
 use Rattle.ddcmp_core.specs.declared.state.State.{State}
 use Rattle.ddcmp_core.specs.declared.state.State.TheVariants.{Halted, IStart, AStart, Running}
 use Rattle.ddcmp_core.specs.declared.state.State.TheVariants.{Maintenance}
-use Rattle.ddcmp_core.specs.Table.{Limits, StationState, Frame, Data, Acked, Naked, Rep, Strt}
+use Rattle.ddcmp_core.specs.Table.{resp_of, Limits, StationState, Frame, Data, Acked, Naked, Rep}
+use Rattle.ddcmp_core.specs.Table.{Strt}
 use Rattle.ddcmp_core.specs.Table.{Stack, Maint, Received, Good, Next, on, after_start, next}
 use Rattle.ddcmp_core.specs.NextFrame.{SentFor, sends_strt, sends_stack, sends_nak, sends_rep}
 use Rattle.ddcmp_core.specs.NextFrame.{sends_data, sends_ack, sends_maint, halted_idles}
@@ -176,14 +177,16 @@ starting-next y x fs _ (sends_strt p d) off h =
 starting-next y x fs _ (sends_stack p d) off h =
     starting-running y x fs Stack _ AStart refl p (λ q. cc) (λ q. cc) refl off h
 starting-next y x fs _ (sends_nak why p r) off h =
-    starting-running y x fs (as_read (Naked why y.station.r)) _ Running refl p (λ q. cc) (λ q. cc)
+    starting-running y x fs (as_read (Naked why (resp_of y.station))) _ Running refl p (λ q. cc)
+    (λ q. cc)
     refl off h
 starting-next y x fs _ (sends_rep p n r) off h =
     starting-running y x fs (Rep y.station.n) _ Running refl p (λ q. cc) (λ q. cc) refl off h
 starting-next y x fs _ (sends_data p n r room) off h =
     starting-running y x fs _ _ Running refl p (λ q. cc) (λ q. cc) refl off h
 starting-next y x fs _ (sends_ack p r n room) off h =
-    starting-running y x fs (Acked y.station.r) _ Running refl p (λ q. cc) (λ q. cc) refl off h
+    starting-running y x fs (Acked (resp_of y.station)) _ Running refl p (λ q. cc)
+    (λ q. cc) refl off h
 starting-next y x fs _ (sends_maint m rest p o) off h =
     starting-running y x fs (Maint m) _ Maintenance refl p (λ q. cc) (λ q. cc) refl off h
 starting-next y x fs _ (halted_idles p) off h = idle y x fs h

@@ -1,3 +1,4 @@
+pub mod Choices
 pub mod InOrder
 pub mod Inside
 pub mod Link

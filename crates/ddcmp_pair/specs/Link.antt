@@ -29,14 +29,14 @@ link_of given acknowledged sent handed_up forward back = record {
 abbrev pub new_link : Link
 new_link = link_of [] 0 0 [] [] []
 
--- What happens on a link, in any order: a message is accepted; a position is sent; the count of
--- messages delivered is sent back; the position or the count at some index in flight, counted from
--- 0, is lost; the first position or the first count arrives. A message without room, or one that
--- arrives before its end runs, counts as lost.
+-- What happens on a link, in any order: a message is accepted; a position is sent; a count of
+-- messages, at most that of all delivered, is sent back; the position or the count at some index in
+-- flight, counted from 0, is lost; the first position or the first count arrives. A message without
+-- room, or one that arrives before its end runs, counts as lost.
 pub data Move : Type 0 where
   Give : List ℕ → Move
   Send : ℕ → Move
-  Answer : Move
+  Answer : ℕ → Move
   LoseForward : ℕ → Move
   LoseBack : ℕ → Move
   ForwardComes : Move
@@ -72,12 +72,22 @@ abbrev pub after_back_comes : List ℕ → Link → Link
 after_back_comes [] l = l
 after_back_comes (q ∷ later) l = record l { acknowledged = max l.acknowledged q; back = later }
 
+-- the last of the counts in flight, or else the one that was acknowledged
+unfoldable pub last_count : ℕ → List ℕ → ℕ
+last_count low [] = low
+last_count low (q ∷ qs) = last_count q qs
+
+-- A count may be sent back if it is no less than the last one, and no more than are delivered.
+abbrev pub may_answer : ℕ → Link → Bool
+may_answer q l = nat_le (last_count l.acknowledged l.back) q && nat_le q (length l.handed_up)
+
 -- A link after a move. A position that may not be sent is ignored.
 abbrev pub after_move : ℕ → Move → Link → Link
 after_move window (Give message) l = record l { given = l.given ++ message ∷ [] }
 after_move window (Send k) l =
     if may_send_position window k l then after_send_position k l else l
-after_move window Answer l = record l { back = l.back ++ length l.handed_up ∷ [] }
+after_move window (Answer q) l =
+    if may_answer q l then record l { back = l.back ++ q ∷ [] } else l
 after_move window (LoseForward i) l = record l { forward = remove l.forward i }
 after_move window (LoseBack i) l = record l { back = remove l.back i }
 after_move window ForwardComes l = after_forward_comes l.forward l

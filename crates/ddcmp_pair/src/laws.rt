@@ -10,6 +10,7 @@ ghost use Rattle.ddcmp_io.specs.declared.carrier.End.{End as EndValue};
 ghost use Rattle.ddcmp_pair.specs.Run.{PairState, at, after_event, reply_to, run, new_pair};
 ghost use Rattle.ddcmp_pair.specs.Run.{is_clean};
 ghost use Rattle.ddcmp_pair.specs.InOrder.{IsInOrder, IsLink, NoRestart};
+ghost use Rattle.ddcmp_pair.specs.Choices.{Act, run_acts, IsAcknowledgedTaken};
 ghost use Rattle.ddcmp_proto.specs.Config.{first_refusal};
 ghost use Rattle.ddcmp_proto.specs.declared.config.Config.{Config as ConfigValue};
 ghost use Rattle.ddcmp_core.specs.Core.{IsSound};
@@ -38,6 +39,35 @@ pub fn in_order()
         → is_clean (run events (new_pair first second)) ≡ true
         → (after_event e (run events (new_pair first second))).honest ≡ true
         → NoRestart (reply_to e (run events (new_pair first second))) }
+{}
+
+/// The main law, and recovery, if users choose when their stations acknowledge. If the station at
+/// an end acknowledges messages when they are taken, no more are reported acknowledged to the other
+/// end than were taken: what was reported acknowledged, its user has.
+pub fn acknowledges_what_was_taken()
+    ensures order { (first second : ConfigValue) (acts : List Act)
+        → first_refusal first ≡ None → first_refusal second ≡ None
+        → IsInOrder (run_acts acts (new_pair first second)) }
+    ensures links { (first second : ConfigValue) (acts : List Act)
+        → first_refusal first ≡ None → first_refusal second ≡ None
+        → (run_acts acts (new_pair first second)).honest ≡ true
+        → is_clean (run_acts acts (new_pair first second)) ≡ true
+        → IsLink (run_acts acts (new_pair first second)).a (run_acts acts (new_pair first second)).b
+        × IsLink (run_acts acts (new_pair first second)).b
+        (run_acts acts (new_pair first second)).a }
+    ensures taken { (first second : ConfigValue) (acts : List Act)
+        → first_refusal first ≡ None → first_refusal second ≡ None
+        → (run_acts acts (new_pair first second)).honest ≡ true
+        → is_clean (run_acts acts (new_pair first second)) ≡ true
+        → IsAcknowledgedTaken (run_acts acts (new_pair first second)).a
+        (run_acts acts (new_pair first second)).b
+        × IsAcknowledgedTaken (run_acts acts (new_pair first second)).b
+        (run_acts acts (new_pair first second)).a }
+    ensures repaired { (first second : ConfigValue) (acts : List Act) (p : PairState)
+        → first_refusal first ≡ None → first_refusal second ≡ None
+        → run_acts acts (new_pair first second) ≡ p
+        → IsSound p.a.core.limits p.a.core.station → IsSound p.b.core.limits p.b.core.station
+        → is_ready p ≡ true → IsRepaired p }
 {}
 
 /// Recovery. For two new stations of any sizes in range, after every list of events: if the pair is
@@ -73,12 +103,14 @@ pub fn place_is_of_a_subsequence()
 {}
 
 /// A list of events does the same as its parts, one after another, and no event changes the limits
-/// of an end.
+/// of an end, or when its station acknowledges.
 pub fn runs()
     ensures parts { (first second : List EventValue) (p : PairState)
         → run (first ++ second) p ≡ run second (run first p) }
     ensures limits { (events : List EventValue) (p : PairState) (end : EndValue)
         → (at end (run events p)).core.limits ≡ (at end p).core.limits }
+    ensures modes { (events : List EventValue) (p : PairState) (end : EndValue)
+        → (at end (run events p)).core.station.by_user ≡ (at end p).core.station.by_user }
 {}
 
 /// In every run of one direction of a link, whatever is lost and whatever the window, the messages

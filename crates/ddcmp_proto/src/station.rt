@@ -147,7 +147,8 @@ impl Station {
     ghost use Rattle.ddcmp_frame.specs.Reading.{open_at_end, kept_at_end};
     ghost use Rattle.ddcmp_window.specs.Store.{first_message, with_front};
     ghost use Rattle.ddcmp_core.specs.Table.{may_start, answer_to_start, after_start};
-    ghost use Rattle.ddcmp_core.specs.Table.{after_enter_maintenance, after_halt};
+    ghost use Rattle.ddcmp_core.specs.Table.{after_enter_maintenance, after_halt, chosen};
+    ghost use Rattle.ddcmp_core.specs.Table.{answer_to_choose};
     ghost use Rattle.ddcmp_core.specs.Table.{send_refusal as send_refusal_of, answer_to_send};
     ghost use Rattle.ddcmp_core.specs.Table.{may_send, after_accept, answer_to_send_maintenance};
     ghost use Rattle.ddcmp_core.specs.Table.{may_send_maintenance, after_take, after_expire, is_on};
@@ -186,6 +187,19 @@ impl Station {
         ensures refused { OnErr result (self.new ≡ self.old) }
     {
         self.core.enter_maintenance()
+    }
+
+    /// Chooses when messages are acknowledged, if the station is halted and its inbox empty: when
+    /// they are taken, or when they are received. It stays so over starts. A new station
+    /// acknowledges what it receives.
+    pub fn acknowledge_on_take(&mut self, by_user: bool) -> Result<(), StartRefusal>
+        ensures state { self.new ≡ record self.old {
+          core = record self.old.core { station = chosen by_user self.old.core.station };
+        } }
+        ensures answer { result ≡ answer_to_choose self.old.core.station }
+        ensures refused { OnErr result (self.new ≡ self.old) }
+    {
+        self.core.acknowledge_on_take(by_user)
     }
 
     /// Halts: the station sends and accepts nothing more. Numbers and messages stay.

@@ -1,8 +1,11 @@
 -- A received message that was taken.
 use Rattle.std.proofs.Common.{◌≡◌, ap, sym, ◌∙◌, ℕ, List, ◌++◌, length, take, drop, Option}
-use Rattle.std.proofs.Common.{Some, None, option_map, [], ◌∷◌, refl, ◌≤◌, arith}
+use Rattle.std.proofs.Common.{Some, None, option_map, [], ◌∷◌, refl, ◌≤◌, arith, cond}
+use Rattle.std.specs.Prelude.{◌&&◌}
 use Rattle.std.proofs.Math.Seq.{take-append_seam}
 use Rattle.ddcmp_station.specs.Linking.{LinkView, after_taking, totals_after_take, with_state}
+use Rattle.ddcmp_core.specs.Table.{is_running, owed_after_take}
+use Rattle.ddcmp_core.proofs.Taken.{none_owed}
 use Rattle.ddcmp_window.specs.Store.{with_front, first_message}
 use Rattle.ddcmp_streams.specs.declared.messages.MessageForm.{MessageForm}
 use Rattle.ddcmp_io.specs.Queue.{QueueView}
@@ -56,7 +59,12 @@ empty (message ∷ rest) e = cc
 pub takes-nothing : (d : LinkView)
     → None ≡ option_map length (first_message d.station.core.station.inbox) → after_taking d ≡ d
 takes-nothing d none =
-    let e = empty d.station.core.station.inbox none in
-    ap (λ m. record (with_state (record d.station.core.station { inbox = drop 1 m }) d) {
-      totals = totals_after_take m d.totals;
-    }) e ∙ ap (λ m. with_state (record d.station.core.station { inbox = m }) d) (sym e)
+    let s = d.station.core.station in
+    let e = empty s.inbox none in
+    let left : drop 1 s.inbox ≡ s.inbox = ap (drop 1) e ∙ sym e in
+    let owed = none_owed (s.by_user && is_running s.state) s.inbox e in
+    let totals = ap (λ (m : List (List ℕ)). totals_after_take m d.totals) e in
+    λ i. record (with_state (record s {
+      inbox = left i;
+      reply = cond (owed i) (owed_after_take s.reply) s.reply;
+    }) d) { totals = totals i }

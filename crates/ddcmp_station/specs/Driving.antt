@@ -13,7 +13,7 @@ use Rattle.ddcmp_io.specs.declared.device.Got.TheVariants.{Bytes, Idle, Failed}
 use Rattle.ddcmp_core.specs.declared.state.Timer.{Timer}
 use Rattle.ddcmp_core.specs.declared.state.Timer.TheVariants.{Off, Fresh, On}
 use Rattle.ddcmp_core.specs.Table.{Frame, after_halt, may_send, after_accept, after_expire}
-use Rattle.ddcmp_core.specs.Table.{after_take_arm, is_on, next, next_frame}
+use Rattle.ddcmp_core.specs.Table.{after_take_all, after_take_arm, is_on, next, next_frame}
 use Rattle.ddcmp_core.specs.Counting.{counters_after_expire}
 use Rattle.ddcmp_core.specs.Core.{CoreView}
 use Rattle.ddcmp_station.specs.declared.driver.Driven.{Driven}
@@ -95,7 +95,7 @@ frame_bytes syn (Some f) = frame_on_line syn f
 
 -- all received messages are passed to the user
 abbrev pub core_after_mail : CoreView → CoreView
-core_after_mail k = record k { station = record k.station { inbox = [] } }
+core_after_mail k = record k { station = after_take_all k.station }
 
 abbrev pub core_after_halt : CoreView → CoreView
 core_after_halt k = record k { station = after_halt k.station }

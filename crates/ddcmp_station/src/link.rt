@@ -69,7 +69,7 @@ impl Link {
     ghost use Rattle.std.specs.Prelude.{Err, option_map};
     ghost use Rattle.ddcmp_frame.specs.Reader.{StandsFor};
     ghost use Rattle.ddcmp_window.specs.Store.{first_message, with_front};
-    ghost use Rattle.ddcmp_core.specs.Table.{after_halt, answer_to_start};
+    ghost use Rattle.ddcmp_core.specs.Table.{after_halt, answer_to_start, chosen, answer_to_choose};
     ghost use Rattle.ddcmp_proto.specs.Config.{first_refusal, config_of};
     ghost use Rattle.ddcmp_station.specs.Linking.{link_made, with_state, started, anew, after_wake};
     ghost use Rattle.ddcmp_station.specs.Linking.{wakes_at, takes_message, after_offered};
@@ -120,6 +120,17 @@ impl Link {
         ensures answer { result ≡ answer_to_start self.old.station.core.station }
     {
         self.station.start()
+    }
+
+    /// Chooses when messages are acknowledged, if the station is halted and its inbox empty: when
+    /// they are taken, or when they are received. It stays so over starts. A new link acknowledges
+    /// what it receives.
+    pub fn acknowledge_on_take(&mut self, by_user: bool) -> Result<(), StartRefusal>
+        ensures state { self.new ≡ with_state (chosen by_user self.old.station.core.station)
+            self.old }
+        ensures answer { result ≡ answer_to_choose self.old.station.core.station }
+    {
+        self.station.acknowledge_on_take(by_user)
     }
 
     /// Halts the station: it sends and accepts nothing more. Bytes pending for the line stay.

@@ -5,7 +5,8 @@ use Rattle.ddcmp_core.specs.declared.state.Owed.TheVariants.{Quiet}
 use Rattle.ddcmp_core.specs.declared.state.Timer.TheVariants.{Fresh}
 use Rattle.ddcmp_core.specs.declared.station_core.sender.Sending.{Sending}
 use Rattle.ddcmp_core.specs.declared.station_core.sender.Sending.TheVariants as sending
-use Rattle.ddcmp_core.specs.Table.{StationState, Data, Acked, Naked, Rep, Strt, Stack, Maint, Next}
+use Rattle.ddcmp_core.specs.Table.{StationState, resp_of, Data, Acked, Naked, Rep, Strt, Stack}
+use Rattle.ddcmp_core.specs.Table.{Maint, Next}
 use Rattle.ddcmp_core.specs.Table.{Idle, Sends, before_next, message_at_next, after_data}
 use Rattle.ddcmp_core.specs.Core.{is_sent_reason}
 
@@ -14,11 +15,11 @@ abbrev pub next_of : Sending → StationState → Next
 next_of sending.Nothing s = Idle
 next_of sending.Strt s = Sends Strt (record s { due = false; timer = Fresh })
 next_of sending.Stack s = Sends Stack (record s { due = false; timer = Fresh })
-next_of (sending.Nak why) s = Sends (Naked why s.r) (record s { reply = Quiet })
+next_of (sending.Nak why) s = Sends (Naked why (resp_of s)) (record s { reply = Quiet })
 next_of sending.Rep s = Sends (Rep s.n) (record s { rep = false; timer = Fresh })
 next_of (sending.Data number bytes) s =
-    Sends (Data s.r s.t (message_at_next s)) (after_data s)
-next_of sending.Ack s = Sends (Acked s.r) (record s { reply = Quiet })
+    Sends (Data (resp_of s) s.t (message_at_next s)) (after_data s)
+next_of sending.Ack s = Sends (Acked (resp_of s)) (record s { reply = Quiet })
 next_of (sending.Maint bytes) s =
     Sends (Maint (slice_index_or s.out 0 [])) (record s { out = drop 1 s.out })
 

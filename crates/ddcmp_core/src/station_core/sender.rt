@@ -76,6 +76,7 @@ impl<S: Store> Core<S> {
     ghost use Rattle.std.specs.Prelude.{◌≡◌, ◌≤◌, length, option_map};
     ghost use Rattle.ddcmp_window.specs.Store.{with_front};
     ghost use Rattle.ddcmp_core.specs.Table.{next, next_running, next_frame, after_next};
+    ghost use Rattle.ddcmp_core.specs.Table.{resp_of};
     ghost use Rattle.ddcmp_core.specs.Inside.NextSending.{next_of, FitsSending};
     ghost use Rattle.ddcmp_core.specs.Frames.{header_of, message_of, data_length};
     ghost use Rattle.ddcmp_core.specs.Frames.{header_and_length};
@@ -153,7 +154,7 @@ impl<S: Store> Core<S> {
             ≡ option_map header_of (next_frame (next_of sending self.now.station)) }
         ensures sound { IsSound self.now.limits self.now.station }
     {
-        let r = self.inbox.last().0;
+        let r = self.resp();
         let n = self.sender.last_sent().0;
         match sending {
             Sending::Nothing => None,
@@ -164,6 +165,17 @@ impl<S: Store> Core<S> {
             Sending::Data(number, length) => Some(data(length, r, number.0)),
             Sending::Ack => Some(control(ControlType::Ack, 0, NO_FLAGS, r, 0)),
             Sending::Maint(length) => Some(maintenance(length)),
+        }
+    }
+
+    /// Returns RESP of the frames that are sent.
+    fn resp(&self) -> u8
+        ensures { result ≡ resp_of self.now.station }
+    {
+        if self.by_user {
+            Seq::distance(Seq(self.inbox.len()), self.inbox.last())
+        } else {
+            self.inbox.last().0
         }
     }
 

@@ -35,6 +35,7 @@ pub enum Frame {
 pub enum Row {
     Start(Result<u8, StartRefusal>),
     EnterMaintenance(Result<u8, StartRefusal>),
+    AcknowledgeOnTake(bool, Result<(), StartRefusal>),
     Halt,
     Send(&'static [u8], Result<Seq, SendRefusal>),
     SendMaintenance(&'static [u8], Result<(), SendRefusal>),
@@ -287,6 +288,9 @@ impl Bench {
         match row {
             Row::Start(answer) => self.starts() == answer,
             Row::EnterMaintenance(answer) => self.enters_maintenance() == answer,
+            Row::AcknowledgeOnTake(on_take, answer) => {
+                self.core.acknowledge_on_take(on_take) == answer
+            }
             Row::Halt => {
                 self.halts();
                 true

@@ -173,6 +173,42 @@ const UNTAKEN: &[Row] = &[
     Row::Room(true),
 ];
 
+/// No frame acknowledges a message that wasn't taken, also after another start.
+const ON_TAKE: &[Row] = &[
+    Row::AcknowledgeOnTake(true, Ok(())),
+    Row::Start(Ok(0)),
+    Row::AcknowledgeOnTake(false, Err(StartRefusal::NotHalted)),
+    Row::Next(Some(Frame::Strt)),
+    Row::Receive(Frame::Stack, Some(Notice::Running)),
+    Row::Receive(Frame::Data(1, 0), HANDED_UP),
+    Row::Receive(Frame::Data(2, 0), HANDED_UP),
+    Row::Next(Some(Frame::Ack(0))),
+    Row::ReceiveDamage,
+    Row::Next(Some(Frame::Nak(1, 0))),
+    Row::Receive(Frame::Rep(2), None),
+    Row::Next(Some(Frame::Ack(0))),
+    Row::WaitingAt(0, 1),
+    Row::Next(None),
+    Row::Take(Some(1)),
+    Row::Next(Some(Frame::Ack(1))),
+    Row::Send(b"a", Ok(Seq(1))),
+    Row::Next(Some(Frame::Data(1, 1))),
+    Row::Take(Some(1)),
+    Row::Next(Some(Frame::Ack(2))),
+    Row::Take(None),
+    Row::Next(None),
+    Row::Halt,
+    Row::Start(Ok(1)),
+    Row::Next(Some(Frame::Strt)),
+    Row::Receive(Frame::Stack, Some(Notice::Running)),
+    Row::Receive(Frame::Data(1, 0), HANDED_UP),
+    Row::Next(Some(Frame::Ack(0))),
+    Row::Halt,
+    Row::AcknowledgeOnTake(false, Err(StartRefusal::Untaken)),
+    Row::Take(Some(1)),
+    Row::AcknowledgeOnTake(false, Ok(())),
+];
+
 fn startup() -> &'static [Row] {
     STARTUP
 }
@@ -221,6 +257,10 @@ fn untaken() -> &'static [Row] {
     UNTAKEN
 }
 
+fn on_take() -> &'static [Row] {
+    ON_TAKE
+}
+
 /// Returns a core with this window and restart option, after each of these parts in turn.
 fn bench_of(
     rt: &(impl Abort + AllocGlobal),
@@ -234,6 +274,12 @@ fn bench_of(
         bench.plays(rt, rows);
     }
     Ok(bench)
+}
+
+#[test]
+fn acknowledges_on_take(rt: HostRuntime) -> Result<(), Fail> {
+    let _bench = bench_of(&rt, 7, false, &[on_take()])?;
+    Ok(())
 }
 
 #[test]

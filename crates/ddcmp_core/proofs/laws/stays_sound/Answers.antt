@@ -1,7 +1,7 @@
 use Rattle.ddcmp_core.proofs.Sound.{sound_new, sound_on, sound_next, sound_started}
 use Rattle.ddcmp_core.proofs.Sound.{sound_in_maintenance, sound_halted, sound_accepted}
 use Rattle.ddcmp_core.proofs.Sound.{sound_accepted_maintenance, sound_taken, sound_expired}
-use Rattle.ddcmp_core.proofs.Sound.{sound_armed}
+use Rattle.ddcmp_core.proofs.Sound.{sound_armed, sound_chosen}
 use Rattle.ddcmp_core.proofs.laws.stays_sound.Goals as goal
 
 pub returns-clause-new : goal.returns-clause-new
@@ -36,3 +36,6 @@ returns-clause-expires c = sound_expired
 
 pub returns-clause-arms : goal.returns-clause-arms
 returns-clause-arms c = sound_armed
+
+pub returns-clause-chooses : goal.returns-clause-chooses
+returns-clause-chooses c = sound_chosen

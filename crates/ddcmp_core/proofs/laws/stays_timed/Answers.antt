@@ -1,6 +1,6 @@
 use Rattle.ddcmp_core.proofs.TimedLaws.{timed_new, timed_on, timed_next, timed_started}
 use Rattle.ddcmp_core.proofs.TimedLaws.{timed_in_maintenance, timed_halted, timed_accepted}
-use Rattle.ddcmp_core.proofs.TimedLaws.{timed_taken, timed_expired, timed_armed}
+use Rattle.ddcmp_core.proofs.TimedLaws.{timed_taken, timed_expired, timed_armed, timed_chosen}
 use Rattle.ddcmp_core.proofs.laws.stays_timed.Goals as goal
 
 pub returns-clause-new : goal.returns-clause-new
@@ -32,3 +32,6 @@ returns-clause-expires c = timed_expired
 
 pub returns-clause-arms : goal.returns-clause-arms
 returns-clause-arms c = timed_armed
+
+pub returns-clause-chooses : goal.returns-clause-chooses
+returns-clause-chooses c = timed_chosen

@@ -16,7 +16,7 @@ use Rattle.ddcmp_pair.specs.declared.event.Event.TheVariants as event
 use Rattle.ddcmp_pair.specs.Place.{first_index, place_from}
 use Rattle.ddcmp_pair.specs.Recovery.{both_expire, larger_window}
 use Rattle.ddcmp_pair.specs.Run.{run, after_event, new_pair}
-use Rattle.ddcmp_laws.specs.LossFree.{Line, IsLossFree, run_on_line, IsWhole, empty_line}
+use Rattle.ddcmp_laws.specs.LossFree.{Line, IsLossFree, run_on_line, IsWhole, empty_line, IsEarly}
 use Rattle.ddcmp_laws.specs.Price.{price, added}
 use Rattle.ddcmp_laws.specs.Delivers.{IsAtRest, runs_out}
 use Rattle.ddcmp_laws.specs.Sweeps.{OnlyCarries, bytes_brought, is_asked, IsSweep, AreSweeps}
@@ -36,7 +36,7 @@ use Rattle.ddcmp_laws.proofs.Settling.{whole_again, nothing_comes}
 use Rattle.ddcmp_laws.proofs.SweepRounds.{run-pair}
 use Rattle.ddcmp_laws.proofs.Ways.{Receivable}
 use Rattle.ddcmp_laws.proofs.InStep.{loss-append}
-use Rattle.ddcmp_laws.proofs.Sweeping.{rest-stays}
+use Rattle.ddcmp_laws.proofs.Sweeping.{rest-stays, early-along}
 use Rattle.ddcmp_laws.proofs.sweeps.a_lost_message_arrives.Goals as goal
 
 -- ---- sweeps in which nothing happens
@@ -61,10 +61,13 @@ is-quiet : (l : Line) → IsAtRest l → IsSweep quiet l
 unfolding bytes_brought is_asked
 is-quiet l r = sweep-by quiet l tt (ap length r.none_to_a) (ap length r.none_to_b) refl refl
 
-quiet-sweeps : (n : ℕ) (l : Line) → IsAtRest l → AreSweeps (replicate n quiet) l
-quiet-sweeps zero l r = tt
-quiet-sweeps (suc n) l r =
-    (is-quiet l r, quiet-sweeps n (run_on_line quiet l) (rest-stays quiet l tt (tt, (tt, tt)) r))
+quiet-sweeps : (n : ℕ) (l : Line) → IsEarly l.pair → IsAtRest l → AreSweeps (replicate n quiet) l
+quiet-sweeps zero l h r = tt
+quiet-sweeps (suc n) l h r = (
+  is-quiet l r,
+  quiet-sweeps n (run_on_line quiet l) (early-along quiet l h)
+      (rest-stays quiet l tt (tt, (tt, tt)) h r),
+)
 
 -- ---- the story
 
@@ -136,9 +139,16 @@ unfolding low_bits bits add divisor_rest remainder number check_of xor six_bytes
     after_event run_on_line in_a_row waking w1 w2 w3
 both-rest = record { none_to_a = refl; none_to_b = refl; idle_a = refl; idle_b = refl }
 
+both-early : IsEarly w3.pair
+unfolding low_bits bits add divisor_rest remainder number check_of xor six_bytes wire is_check_right
+    parsed read_for read_rows is_data_right row read items good_frames_in on notice_of next
+    counters_on counters_after_next after_items notices_of_items first_index place_from run
+    after_event run_on_line in_a_row waking w1 w2 w3
+both-early = record { a = refl; b = refl }
+
 both-each : AreSweeps then_both_run waking
 unfolding w1 w2 w3
-both-each = (b1, (b2, (b3, quiet-sweeps 11 w3 both-rest)))
+both-each = (b1, (b2, (b3, quiet-sweeps 11 w3 both-early both-rest)))
 
 both-count : price (larger_window waking.pair) waking
     + added (larger_window waking.pair) (in_a_row then_both_run) waking.pair ≡ 6
@@ -225,9 +235,16 @@ unfolding low_bits bits add divisor_rest remainder number check_of xor six_bytes
     after_event run_on_line in_a_row waking-again v1 v2 v3 v4 v5
 last-rest = record { none_to_a = refl; none_to_b = refl; idle_a = refl; idle_b = refl }
 
+last-early : IsEarly v5.pair
+unfolding low_bits bits add divisor_rest remainder number check_of xor six_bytes wire is_check_right
+    parsed read_for read_rows is_data_right row read items good_frames_in on notice_of next
+    counters_on counters_after_next after_items notices_of_items first_index place_from run
+    after_event run_on_line in_a_row waking-again v1 v2 v3 v4 v5
+last-early = record { a = refl; b = refl }
+
 last-each : AreSweeps then_it_arrives waking-again
 unfolding v1 v2 v3 v4 v5
-last-each = (c1, (c2, (c3, (c4, (c5, quiet-sweeps 5 v5 last-rest)))))
+last-each = (c1, (c2, (c3, (c4, (c5, quiet-sweeps 5 v5 last-early last-rest)))))
 
 last-count : price (larger_window waking-again.pair) waking-again
     + added (larger_window waking-again.pair) (in_a_row then_it_arrives) waking-again.pair ≡ 4
@@ -330,6 +347,7 @@ began = record {
   same = refl;
   whole_a = nothing_comes small;
   whole_b = nothing_comes small;
+  early = record { a = refl; b = refl };
 }
 
 until-free : IsLossFree until_loss (empty_line (new_pair small small))
@@ -383,6 +401,7 @@ returns-clause-whole c = record {
       until-whole.same;
   whole_a = none-comes after_loss.pair.a closed-a;
   whole_b = none-comes after_loss.pair.b closed-b;
+  early = subst (λ (p : PairState). IsEarly p) until-pair until-whole.early;
 }
 
 pub returns-clause-under_way : goal.returns-clause-under_way
