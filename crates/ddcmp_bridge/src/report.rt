@@ -8,7 +8,12 @@ use ddcmp_io::text::write_number;
 use ddcmp_io::{Page, Sink, WriteFailed};
 
 /// Writes the line of one direction.
-fn write_direction<W: Sink>(page: &mut Page, writer: &mut W, mark: &[u8], counts: &Counts)
+pub(crate) fn write_direction<W: Sink>(
+    page: &mut Page,
+    writer: &mut W,
+    mark: &[u8],
+    counts: &Counts,
+)
     ensures { HandsOver (output_of W.broken W.contents writer.old page.old)
         (output_of W.broken W.contents writer.new page.new) (direction_line mark.now counts.now) }
 {

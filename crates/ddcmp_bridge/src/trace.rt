@@ -3,9 +3,13 @@ use crate::errors::BridgeErrors;
 use crate::faults::Fate;
 use ddcmp_frame::MAX_COUNT;
 use ddcmp_io::MemorySink;
-use ddcmp_log::{ItemLog, LogNotation, NoMemory, Side};
+use ddcmp_log::{ItemLog, LogNotation, NoMemory, Side, Stamp};
 use std::alloc::Global;
+use std::fmt::InlineText;
 use std::{fmt, str};
+
+/// The longest line of what the bridge did to a frame, in bytes.
+const LINE_ROOM: usize = 128;
 
 /// The log of one direction: a line for each frame, and what the bridge did to it.
 pub(crate) struct BridgeTrace {
@@ -54,12 +58,13 @@ impl BridgeTrace {
             return;
         }
         self.text.clear();
-        if self.log.log(&mut self.text, Some(now), bytes).is_ok() {
+        if self.log.log(&mut self.text, Some(Stamp::Elapsed(now)), bytes).is_ok() {
             errors.write_lines(str::from_utf8(self.text()).unwrap_or(""));
         }
         match fate {
             Some(fate @ (Fate::Lost | Fate::Altered { .. })) => {
-                errors.report(self.line_of(now, fate));
+                let line = InlineText::<LINE_ROOM>::of(self.line_of(now, fate));
+                errors.write_lines(line.as_str());
             }
             Some(Fate::Passed) | None => {}
         }

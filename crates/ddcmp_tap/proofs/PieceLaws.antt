@@ -8,6 +8,7 @@ use Rattle.std.proofs.lemmas.List.{append-nil}
 use Rattle.ddcmp_io.specs.Written.{AppendsPart, Known}
 use Rattle.ddcmp_log.specs.declared.notation.LogNotation.{LogNotation}
 use Rattle.ddcmp_log.specs.declared.side.Side.{Side}
+use Rattle.ddcmp_log.specs.declared.side.Stamp.{Stamp}
 use Rattle.ddcmp_log.specs.declared.side.Side.TheVariants.{Caller, Called}
 use Rattle.ddcmp_log.specs.Items.{ItemLogView}
 use Rattle.ddcmp_log.specs.Logged.{items_added, logged_last, logged_lines}
@@ -27,20 +28,20 @@ part-behind a b c text more one two = (
       (Appends-trans a b c text (take two.0 more) one two.1),
 )
 
-pub said-more : (side : Side) (stamp : Option ℕ) (more : List ℕ) (pieces : List Piece)
+pub said-more : (side : Side) (stamp : Option Stamp) (more : List ℕ) (pieces : List Piece)
     → said side (record { side = side; stamp = stamp; bytes = more } ∷ pieces)
     ≡ said side pieces ++ more
 unfolding said
 said-more Caller stamp more pieces = refl
 said-more Called stamp more pieces = refl
 
-pub said-called : (stamp : Option ℕ) (more : List ℕ) (pieces : List Piece)
+pub said-called : (stamp : Option Stamp) (more : List ℕ) (pieces : List Piece)
     → said Called (record { side = Caller; stamp = stamp; bytes = more } ∷ pieces)
     ≡ said Called pieces
 unfolding said
 said-called stamp more pieces = append-nil (said Called pieces)
 
-pub said-caller : (stamp : Option ℕ) (more : List ℕ) (pieces : List Piece)
+pub said-caller : (stamp : Option Stamp) (more : List ℕ) (pieces : List Piece)
     → said Caller (record { side = Called; stamp = stamp; bytes = more } ∷ pieces)
     ≡ said Caller pieces
 unfolding said
@@ -62,7 +63,7 @@ unfolding pieces_text
 text-none notation max = refl
 
 -- the lines of a log of this side
-pub lines-as : (side : Side) (notation : LogNotation) (max : ℕ) (stamp : Option ℕ)
+pub lines-as : (side : Side) (notation : LogNotation) (max : ℕ) (stamp : Option Stamp)
     (log : ItemLogView) (told more : List ℕ) → IsOf side notation max log
     → logged_lines log.notation stamp log.side (items_added log.frames.max told more)
     ≡ logged_lines notation stamp side (items_added max told more)
@@ -71,7 +72,7 @@ lines-as side notation max stamp log told more is =
     ∙ ap (λ x. logged_lines notation stamp x (items_added log.frames.max told more)) is.0
     ∙ ap (λ x. logged_lines notation stamp side (items_added x told more)) is.2
 
-pub last-as : (side : Side) (notation : LogNotation) (max : ℕ) (stamp : Option ℕ)
+pub last-as : (side : Side) (notation : LogNotation) (max : ℕ) (stamp : Option Stamp)
     (log : ItemLogView) (told : List ℕ) → IsOf side notation max log
     → logged_last log.notation stamp log.side log.frames.max told
     ≡ logged_last notation stamp side max told
@@ -86,13 +87,13 @@ Begins before text = (rest : List ℕ) × (text ≡ before ++ rest)
 
 piece-behind : (log : TapLog) (p : Piece) (h : List Event) (before : List ℕ)
     → Begins before (log_of log h)
-    → Begins before (pieces_text log.notation log.max (p ∷ pieces_of log.timed h))
+    → Begins before (pieces_text log.notation log.max (p ∷ pieces_of log h))
 piece-behind log p h before b =
     let lines =
     logged_lines log.notation p.stamp p.side
-    (items_added log.max (said p.side (pieces_of log.timed h)) p.bytes) in (
+    (items_added log.max (said p.side (pieces_of log h)) p.bytes) in (
       b.0 ++ lines,
-      text-more log.notation log.max p (pieces_of log.timed h)
+      text-more log.notation log.max p (pieces_of log h)
           ∙ ap (λ x. x ++ lines) b.1
           ∙ append_assoc before b.0 lines,
     )
@@ -101,10 +102,10 @@ piece-behind log p h before b =
 pub log-grows : (log : TapLog) (more h : List Event) → Begins (log_of log h) (log_of log (more ++ h))
 log-grows log [] h = ([], sym (append-nil (log_of log h)))
 log-grows log (Gave First bytes ∷ more) h =
-    piece-behind log (piece_of Caller log.timed (moment_of (more ++ h)) bytes) (more ++ h)
+    piece-behind log (piece_of Caller log (moment_of (more ++ h)) bytes) (more ++ h)
     (log_of log h) (log-grows log more h)
 log-grows log (Gave Second bytes ∷ more) h =
-    piece-behind log (piece_of Called log.timed (moment_of (more ++ h)) bytes) (more ++ h)
+    piece-behind log (piece_of Called log (moment_of (more ++ h)) bytes) (more ++ h)
     (log_of log h) (log-grows log more h)
 log-grows log (Gave Input bytes ∷ more) h = log-grows log more h
 log-grows log (Gave Output bytes ∷ more) h = log-grows log more h

@@ -9,10 +9,11 @@ ghost use Rattle.ddcmp_ports.specs.Running.{Event};
 ghost use Rattle.ddcmp_tap.specs.Tapping.{Taps, log_at, stamp_of};
 
 use crate::direction::Direction;
+use crate::reports::TapReports;
 use crate::tap_fault::TapFault;
 use crate::tap_log::TapLog;
 use ddcmp_io::MemorySink;
-use ddcmp_log::{NoMemory, Side};
+use ddcmp_log::{NoMemory, Side, Stamp};
 use ddcmp_ports::{Down, Machine, Need, News, Port};
 use std::alloc::Global;
 use std::marker::Model;
@@ -42,6 +43,7 @@ pub struct Tap {
     /// The moment that was passed last.
     moment: u64,
     fault: Option<TapFault>,
+    reports: TapReports,
 }
 
 // Manual, since a derived `Drop` would be expanded wherever a value is dropped.
@@ -55,6 +57,7 @@ impl Drop for Tap {
             written: _,
             moment: _,
             fault: _,
+            reports: _reports,
         } = self;
     }
 }
@@ -75,6 +78,7 @@ impl Model for Tap {
       written = t.written;
       moment = t.moment;
       fault = t.fault;
+      reports = t.reports;
     } };
 
     ghost invariant = { λ t. (t.text.refused ≡ false)
@@ -100,18 +104,15 @@ impl Tap {
             written: 0,
             moment: 0,
             fault: None,
+            reports: TapReports::new(alloc, log.report),
         })
     }
 
-    /// Returns the milliseconds, if requested.
-    fn stamp(&self) -> Option<u64>
+    /// Returns what lines of now begin with, if with a time.
+    fn stamp(&self) -> Option<Stamp>
         ensures { result ≡ stamp_of self.now }
     {
-        if self.log.timed {
-            Some(self.moment)
-        } else {
-            None
-        }
+        self.log.stamp_at(self.moment)
     }
 
     /// Ends it with this fault, unless it had one; returns that with which it ends.
@@ -190,7 +191,7 @@ impl Machine for Tap {
 
     ghost moment = { λ t. t.moment };
 
-    ghost wakes_at = { λ _. 18446744073709551615 };
+    ghost wakes_at = { λ t. t.reports.schedule.due_at };
 
     ghost outcome = { outcome_of };
 
@@ -235,7 +236,8 @@ impl Machine for Tap {
         match port {
             Port::First => self.down.waiting(),
             Port::Second => self.up.waiting(),
-            Port::Input | Port::Output | Port::Errors => &[],
+            Port::Errors => self.reports.unprinted(),
+            Port::Input | Port::Output => &[],
         }
     }
 
@@ -246,7 +248,8 @@ impl Machine for Tap {
         match port {
             Port::First => self.down.took(n),
             Port::Second => self.up.took(n),
-            Port::Input | Port::Output | Port::Errors => {}
+            Port::Errors => self.reports.printed(n),
+            Port::Input | Port::Output => {}
         }
     }
 
@@ -260,9 +263,12 @@ impl Machine for Tap {
             News::Ended(_) => {
                 let _kept = self.fail(TapFault::Read);
             }
-            News::Broken(_) => {
-                let _kept = self.fail(TapFault::Write);
-            }
+            News::Broken(_) => match port {
+                Port::Errors => self.reports.mute(),
+                _ => {
+                    let _kept = self.fail(TapFault::Write);
+                }
+            },
             // Its lines are open.
             News::Opened(_) => {}
             News::Reported(_) | News::Refused(_) => {}
@@ -281,6 +287,9 @@ impl Machine for Tap {
 
     fn pass_time(&mut self, now: u64) {
         self.moment = now;
+        let stamp = self.stamp();
+        self.reports
+            .report_if_due(now, stamp, self.up.log(), self.down.log());
         if self.up.is_counted_out() || self.down.is_counted_out() {
             let _kept = self.fail(TapFault::Read);
         }
@@ -291,7 +300,7 @@ impl Machine for Tap {
     }
 
     fn wakes_at(&self) -> u64 {
-        u64::MAX
+        self.reports.due_at()
     }
 
     fn outcome(&self) -> Option<TapPause> {
