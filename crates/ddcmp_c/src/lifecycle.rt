@@ -3,7 +3,8 @@
 ghost use Rattle.std.specs.Prelude.{◌≡◌, ◌≢◌, [], true, false, Some, None};
 ghost use Rattle.ddcmp_frame.specs.Reader.{StandsFor};
 ghost use Rattle.ddcmp_core.specs.Table.{after_start, after_enter_maintenance, after_halt};
-ghost use Rattle.ddcmp_core.specs.Table.{is_halted, chosen, answer_to_choose};
+ghost use Rattle.ddcmp_core.specs.Table.{is_halted};
+ghost use Rattle.ddcmp_core.specs.Choosing.{chosen, answer_to_choose};
 ghost use Rattle.ddcmp_proto.specs.Config.{first_refusal, core_made, config_of};
 ghost use Rattle.ddcmp_proto.specs.Station.{StationView};
 ghost use Rattle.ddcmp_proto.specs.StationCalls.{Starts as StartCall, Halts, ClearsLine};

@@ -23,7 +23,8 @@ use Rattle.ddcmp_core.specs.Table.{reply_to_offer, after_offer, on_data, on_nak,
 use Rattle.ddcmp_core.specs.Table.{on_by, on, after_startup, after_halt, after_restart, may_restart}
 use Rattle.ddcmp_core.specs.Table.{on_strt, may_start, after_start, after_enter_maintenance}
 use Rattle.ddcmp_core.specs.Table.{may_send, may_send_maintenance, after_accept, after_take}
-use Rattle.ddcmp_core.specs.Table.{after_choose, owed_after_take, acknowledges_by_take}
+use Rattle.ddcmp_core.specs.Table.{owed_after_take, acknowledges_by_take}
+use Rattle.ddcmp_core.specs.Choosing.{after_choose}
 use Rattle.ddcmp_core.specs.Table.{after_take_arm, after_expire_in, after_expire_with, after_expire}
 use Rattle.ddcmp_core.specs.Table.{is_running, is_maintenance, is_starting, is_fresh, Next, next}
 use Rattle.ddcmp_core.specs.Table.{timer_started, after_next}

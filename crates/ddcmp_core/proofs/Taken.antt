@@ -6,7 +6,8 @@ use Rattle.ddcmp_core.specs.declared.state.Owed.{Owed}
 use Rattle.ddcmp_core.specs.declared.state.Owed.TheVariants.{Quiet, Ack, Nak}
 use Rattle.ddcmp_core.specs.Core.{IsSound, IsTimed}
 use Rattle.ddcmp_core.specs.Table.{StationState, Limits, is_running, owed_after_take}
-use Rattle.ddcmp_core.specs.Table.{acknowledges_by_take, after_take, after_take_all}
+use Rattle.ddcmp_core.specs.Table.{acknowledges_by_take, after_take}
+use Rattle.ddcmp_core.specs.Choosing.{after_take_all}
 use Rattle.ddcmp_core.proofs.Sound.{reply_taken}
 
 owed_again : (y : Owed) → owed_after_take (owed_after_take y) ≡ owed_after_take y

@@ -16,7 +16,8 @@ use Rattle.ddcmp_core.specs.Table.{Maint, Received, Good, BadHeader, BadData, To
 use Rattle.ddcmp_core.specs.Table.{outgoing, newly_acknowledged, after_ack, after_offer, on_data}
 use Rattle.ddcmp_core.specs.Table.{on_nak, on_by, on, after_startup, after_halt, after_restart}
 use Rattle.ddcmp_core.specs.Table.{may_restart, on_strt, new_station, after_start}
-use Rattle.ddcmp_core.specs.Table.{after_enter_maintenance, after_accept, after_take, after_choose}
+use Rattle.ddcmp_core.specs.Table.{after_enter_maintenance, after_accept, after_take}
+use Rattle.ddcmp_core.specs.Choosing.{after_choose}
 use Rattle.ddcmp_core.specs.Table.{after_expire_in, after_expire_with, after_expire, is_fresh}
 use Rattle.ddcmp_core.specs.Table.{after_take_arm, is_starting, Next, next, timer_started}
 use Rattle.ddcmp_core.specs.Table.{after_next}

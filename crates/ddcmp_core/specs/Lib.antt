@@ -1,5 +1,6 @@
 pub mod Inside
 pub mod Table
+pub mod Choosing
 pub mod Frames
 pub mod Counting
 pub mod Core

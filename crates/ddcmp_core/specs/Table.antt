@@ -186,23 +186,6 @@ after_take s =
       reply = if acknowledges_by_take s then owed_after_take s.reply else s.reply;
     }
 
--- all messages are taken
-abbrev pub after_take_all : StationState → StationState
-after_take_all s = record s {
-  inbox = [];
-  reply = if acknowledges_by_take s then owed_after_take s.reply else s.reply;
-}
-
--- acknowledge_on_take: in Halted with an empty inbox, as for a start
-abbrev pub after_choose : Bool → StationState → StationState
-after_choose by_user s = record s { by_user = by_user }
-
-abbrev pub chosen : Bool → StationState → StationState
-chosen by_user s = if may_start s then after_choose by_user s else s
-
-abbrev pub answer_to_choose : StationState → Result (Unit {0}) StartRefusal
-answer_to_choose s = answer_unless (start_refusal s) tt
-
 -- expire
 abbrev pub after_expire_in : State → StationState → StationState
 after_expire_in Halted s = record s { timer = Off }

@@ -11,7 +11,8 @@ ghost use Rattle.ddcmp_core.specs.Table.{next, after_next, after_ack, newly_ackn
 ghost use Rattle.ddcmp_core.specs.Table.{may_start, after_start, after_enter_maintenance};
 ghost use Rattle.ddcmp_core.specs.Table.{after_halt, may_send, may_send_maintenance, after_accept};
 ghost use Rattle.ddcmp_core.specs.Table.{after_take, after_expire, after_take_arm, is_starting};
-ghost use Rattle.ddcmp_core.specs.Table.{resp_of, after_choose};
+ghost use Rattle.ddcmp_core.specs.Table.{resp_of};
+ghost use Rattle.ddcmp_core.specs.Choosing.{after_choose};
 ghost use Rattle.ddcmp_core.specs.Frames.{frame_of, header_of, message_of};
 ghost use Rattle.ddcmp_core.specs.declared.notice.Notice.{Notice as NoticeValue};
 ghost use Rattle.ddcmp_core.specs.Laws.{BeginsRunning, IsSentInWindow, HasNothing, tells_restart};

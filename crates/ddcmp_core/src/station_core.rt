@@ -95,7 +95,7 @@ impl<S: Store> Core<S> {
     ghost use Rattle.std.specs.Prelude.{if◌then◌else◌};
     ghost use Rattle.ddcmp_window.specs.Store.{first_message, with_front};
     ghost use Rattle.ddcmp_core.specs.Table.{new_station, may_start, answer_to_start, after_start};
-    ghost use Rattle.ddcmp_core.specs.Table.{chosen, answer_to_choose};
+    ghost use Rattle.ddcmp_core.specs.Choosing.{chosen, answer_to_choose};
     ghost use Rattle.ddcmp_core.specs.Table.{after_enter_maintenance, station_begun, after_halt};
     ghost use Rattle.ddcmp_core.specs.Table.{send_refusal as send_refusal_of, answer_to_send};
     ghost use Rattle.ddcmp_core.specs.Table.{may_send, after_accept, answer_to_send_maintenance};

@@ -16,7 +16,8 @@ use Rattle.ddcmp_core.specs.declared.state.State.TheVariants.{IStart}
 use Rattle.ddcmp_core.specs.declared.station_core.StartRefusal.{StartRefusal}
 use Rattle.ddcmp_core.specs.declared.station_core.StartRefusal.TheVariants.{NotHalted, Untaken}
 use Rattle.ddcmp_core.specs.Table.{StationState, after_halt, after_start, is_halted, may_start}
-use Rattle.ddcmp_core.specs.Table.{new_station, start_refusal, station_begun, after_choose}
+use Rattle.ddcmp_core.specs.Table.{new_station, start_refusal, station_begun}
+use Rattle.ddcmp_core.specs.Choosing.{after_choose}
 use Rattle.ddcmp_core.proofs.Sound.{sound_started, sound_chosen}
 use Rattle.ddcmp_proto.specs.Config.{first_refusal, limits_of}
 use Rattle.ddcmp_proto.proofs.FeedLaws.{after_piece-none, notices_of_piece-none}

@@ -25,7 +25,7 @@ use Rattle.ddcmp_core.proofs.Sent.{sending}
 use Rattle.ddcmp_core.proofs.TimedLaws.{timed_on, timed_next, timed_new, timed_started}
 use Rattle.ddcmp_core.proofs.TimedLaws.{timed_halted, timed_accepted, timed_taken, timed_expired}
 use Rattle.ddcmp_core.proofs.TimedLaws.{timed_chosen}
-use Rattle.ddcmp_core.specs.Table.{after_choose}
+use Rattle.ddcmp_core.specs.Choosing.{after_choose}
 use Rattle.ddcmp_pair.specs.Choices.{Act, Happens, Chooses, after_choice_here, after_act}
 use Rattle.ddcmp_proto.specs.Bytes.{received_of, after_item, after_items, notices_of_item}
 use Rattle.ddcmp_proto.specs.Bytes.{notices_of_items, items_added}

@@ -14,7 +14,7 @@ use Rattle.ddcmp_core.specs.declared.state.Timer.TheVariants.{Off, Fresh, On}
 use Rattle.ddcmp_core.specs.Store.{first_message}
 use Rattle.ddcmp_core.specs.Table.{StationState, Frame, after_halt, after_start, may_send}
 use Rattle.ddcmp_core.specs.Table.{is_running, after_accept, after_take, after_expire_in}
-use Rattle.ddcmp_core.specs.Table.{after_choose}
+use Rattle.ddcmp_core.specs.Choosing.{after_choose}
 use Rattle.ddcmp_core.specs.Table.{after_expire_with, after_expire}
 use Rattle.ddcmp_pair.specs.Link.{IsReached, link_of}
 use Rattle.ddcmp_pair.proofs.Reached.{reached-give, reached-counts}

@@ -4,7 +4,8 @@ use Rattle.std.proofs.Common.{None, refl, sym, ap, ◌∙◌, append-nil}
 use Rattle.std.specs.Prelude.{◌&&◌, ◌||◌, is_some, option_map}
 use Rattle.ddcmp_io.specs.declared.carrier.End.TheVariants.{A, B}
 use Rattle.ddcmp_pair.specs.declared.event.Event.TheVariants as event
-use Rattle.ddcmp_core.specs.Table.{Frame, next_frame, next, after_take_all}
+use Rattle.ddcmp_core.specs.Table.{Frame, next_frame, next}
+use Rattle.ddcmp_core.specs.Choosing.{after_take_all}
 use Rattle.ddcmp_core.proofs.Taken.{take_all_after, take_all_none}
 use Rattle.ddcmp_core.specs.Frames.{header_of}
 use Rattle.ddcmp_proto.specs.Bytes.{frame_on_line}

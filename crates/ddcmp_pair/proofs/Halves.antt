@@ -14,7 +14,8 @@ use Rattle.ddcmp_core.specs.declared.state.Owed.TheVariants.{Ack}
 use Rattle.ddcmp_core.specs.declared.state.Timer.TheVariants.{Off}
 use Rattle.ddcmp_core.specs.Numbers.{next_number, is_within}
 use Rattle.ddcmp_core.specs.Table.{Limits, StationState, Frame, Data, Acked, Naked, Rep, Strt}
-use Rattle.ddcmp_core.specs.Table.{resp_of, owed_after_take, acknowledges_by_take, after_take_all}
+use Rattle.ddcmp_core.specs.Table.{resp_of, owed_after_take, acknowledges_by_take}
+use Rattle.ddcmp_core.specs.Choosing.{after_take_all}
 use Rattle.ddcmp_core.specs.Table.{Received, Maint, incoming, after_ack, after_offer, on_data}
 use Rattle.ddcmp_core.specs.Table.{after_startup, after_restart, after_halt, may_restart}
 use Rattle.ddcmp_core.specs.Table.{is_running}

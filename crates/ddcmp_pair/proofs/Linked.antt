@@ -12,7 +12,8 @@ use Rattle.ddcmp_core.specs.declared.state.State.TheVariants.{Halted, IStart, Ru
 use Rattle.ddcmp_core.specs.Core.{CoreView}
 use Rattle.ddcmp_core.specs.Counting.{count_plus}
 use Rattle.ddcmp_core.specs.Table.{Limits, Frame, Next, Idle, Sends, may_start, after_start}
-use Rattle.ddcmp_core.specs.Table.{may_send, after_accept, next, next_frame, after_choose}
+use Rattle.ddcmp_core.specs.Table.{may_send, after_accept, next, next_frame}
+use Rattle.ddcmp_core.specs.Choosing.{after_choose}
 use Rattle.ddcmp_core.specs.Table.{StationState, is_halted}
 use Rattle.ddcmp_core.specs.declared.station_core.StartRefusal.TheVariants.{NotHalted, Untaken}
 use Rattle.ddcmp_core.specs.Laws.{tells_restart}

@@ -1,7 +1,7 @@
 -- Runs in which users also choose when their stations acknowledge: messages when they are received,
 -- or messages when they are taken.
 use Rattle.std.specs.Prelude.{◌≡◌, ◌≤◌, Bool, true, List, [], ◌∷◌, length}
-use Rattle.ddcmp_core.specs.Table.{chosen}
+use Rattle.ddcmp_core.specs.Choosing.{chosen}
 use Rattle.ddcmp_io.specs.declared.carrier.End.{End}
 use Rattle.ddcmp_io.specs.declared.carrier.End.TheVariants.{A, B}
 use Rattle.ddcmp_pair.specs.declared.event.Event.{Event}

@@ -147,8 +147,9 @@ impl Station {
     ghost use Rattle.ddcmp_frame.specs.Reading.{open_at_end, kept_at_end};
     ghost use Rattle.ddcmp_window.specs.Store.{first_message, with_front};
     ghost use Rattle.ddcmp_core.specs.Table.{may_start, answer_to_start, after_start};
-    ghost use Rattle.ddcmp_core.specs.Table.{after_enter_maintenance, after_halt, chosen};
-    ghost use Rattle.ddcmp_core.specs.Table.{answer_to_choose};
+    ghost use Rattle.ddcmp_core.specs.Table.{after_enter_maintenance, after_halt};
+    ghost use Rattle.ddcmp_core.specs.Choosing.{chosen};
+    ghost use Rattle.ddcmp_core.specs.Choosing.{answer_to_choose};
     ghost use Rattle.ddcmp_core.specs.Table.{send_refusal as send_refusal_of, answer_to_send};
     ghost use Rattle.ddcmp_core.specs.Table.{may_send, after_accept, answer_to_send_maintenance};
     ghost use Rattle.ddcmp_core.specs.Table.{may_send_maintenance, after_take, after_expire, is_on};

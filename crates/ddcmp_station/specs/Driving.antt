@@ -13,7 +13,8 @@ use Rattle.ddcmp_io.specs.declared.device.Got.TheVariants.{Bytes, Idle, Failed}
 use Rattle.ddcmp_core.specs.declared.state.Timer.{Timer}
 use Rattle.ddcmp_core.specs.declared.state.Timer.TheVariants.{Off, Fresh, On}
 use Rattle.ddcmp_core.specs.Table.{Frame, after_halt, may_send, after_accept, after_expire}
-use Rattle.ddcmp_core.specs.Table.{after_take_all, after_take_arm, is_on, next, next_frame}
+use Rattle.ddcmp_core.specs.Table.{after_take_arm, is_on, next, next_frame}
+use Rattle.ddcmp_core.specs.Choosing.{after_take_all}
 use Rattle.ddcmp_core.specs.Counting.{counters_after_expire}
 use Rattle.ddcmp_core.specs.Core.{CoreView}
 use Rattle.ddcmp_station.specs.declared.driver.Driven.{Driven}

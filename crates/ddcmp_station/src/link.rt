@@ -69,7 +69,8 @@ impl Link {
     ghost use Rattle.std.specs.Prelude.{Err, option_map};
     ghost use Rattle.ddcmp_frame.specs.Reader.{StandsFor};
     ghost use Rattle.ddcmp_window.specs.Store.{first_message, with_front};
-    ghost use Rattle.ddcmp_core.specs.Table.{after_halt, answer_to_start, chosen, answer_to_choose};
+    ghost use Rattle.ddcmp_core.specs.Table.{after_halt, answer_to_start};
+    ghost use Rattle.ddcmp_core.specs.Choosing.{chosen, answer_to_choose};
     ghost use Rattle.ddcmp_proto.specs.Config.{first_refusal, config_of};
     ghost use Rattle.ddcmp_station.specs.Linking.{link_made, with_state, started, anew, after_wake};
     ghost use Rattle.ddcmp_station.specs.Linking.{wakes_at, takes_message, after_offered};
