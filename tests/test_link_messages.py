@@ -11,7 +11,8 @@ import pytest
 from .bad_lines import Bad
 from .peers import called, good
 from .process import Link, exchange, listening, must_end, tcp_pair, terminals, unacknowledged
-from .wire import STRT, ack, binary, data, digits, drawn, in_lines, messages_of, unpacked
+from .wire import (
+    STRT, ack, binary, commands, data, digits, drawn, in_lines, messages_of, unpacked)
 
 
 @pytest.mark.parametrize("window", [1, 7, 127, 255])
@@ -39,7 +40,8 @@ def restarted(*options):
     peer.waits(lambda it: it.named("ACK"), 10)
     peer.send(data(b"old", 1, 0))
     link.waits(lambda it: b"old" in it.out or b"6f6c64" in it.out, 10)
-    link.give(form([b"lost"]), close=False)
+    ready = commands("ready") if "--events" in options else b""
+    link.give(ready + form([b"lost"]), close=False)
     peer.waits(lambda it: it.named("DATA"), 10)
     peer.send(STRT)
     peer.waits(lambda it: len(it.named("STACK")) == 1, 10)
@@ -72,8 +74,10 @@ def test_events_among_long_messages():
     options = ("--binary", "--events", "--max", "16383")
     one, two = tcp_pair(options, options)
     messages = [drawn.randbytes(it) for it in (16383, 1, 16383)]
-    one.give(binary(messages))
-    two.give(binary(messages[::-1]))
+    for link in one, two:
+        assert link.waits(lambda it: b"Running" in it.out, 10)
+    one.give(commands("ready") + binary(messages))
+    two.give(commands("ready") + binary(messages[::-1]))
     for link, wanted in ((one, messages[::-1]), (two, messages)):
         must_end("long messages", link, 0)
         lines = in_lines(link.out)

@@ -18,6 +18,7 @@ pytestmark = [pytest.mark.limit(300), pytest.mark.xdist_group("package"),
 FILES = """bin/ddcmp include/ddcmp.h include/ddcmp_checked.h lib/libddcmp.a lib/libddcmp.so
 lib/libddcmp.so.0 lib/pkgconfig/ddcmp.pc share/bash-completion/completions/ddcmp
 share/ddcmp/installed share/ddcmp/python/ddcmp.py share/ddcmp/web/ddcmp.html
+share/ddcmp/systemd/ddcmp.service
 share/ddcmp/wireshark/ddcmp.lua
 share/doc/ddcmp/LICENSE share/doc/ddcmp/NOTICES share/fish/vendor_completions.d/ddcmp.fish
 share/man/man1/ddcmp.1 share/zsh/site-functions/_ddcmp""".split()

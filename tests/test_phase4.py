@@ -1,41 +1,33 @@
-"""A routing layer above DDCMP: two nodes of python/examples/phase4.py, each over a station or over
-`ddcmp link`, over lines that lose and damage frames, and while one of them is killed again and
-again."""
+"""A routing layer above DDCMP: two nodes of python/examples/phase4.py, over lines that lose and
+damage frames, and while one of them is killed again and again."""
 import os
+import re
 import signal
 import sys
 
 import pytest
 
 from .process import (
-    PROGRAM, TOP, Bridge, Process, free_port, holds_within, is_listening, udp_names)
+    EVENT, PROGRAM, TOP, Bridge, Process, free_port, holds_within, is_listening, udp_names)
 from .test_python import over_library
 
+RETRIES = re.compile(r"(, still trying|; retry in \d+ s)$")
 SOON = 30  # seconds that nothing here may take
 LONG = pytest.param(60, marks=[pytest.mark.long, pytest.mark.limit(180)])
 MORE = pytest.param(10, marks=[pytest.mark.long, pytest.mark.limit(300)])
 
 
-class Node(Process):
-    """A node that runs, with its link if it has one."""
-
-    def __init__(self, words, **how):
-        super().__init__(words, start_new_session=True, **how)
-
-    def kill(self):
-        os.killpg(self.run.pid, signal.SIGKILL)
-        return super().kill()
-
-
 @pytest.fixture(params=["station", "link"])
 def nodes(library, request):
-    over = ("--link", *PROGRAM) if request.param == "link" else ()
-
+    """Begins a node over a station, or over a link, which is killed with it."""
     def begin(name, line, *options):
-        words = [sys.executable, f"{TOP}/python/examples/phase4.py", name, line, *over]
+        words = [sys.executable, f"{TOP}/python/examples/phase4.py", name, line]
         environment = over_library(DDCMP_LIBRARY=f"{library}/libddcmp.so")
-        return Node([*words, "--timer", "0.5", *options], env=environment)
-    yield begin
+        if request.param == "link":
+            options = *options, "--link", *PROGRAM
+        return Process([*words, "--timer", "0.5", *options], env=environment,
+                       start_new_session=True)
+    return begin
 
 
 def bridged_ends(kind):
@@ -55,8 +47,7 @@ def incarnations(node, neighbour):
     """The adjacencies that a node has printed, each as the packets of one process of the neighbour,
     numbered from 0; and how many of them are down."""
     found, downs = [], 0
-    faults = [it for it in node.errors() if it.startswith(("phase4", "Traceback"))]
-    assert all(it.endswith(", still trying") for it in faults), node
+    assert all(EVENT.match(it) or RETRIES.search(it) for it in node.errors()), node
     for line in node.lines():
         if line == f"up {neighbour}":
             assert downs == len(found), node
@@ -104,7 +95,8 @@ def test_kills(nodes, kind, kills):
                 return len(found) == count and len(found[-1]) > 20
             assert holds_within(SOON, is_up), (kill, node)
         if kill < kills:
-            other.kill()
+            os.killpg(other.run.pid, signal.SIGKILL)
+            other.ended()
     found, downs = incarnations(stays, "1.6")
     assert (len(found), downs) == (kills + 1, kills), stays
     assert len({it[0][0] for it in found}) == kills + 1

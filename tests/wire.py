@@ -121,6 +121,11 @@ def binary(messages):
     return b"".join(len(it).to_bytes(2, "big") + it for it in messages)
 
 
+def commands(*texts):
+    """Commands as `link --events` reads them, each after its length, whose top bit is set."""
+    return b"".join((0x8000 + len(it)).to_bytes(2, "big") + it.encode() for it in texts)
+
+
 def digits(messages):
     """Messages as a link reads them, a line each."""
     return "".join(it.hex() + "\n" for it in messages).encode()

@@ -2,7 +2,7 @@
 """An end node's side of a circuit of DECnet Phase IV: initialization, hellos and packets over a
 station. As remembered of Phase IV's routing layer, and not tried against a DECnet node.
 
-    phase4.py NODE LINE [--link PROGRAM] [--hello S] [--packets N]
+    phase4.py NODE LINE [--hello S] [--packets N] [--link PROGRAM]
 
 NODE is AREA.NUMBER, as 1.5, and LINE listen:HOST:PORT, connect:HOST:PORT or udp:LOCAL,REMOTE, as
 `ddcmp link` has them. A hello goes S seconds after the last message [default: 15], and while the
@@ -11,15 +11,12 @@ seconds [default: 3]. Standard output has, a line each: `up NODE`, `packet NODE 
 `down REASON`, after which the circuit starts again. A connection is tried again each second.
 
 A routing layer must tell the incarnations of a circuit apart: the first message of each is the
-initialization message, and none of the one before may follow. There are two ways:
-
-- With --link it runs `PROGRAM link --binary --events`, which writes events among the messages, and
-  drops what it reads between the event that begins an incarnation and the command `ready`.
-- Else it feeds a station itself: each call of `feed` returns one notice or message, in the order in
-  which they came, and what waits for room in the window is dropped by whatever starts the circuit
-  again.
+initialization message, and none of the one before may follow. So this feeds a station itself: each
+call of `feed` returns one notice or message, in the order in which they came, and what waits for
+room in the window is dropped by whatever starts the circuit again. With --link the station is that
+of `PROGRAM link --binary --events`, which has its notices among its messages, and refuses what it
+reads until each incarnation is acknowledged.
 """
-import abc
 import argparse
 import asyncio
 import collections
@@ -35,7 +32,7 @@ import ddcmp
 INITIALIZATION, VERIFICATION, HELLO, PACKET = 0x01, 0x03, 0x05, 0x02
 END_NODE, WANTS_VERIFICATION = 3, 4  # of the byte TIINFO
 BLOCK, VERSION, TEST_DATA = 576, b"\2\0\0", b"\xaa" * 4
-EVENT = 1 << 15  # of a length: the record is an event, or a command
+WINDOW = 7  # messages that the link may have unacknowledged
 MULTIPLIER = 2  # a neighbour is gone after so many of its hello times
 RETRY = 1.0  # seconds between connections that are tried
 _RUNS = ddcmp.NoticeKind.RUNNING, ddcmp.NoticeKind.RUNNING_AND_HANDED_UP
@@ -61,15 +58,16 @@ def report(*words: object) -> None:
         os._exit(1)
 
 
-class Circuit(abc.ABC):
-    """The routing layer of a circuit, over whatever carries its messages."""
+class Circuit:
+    """The routing layer's side of a circuit."""
 
-    def __init__(self, node: int, hello: int, packets: float) -> None:
-        self.node, self.hello, self.packets = node, hello, packets
+    def __init__(self, node: int, hello: int, packets: float, timer: float) -> None:
+        self.node, self.hello, self.packets, self.timer = node, hello, packets, timer
         self.begin()
 
     def begin(self) -> None:
         """Begins an incarnation: nothing of the one before is sent in it."""
+        self.unsent: Deque[bytes] = collections.deque()
         self.neighbour: Optional[int] = None
         self.patience, self.numbered = float(MULTIPLIER * self.hello), 0
         self.heard_at = self.sent_at = time.monotonic()
@@ -80,33 +78,31 @@ class Circuit(abc.ABC):
             report("down", reason)
         self.begin()
 
-    def runs(self) -> None:
-        """Begins an incarnation that runs, by the initialization message."""
-        self.begin()
+    def restart(self, reason: str) -> None:
+        """Restarts the circuit, as whatever is against the rules does."""
+        self.down(reason)
+        self.start_again()
+
+    def start_again(self) -> None:
+        raise NotImplementedError
+
+    def write(self) -> None:
+        """Sends what there is room for."""
+        raise NotImplementedError
+
+    def runs(self) -> bool:
+        raise NotImplementedError
+
+    def begun(self) -> None:
+        """Handles the start of an incarnation."""
+        self.down("the circuit has restarted")
         self.send(struct.pack("<BHBH3sHB", INITIALIZATION, self.node, END_NODE, BLOCK, VERSION,
                               self.hello, 0))
 
-    @abc.abstractmethod
-    def restart(self, reason: str) -> None:
-        """Restarts the circuit, as whatever is against the rules does."""
-
-    @abc.abstractmethod
-    def carry(self, message: bytes) -> None:
-        """Sends a message once there is room, in the incarnation that there is now or never."""
-
-    @property
-    @abc.abstractmethod
-    def is_running(self) -> bool:
-        """Whether messages are accepted."""
-
-    @property
-    @abc.abstractmethod
-    def is_busy(self) -> bool:
-        """Whether a message waits for room."""
-
     def send(self, message: bytes) -> None:
+        self.unsent.append(message)
         self.sent_at = time.monotonic()
-        self.carry(message)
+        self.write()
 
     def received(self, message: bytes) -> None:
         """Handles a message of the neighbour; one that may not come now restarts the circuit."""
@@ -139,11 +135,12 @@ class Circuit(abc.ABC):
         while True:
             await asyncio.sleep(min(0.1, every / 2))
             now = time.monotonic()
-            if not self.is_running:
+            if not self.runs():
                 continue
             if now - self.heard_at >= self.patience:
                 self.restart("nothing was heard")
-            elif self.neighbour is not None and now >= due and self.packets and not self.is_busy:
+                self.write()
+            elif self.neighbour is not None and now >= due and self.packets and not self.unsent:
                 due = now + every
                 header = struct.pack("<BHHB", PACKET, self.neighbour, self.node, 0)
                 self.send(header + b"%d %d" % (os.getpid(), self.numbered))
@@ -155,40 +152,24 @@ class Circuit(abc.ABC):
 class StationCircuit(Circuit, asyncio.Protocol, asyncio.DatagramProtocol):
     """A circuit over one line after another: a connection, or datagrams of one peer."""
 
-    def __init__(self, timer: float, *routing: Any) -> None:
-        self.timer = timer
+    def __init__(self, node: int, hello: int, packets: float, timer: float) -> None:
+        super().__init__(node, hello, packets, timer)
         self.station = ddcmp.Station(max=BLOCK, restart=True)
         self.transport: Any = None
         self.is_writable = True
         self.expiry: Optional[asyncio.TimerHandle] = None
         self.is_over = asyncio.Event()
-        super().__init__(*routing)
 
-    def begin(self) -> None:
-        self.unsent: Deque[bytes] = collections.deque()
-        super().begin()
-
-    def restart(self, reason: str) -> None:
-        self.down(reason)
+    def start_again(self) -> None:
         self.station.halt()
         self.station.start()
-        self.write()
 
-    def carry(self, message: bytes) -> None:
-        self.unsent.append(message)
-        self.write()
-
-    @property
-    def is_running(self) -> bool:
+    def runs(self) -> bool:
         return self.station.state == ddcmp.State.RUNNING
-
-    @property
-    def is_busy(self) -> bool:
-        return bool(self.unsent)
 
     def noticed(self, notice: ddcmp.Notice) -> None:
         if notice.kind in _RUNS:
-            self.runs()
+            self.begun()
         elif notice.kind == ddcmp.NoticeKind.RESTARTED:
             self.down("the neighbour has restarted")
 
@@ -261,71 +242,73 @@ class StationCircuit(Circuit, asyncio.Protocol, asyncio.DatagramProtocol):
 
 
 class LinkCircuit(Circuit):
-    """A circuit over `ddcmp link`, whose events and messages come in order through one pipe."""
+    """A circuit over `ddcmp link`, which opens its lines."""
 
-    def __init__(self, words: List[str], *routing: Any) -> None:
-        self.words = words
-        self.accepts = False
-        super().__init__(*routing)
+    is_running = False
 
-    def restart(self, reason: str) -> None:
-        self.down(reason)
-        self.accepts = False
-        self.write(EVENT, b"restart")
+    def begin(self) -> None:
+        super().begin()
+        self.unacknowledged = 0
 
-    def carry(self, message: bytes) -> None:
-        self.write(0, message)
+    def start_again(self) -> None:
+        self.is_running = False
+        self.command("restart")
 
-    def write(self, bit: int, record: bytes) -> None:
-        self.link.stdin.write(struct.pack(">H", bit | len(record)) + record)
+    def runs(self) -> bool:
+        return self.is_running
 
-    @property
-    def is_running(self) -> bool:
-        return self.accepts
+    def command(self, text: str) -> None:
+        self.stdin.write(struct.pack(">H", 0x8000 + len(text)) + text.encode())
 
-    @property
-    def is_busy(self) -> bool:
-        return bool(self.link.stdin.transport.get_write_buffer_size())
+    def write(self) -> None:
+        """Sends what has room in the window, so that no command waits behind messages."""
+        while self.unsent and self.is_running and self.unacknowledged < WINDOW:
+            message = self.unsent.popleft()
+            self.stdin.write(struct.pack(">H", len(message)) + message)
+            self.unacknowledged += 1
 
-    async def carry_all(self) -> None:
-        """Runs the link, and handles its events and messages until it ends."""
-        self.link: Any = await asyncio.create_subprocess_exec(
-            *self.words, stdin=asyncio.subprocess.PIPE, stdout=asyncio.subprocess.PIPE)
-        try:
-            while True:
-                length, = struct.unpack(">H", await self.link.stdout.readexactly(2))
-                record = await self.link.stdout.readexactly(length & ~EVENT)
-                if length & EVENT:
-                    self.told(record.decode("ascii"))
-                else:
-                    self.received(record)
-        except asyncio.IncompleteReadError:
-            self.down("the link has ended")
-            sys.exit(f"phase4: the link has ended with status {await self.link.wait()}")
-
-    def told(self, event: str) -> None:
-        """Handles an event; one that begins an incarnation is acknowledged."""
-        words = event.split()
-        if words[:2] == ["notice", "Restarted"]:
-            self.accepts = False
+    def noticed(self, text: str) -> None:
+        """Handles an event: `notice NAME`, `notice NAME COUNT` or `lost COUNT`."""
+        name, count = (text.split() + ["0"])[1:3]
+        if name in ("Running", "RunningAndHandedUp"):
+            self.command("ready")
+            self.is_running = True
+            self.begun()
+        elif name == "Restarted":
+            self.command("ready")
+            self.is_running = False
             self.down("the neighbour has restarted")
-            self.write(EVENT, b"ready")
-        elif words[:1] == ["notice"] and words[1].startswith("Running"):
-            self.down("the circuit has started again")
-            self.write(EVENT, b"ready")
-            self.accepts = True
-            self.runs()
+        elif name.endswith("Acknowledged"):
+            self.unacknowledged = max(0, self.unacknowledged - int(count))
+
+    async def follow(self, program: str, line: str) -> None:
+        """Runs the link, and handles what it writes."""
+        words = [program, "link", "--binary", "--events", "--restart", "--again", "--max",
+                 str(BLOCK), "--window", str(WINDOW), "--timer-ms", str(int(1000 * self.timer)),
+                 "--line", line]
+        run = await asyncio.create_subprocess_exec(
+            *words, stdin=asyncio.subprocess.PIPE, stdout=asyncio.subprocess.PIPE)
+        assert run.stdin and run.stdout
+        self.stdin = run.stdin
+        while True:
+            length, = struct.unpack(">H", await run.stdout.readexactly(2))
+            record = await run.stdout.readexactly(length % 0x8000)
+            if length & 0x8000:
+                self.noticed(record.decode("ascii"))
+            else:
+                self.received(record)
+            self.write()
 
 
 def line_of(text: str) -> List[Any]:
-    """Returns a line, its kind and its addresses."""
+    """Returns the kind of a line, and its addresses."""
     kind, _, names = text.partition(":")
     found = [it.rpartition(":") for it in names.split(",")]
     wanted = {"listen": 1, "connect": 1, "udp": 2}.get(kind)
     if len(found) != wanted or not all(
             host and port.isdigit() and int(port) < 1 << 16 for host, _, port in found):
         raise argparse.ArgumentTypeError("a line is listen:HOST:PORT, connect:HOST:PORT or udp:..")
-    return [text, kind, *((host, int(port)) for host, _, port in found)]
+    return [kind, *((host, int(port)) for host, _, port in found)]
 
 
 async def lines(circuit: StationCircuit, kind: str, here: Any, there: Any = None) -> None:
@@ -347,27 +330,27 @@ async def lines(circuit: StationCircuit, kind: str, here: Any, there: Any = None
 async def main() -> None:
     words = argparse.ArgumentParser(description=__doc__.partition("\n\n")[0])
     words.add_argument("node", metavar="NODE", type=node_of)
-    words.add_argument("line", metavar="LINE", type=line_of)
+    words.add_argument("line", metavar="LINE")
     words.add_argument("--hello", metavar="S", type=int, default=15)
     words.add_argument("--packets", metavar="N", type=float, default=0)
     words.add_argument("--timer", metavar="S", type=float, default=3)
     words.add_argument("--link", metavar="PROGRAM")
     given = words.parse_args()
-    routing = given.node, given.hello, given.packets
+    sizes = given.node, given.hello, given.packets, given.timer
     if given.link:
-        link = [given.link, "link", "--binary", "--events", "--again", "--restart",
-                "--max", str(BLOCK), "--timer-ms", f"{given.timer * 1000:.0f}", "--line"]
-        circuit: Any = LinkCircuit([*link, given.line[0]], *routing)
-        await asyncio.gather(circuit.run(), circuit.carry_all())
-        return
-    circuit = StationCircuit(given.timer, *routing)
-    await asyncio.gather(circuit.run(), lines(circuit, *given.line[1:]))
+        linked = LinkCircuit(*sizes)
+        await asyncio.gather(linked.run(), linked.follow(given.link, given.line))
+    else:
+        circuit = StationCircuit(*sizes)
+        await asyncio.gather(circuit.run(), lines(circuit, *line_of(given.line)))
 
 
 if __name__ == "__main__":
     try:
         asyncio.run(main())
-    except OSError as it:
+    except (OSError, argparse.ArgumentTypeError) as it:
         sys.exit(f"phase4: {it}")
+    except asyncio.IncompleteReadError:
+        sys.exit("phase4: the link has ended")
     except KeyboardInterrupt:
         pass

@@ -51,7 +51,10 @@ Output, as it happens:
                          at the end: state, bytes of the line, messages
 With --binary each message is preceded by its length in two bytes, high byte first,
 and all else goes to standard error; with --events, too, notices and losses are in
-the output: the text of such a line after its length, whose top bit is set.
+the output: the text of such a line after its length, whose top bit is set. Commands
+in the input have that form, too: ready, which is due after each notice Running,
+RunningAndHandedUp or Restarted, and before which messages are lost; restart, which
+leaves the line; report; and quit, which ends the input.
 With --maintenance, as for MOP, each message goes once: it may be lost, and is
 never damaged. A message counts as delivered once it is written.",
 };

@@ -1,4 +1,5 @@
 pub mod LengthsLaws
+pub mod RecordsLaws
 pub mod HexLinesLaws
 pub mod BinaryLaws
 pub mod LineLaws

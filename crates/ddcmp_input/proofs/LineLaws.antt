@@ -9,7 +9,7 @@ use Rattle.std.proofs.lemmas.List.Elements.{All-head, All-tail}
 use Rattle.hex.specs.Hex.{hex_digit_value, digit_or_error, value_at, ◌>>=◌, decode_pairs}
 use Rattle.ddcmp_input.specs.declared.entry.Entry.{Entry}
 use Rattle.ddcmp_input.specs.declared.entry.Entry.TheVariants.{Message, NotHexadecimal, TooLong}
-use Rattle.ddcmp_input.specs.declared.entry.Entry.TheVariants.{Empty}
+use Rattle.ddcmp_input.specs.declared.entry.Entry.TheVariants.{Command, Empty}
 use Rattle.ddcmp_input.specs.HexLines.{HexView, first_of_ok, byte_of_digits, after_spelled}
 use Rattle.ddcmp_input.specs.HexLines.{after_digit, line_ended, entry_of_line, in_line}
 use Rattle.ddcmp_input.specs.HexLines.{return_taken, after_byte, entry_of_byte, after_bytes}
@@ -479,6 +479,7 @@ refused_is Message message n = absurd (n refl)
 refused_is NotHexadecimal message n = refl
 refused_is TooLong message n = refl
 refused_is Empty message n = refl
+refused_is Command message n = refl
 
 ended : (rest line : List ℕ) (max number : ℕ) (v : HexView) → So max number line v → IsNone max line
     → (why : Entry) × (why ≢ Message)

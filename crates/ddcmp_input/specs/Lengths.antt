@@ -23,6 +23,11 @@ is_unfinished (Half high) = true
 is_unfinished (Inside left) = true
 is_unfinished _ = false
 
+-- the next byte is the first of a length
+abbrev pub is_between : LengthPlace → Bool
+is_between Start = true
+is_between _ = false
+
 -- there is room for the rest of the message
 abbrev pub HasRoom : LengthPlace → ℕ → ℕ → Type 0
 HasRoom (Inside left) held capacity = (0 < left) × (held + left ≤ capacity)

@@ -1,4 +1,5 @@
 pub mod Lengths
+pub mod Records
 pub mod HexLines
 pub mod Told
 pub mod InBinary

@@ -11,6 +11,8 @@ pub enum Entry {
     TooLong,
     /// In binary, an empty message.
     Empty,
+    /// Among messages in binary, a command: a record whose length has the top bit set.
+    Command,
 }
 
 /// The result for a chunk of the input.

@@ -43,7 +43,7 @@ impl Lengths {
     ghost use Rattle.std.specs.Prelude.{option_to_list};
     ghost use Rattle.ddcmp_input.specs.Lengths.{begun, after_length, entry_of_length};
     ghost use Rattle.ddcmp_input.specs.Lengths.{after_byte, entry_of_byte, after_bytes};
-    ghost use Rattle.ddcmp_input.specs.Lengths.{entries_of_bytes, is_unfinished};
+    ghost use Rattle.ddcmp_input.specs.Lengths.{entries_of_bytes, is_between, is_unfinished};
 
     /// Makes a parser that has read nothing. It allocates all memory that it will need.
     pub fn new(alloc: Global, max: u16) -> Result<Lengths, AllocError>
@@ -188,6 +188,13 @@ impl Lengths {
         ensures { result.now ≡ self.now.message }
     {
         &self.message
+    }
+
+    /// Returns whether the next byte is the first of a length.
+    pub fn is_between(&self) -> bool
+        ensures { result ≡ is_between self.now.place }
+    {
+        matches!(self.place, LengthPlace::Start)
     }
 
     /// Returns whether a length or a message is incomplete: if the input ends here, it is

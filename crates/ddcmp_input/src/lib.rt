@@ -1,6 +1,6 @@
 //! Parses the input of a program, in chunks of any size, without I/O. `HexLines` and `Lengths` read
-//! messages: one a line in hexadecimal digits, or each after its length as two bytes. `Dump` reads
-//! dumps of bytes, as `hexdump -C`, `xxd` and `od -A x -t x1` write them: it replaces everything
+//! messages: one a line in hexadecimal digits, or each after its length as two bytes; `Records`
+//! reads the latter with commands among them. `Dump` reads dumps of bytes, as `hexdump -C`, `xxd` and `od -A x -t x1` write them: it replaces everything
 //! but the digits of the data by blanks, chunk by chunk, and reports a line that isn't one of a
 //! dump by its number.
 //!
@@ -15,9 +15,11 @@ mod hex_lines;
 mod lengths;
 pub mod message_laws;
 mod place;
+mod records;
 
 pub use dump::{Dump, NotDumped};
 pub use entry::{Entry, PushedEntry};
 pub use hex_lines::HexLines;
 pub use lengths::Lengths;
 pub use place::Place;
+pub use records::Records;

@@ -5,7 +5,7 @@ use Rattle.std.proofs.Common.{append-nil, None, option_to_list}
 use Rattle.std.proofs.Math.Seq.{drop-append_seam}
 use Rattle.ddcmp_input.specs.declared.entry.Entry.{Entry}
 use Rattle.ddcmp_input.specs.declared.entry.Entry.TheVariants.{Message, NotHexadecimal, TooLong}
-use Rattle.ddcmp_input.specs.declared.entry.Entry.TheVariants.{Empty}
+use Rattle.ddcmp_input.specs.declared.entry.Entry.TheVariants.{Command, Empty}
 use Rattle.std.specs.Prelude.{◌||◌}
 use Rattle.ddcmp_proto.specs.Config.{first_refusal}
 use Rattle.ddcmp_input.specs.InBinary.{in_binary}
@@ -120,6 +120,7 @@ offers_calm (Message ∷ rest) message new = (tt, tt)
 offers_calm (NotHexadecimal ∷ rest) message new = tt
 offers_calm (TooLong ∷ rest) message new = tt
 offers_calm (Empty ∷ rest) message new = tt
+offers_calm (Command ∷ rest) message new = tt
 
 -- ---- what came before is left out
 
@@ -447,7 +448,7 @@ writes_anew made c s is =
 
 pub stays_first : (made : Made) → Stays made (first_connection made)
 stays_first made = record {
-  holds = (begins made.options made.kind made.line made.of_data).0;
+  holds = (begins made.options made.kind made.line made.plain).0;
   read = none_since (messages_of made.options.form made.options.config.max []);
   delivered = none_since (mail_in []);
 }
@@ -473,7 +474,7 @@ pub since_first : (made : Made)
     → links.new_history made.options.config made.options.timer_ms made.line
     ≡ since made (first_connection made) 0
 since_first made =
-    (begins made.options made.kind made.line made.of_data).1
+    (begins made.options made.kind made.line made.plain).1
     ∙ (λ i. parts (first_connection made).history.session.link [] []
     (e (messages_of made.options.form made.options.config.max [])
     (ap (λ (l : LinkHistory). l.accepted) begun) i)
@@ -482,7 +483,7 @@ since_first made =
     begun
         : link_history made.options.form made.options.config.max (first_connection made).history 0
         ≡ links.new_history made.options.config made.options.timer_ms made.line
-    begun = sym (begins made.options made.kind made.line made.of_data).1
+    begun = sym (begins made.options made.kind made.line made.plain).1
 
     e : (a : List (List ℕ)) → a ≡ [] → a ≡ drop (length a) a
     e a none = none ∙ sym (all_left_out a)

@@ -1,4 +1,6 @@
 -- Two links that ended well: what the one read is what the other wrote.
+use Rattle.ddcmp_laws.specs.Sessions.{IsPlain}
+use Rattle.ddcmp_streams.specs.declared.messages.MessageForm.TheVariants as form
 use Rattle.std.proofs.Common.{◌≡◌, ◌∙◌, ap, sym, subst, refl, ℕ, Bool, true, false, List, []}
 use Rattle.std.proofs.Common.{Option, Some, None, arith, Result, Ok, Err}
 use Rattle.std.specs.Prelude.{◌≤◌}
@@ -48,13 +50,22 @@ pub record WasRun (is_well : Bool) (options : Options) (last : SessionView) (aft
   pub left : List ℕ
   pub follows : Follows (log_of ran) left after.log
 
-pub was-run : (is_well : Bool) (options : Options) → options.maintenance ≡ false
+plain-binary : (options : Options) → IsBinary options → IsPlain options
+plain-binary options binary = record {
+  of_data = binary.of_data;
+  no_events = λ e. no (sym binary.form ∙ e);
+}
+  where
+    no : form.Binary ≡ form.Events → ⊥
+    no e = cc
+
+pub was-run : (is_well : Bool) (options : Options) → IsPlain options
     → (kind : LineKind) (last : SessionView) (after : Traffic)
     → RunsNew is_well options kind (Some no_traffic) last (Some after)
     → WasRun is_well options last after
-was-run is_well options of_data kind last after new =
+was-run is_well options plain kind last after new =
     let made : Made =
-    record { options = options; of_data = of_data; kind = kind; line = new.line } in
+    record { options = options; plain = plain; kind = kind; line = new.line } in
     let ends = new.ends.ends in
     let a =
     ends.over (first_connection made) no_traffic refl refl (agrees_first made new.clear) in
@@ -142,8 +153,8 @@ pub bytes-arrive : (options other_options : Options) (kind other_kind : LineKind
     → IsOneLine options other_options t u → BytesArrive options t u
 bytes-arrive options other_options kind other_kind last other_last t u f g binary other_binary
     ran none other line messages fit file =
-    let a = was-run true options binary.of_data kind last t ran in
-    let b = was-run true other_options other_binary.of_data other_kind other_last u other in
+    let a = was-run true options (plain-binary options binary) kind last t ran in
+    let b = was-run true other_options (plain-binary other_options other_binary) other_kind other_last u other in
     let both =
     over-one-line a.ran b.ran options other_options t u a.left b.left a.same b.same f g a.done
     b.done a.follows b.follows line in
@@ -190,7 +201,7 @@ all-of : (is_well : Bool) (options : Options) (binary : IsBinary options) (kind 
     → RunsNew is_well options kind (Some no_traffic) last (Some after)
     → Extended options after last after.written
 all-of is_well options binary kind last after new =
-    let w = was-run is_well options binary.of_data kind last after new in
+    let w = was-run is_well options (plain-binary options binary) kind last after new in
     subst (λ (o : Options). Extended o after last after.written) w.same
     (extended is_well w.ran.made w.ran.steps w.held w.t after last w.left w.done w.finished
     w.follows

@@ -1,7 +1,7 @@
 -- Runs over devices that ended well: what the output took of them.
 use Rattle.std.proofs.Common.{◌≡◌, ◌≢◌, ◌≤◌, ◌∙◌, ap, sym, subst, refl, ℕ, Bool, true, false, arith}
 use Rattle.std.proofs.Common.{List, [], ◌∷◌, ◌++◌, ◌⊎◌, inl, inr, map, drop, length, Some}
-use Rattle.std.proofs.Common.{None, absurd, append_assoc, append-nil, take}
+use Rattle.std.proofs.Common.{None, append_assoc, append-nil, take}
 use Rattle.std.proofs.lemmas.List.{take-append-drop}
 use Rattle.ddcmp_input.specs.InBinary.{in_binary}
 use Rattle.ddcmp_io.specs.Queue.{QueueView}

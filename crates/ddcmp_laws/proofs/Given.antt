@@ -5,17 +5,19 @@ use Rattle.std.proofs.Common.{List, [], ◌∷◌, ◌++◌, map, arith, append_
 use Rattle.std.proofs.Common.{Some, None, option_to_list}
 use Rattle.ddcmp_input.specs.declared.entry.Entry.{Entry}
 use Rattle.ddcmp_input.specs.declared.entry.Entry.TheVariants.{Message, NotHexadecimal, TooLong}
-use Rattle.ddcmp_input.specs.declared.entry.Entry.TheVariants.{Empty}
+use Rattle.ddcmp_input.specs.declared.entry.Entry.TheVariants.{Command, Empty}
 use Rattle.ddcmp_input.specs.HexLines.{HexView}
 use Rattle.ddcmp_input.specs.HexLines as hex
 use Rattle.ddcmp_input.specs.InBinary as binary
 use Rattle.ddcmp_input.specs.InLines as lines
 use Rattle.ddcmp_input.specs.Lengths.{LengthsView}
 use Rattle.ddcmp_input.specs.Lengths as lengths
+use Rattle.ddcmp_input.specs.Records as records
 use Rattle.ddcmp_input.proofs.BinaryLaws as in_binary
 use Rattle.ddcmp_input.proofs.HexLinesLaws as hex_laws
 use Rattle.ddcmp_input.proofs.LengthsLaws as length_laws
 use Rattle.ddcmp_input.proofs.LineLaws as in_lines
+use Rattle.ddcmp_input.proofs.RecordsLaws as record_laws
 use Rattle.ddcmp_streams.specs.declared.messages.MessageForm.{MessageForm}
 use Rattle.ddcmp_streams.specs.declared.messages.MessageForm.TheVariants as form
 use Rattle.ddcmp_streams.specs.declared.messages.Messages.{Messages}
@@ -47,6 +49,7 @@ among_one (Some Message) = omega arith
 among_one (Some NotHexadecimal) = omega arith
 among_one (Some TooLong) = omega arith
 among_one (Some Empty) = omega arith
+among_one (Some Command) = omega arith
 
 none_by : (e : Option Entry) (message : List ℕ) → messages_among (option_to_list e) ≡ 0
     → read_by (option_to_list e) message ≡ []
@@ -56,6 +59,7 @@ none_by (Some Message) message none = cc
 none_by (Some NotHexadecimal) message none = refl
 none_by (Some TooLong) message none = refl
 none_by (Some Empty) message none = refl
+none_by (Some Command) message none = refl
 
 two_none : (a b n : ℕ) → n ≡ a + b → n ≡ 0 → (a ≡ 0) × (b ≡ 0)
 two_none a b n e none = (omega (arith, e, none), omega (arith, e, none))
@@ -124,14 +128,7 @@ messages_more form.Binary max input more =
       λ m is none. binary_none more v (subst (λ x. messages_among (entries_of_input more x) ≡ 0)
           is none),
     )
-messages_more form.Events max input more =
-    let v = lengths.after_bytes input (lengths.begun max) in (
-      got_in (binary.told_in more v),
-      ap got_in (in_binary.told_more input more (lengths.begun max))
-          ∙ got_more (binary.told_in input (lengths.begun max)) (binary.told_in more v),
-      λ m is none. binary_none more v (subst (λ x. messages_among (entries_of_input more x) ≡ 0)
-          is none),
-    )
+messages_more form.Events max input more = ([], refl, λ m is none. refl)
 
 -- ---- what is left, and the end
 
@@ -140,13 +137,13 @@ entries_more : (xs ys : List ℕ) (m : Messages)
     ≡ entries_of_input xs m ++ entries_of_input ys (after_input xs m)
 entries_more xs ys (Digits v) = hex_laws.entries_of_more xs ys v
 entries_more xs ys (Binary v) = length_laws.entries_of_more xs ys v
-entries_more xs ys (Events v) = length_laws.entries_of_more xs ys v
+entries_more xs ys (Events v) = record_laws.entries_of_more xs ys v
 
 abbrev ending : MessageForm → Bool → List ℕ
 ending f over = cond over (end_in f) []
 
 nothing : (m : Messages) → messages_among (entries_of_input [] m) ≡ 0
-unfolding messages_among hex.entries_of_bytes lengths.entries_of_bytes
+unfolding messages_among hex.entries_of_bytes lengths.entries_of_bytes records.entries_of_bytes
 nothing (Digits v) = refl
 nothing (Binary v) = refl
 nothing (Events v) = refl

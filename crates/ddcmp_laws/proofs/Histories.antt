@@ -11,7 +11,7 @@ use Rattle.ddcmp_laws.specs.Links.{after_step, IsHistory, after_history, offered
 use Rattle.ddcmp_laws.specs.Links.{offered_in}
 use Rattle.ddcmp_session.specs.Calls.{SessionHistory, new_session, SessionStep}
 use Rattle.ddcmp_session.specs.Calls.{after_session_step, IsSessionHistory, after_session_steps}
-use Rattle.ddcmp_laws.specs.Sessions.{messages_of, link_steps_of, link_steps_in, IsOfLink}
+use Rattle.ddcmp_laws.specs.Sessions.{IsPlain, messages_of, link_steps_of, link_steps_in, IsOfLink}
 use Rattle.ddcmp_laws.proofs.Holding.{Holds, Leads, StepLeads, link_history}
 use Rattle.ddcmp_laws.proofs.LinkSteps.{begins, step_leads}
 
@@ -70,7 +70,7 @@ history_leads f max (step ∷ rest) h k does holds =
 -- ---- from a new session
 
 module _ (o : Options) (kind : LineKind) (line : ReaderView) (steps : List SessionStep)
-    (of_data : o.maintenance ≡ false)
+    (plain : IsPlain o)
     (does : IsSessionHistory steps (new_session o kind line)) where
   abbrev new : SessionHistory
   new = new_session o kind line
@@ -78,13 +78,13 @@ module _ (o : Options) (kind : LineKind) (line : ReaderView) (steps : List Sessi
   leads : HistoryLeads o.form o.config.max steps (new_session o kind line) 0
   leads =
       history_leads o.form o.config.max steps (new_session o kind line) 0 does
-      (begins o kind line of_data).0
+      (begins o kind line plain).0
 
   pub are_calls : IsHistory (link_steps_in steps (new_session o kind line))
       (new_history o.config o.timer_ms line)
   are_calls =
       subst (IsHistory (link_steps_in steps (new_session o kind line)))
-      (sym (begins o kind line of_data).1) leads.0.0
+      (sym (begins o kind line plain).1) leads.0.0
 
   pub are_same : IsOfLink o.form o.config.max (after_session_steps steps (new_session o kind line))
       (after_history (link_steps_in steps (new_session o kind line))
@@ -92,7 +92,7 @@ module _ (o : Options) (kind : LineKind) (line : ReaderView) (steps : List Sessi
   are_same =
       let e =
       ap (after_history (link_steps_in steps (new_session o kind line)))
-      (begins o kind line of_data).1
+      (begins o kind line plain).1
       ∙ leads.0.1.1 in
       record {
         link = ap (λ (l : LinkHistory). l.link) e;
@@ -108,4 +108,4 @@ module _ (o : Options) (kind : LineKind) (line : ReaderView) (steps : List Sessi
       sym
       (leads.2
       ∙ ap (λ xs. xs ++ offered_in (link_steps_in steps (new_session o kind line)))
-      (ap (λ (l : LinkHistory). l.accepted) (sym (begins o kind line of_data).1)))
+      (ap (λ (l : LinkHistory). l.accepted) (sym (begins o kind line plain).1)))

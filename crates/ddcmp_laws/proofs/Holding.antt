@@ -1,10 +1,11 @@
 -- What stays of a session with its history, and calls that leave its input.
-use Rattle.std.proofs.Common.{Bool, ◌≡◌, ℕ, zero, suc, ◌+◌, false, List, [], ◌∷◌}
+use Rattle.std.proofs.Common.{Bool, ◌≡◌, ◌≢◌, ℕ, zero, suc, ◌+◌, false, List, [], ◌∷◌}
 use Rattle.std.proofs.Common.{◌++◌, refl, sym, ◌∙◌, ap}
 use Rattle.std.proofs.Common.{arith, append-nil}
 use Rattle.ddcmp_station.specs.Linking.{LinkView}
 use Rattle.ddcmp_station.specs.Linking.{after_frame, after_frames}
 use Rattle.ddcmp_streams.specs.declared.messages.MessageForm.{MessageForm}
+use Rattle.ddcmp_streams.specs.declared.messages.MessageForm.TheVariants as form
 use Rattle.ddcmp_streams.specs.Messages.{messages_begun, after_input}
 use Rattle.ddcmp_session.specs.Session.{SessionView, form_of}
 use Rattle.ddcmp_laws.specs.Links.{LinkCall, FillsOne}
@@ -25,6 +26,7 @@ pub record Holds (f : MessageForm) (max : ℕ) (h : SessionHistory) : Type 0 whe
       → h.session.messages ≡ after_input h.input (messages_begun f max)
   pub text : IsText f h.written h.session.output h.shown
   pub of_data : h.session.options.maintenance ≡ false
+  pub plain : f ≢ form.Events
 
 -- the history of its link
 abbrev pub link_history : MessageForm → ℕ → SessionHistory → ℕ → LinkHistory
@@ -134,6 +136,7 @@ holds_on {told} f max h new used gone written shown k same read longest text mod
       ∙ ap (λ ys. after_input ys (messages_begun f max)) (sym (append-nil h.input));
   text = text;
   of_data = mode ∙ k.of_data;
+  plain = k.plain;
 }
 
 -- the text stays

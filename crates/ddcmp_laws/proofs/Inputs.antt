@@ -1,12 +1,12 @@
 -- The messages of an input: what some bytes of it complete, and that these are never too long.
-use Rattle.std.proofs.Common.{◌≡◌, ℕ, ◌+◌, ◌-◌, ◌*◌, ◌≤◌, Bool, true, false, cond, List, [], ◌∷◌}
+use Rattle.std.proofs.Common.{◌≡◌, ◌≢◌, ℕ, ◌+◌, ◌-◌, ◌*◌, ◌≤◌, Bool, true, false, cond, List, [], ◌∷◌}
 use Rattle.std.proofs.Common.{◌++◌, ◌⊎◌, inl, inr, length, map, refl, sym, ◌∙◌, ap, subst, arith}
 use Rattle.std.proofs.Common.{append_assoc, length-append, Option, Some, None}
 use Rattle.std.proofs.Common.{option_to_list}
 use Rattle.std.specs.Prelude.{◌==◌, nat_le}
 use Rattle.ddcmp_input.specs.declared.entry.Entry.{Entry}
 use Rattle.ddcmp_input.specs.declared.entry.Entry.TheVariants.{Message, NotHexadecimal, TooLong}
-use Rattle.ddcmp_input.specs.declared.entry.Entry.TheVariants.{Empty}
+use Rattle.ddcmp_input.specs.declared.entry.Entry.TheVariants.{Command, Empty}
 use Rattle.ddcmp_input.specs.declared.lengths.LengthPlace.{LengthPlace}
 use Rattle.ddcmp_input.specs.declared.lengths.LengthPlace.TheVariants.{Start, Half, Inside}
 use Rattle.ddcmp_input.specs.declared.lengths.LengthPlace.TheVariants.{Skipping}
@@ -21,10 +21,12 @@ use Rattle.ddcmp_input.specs.InLines as lines
 use Rattle.ddcmp_input.specs.Lengths.{LengthsView, is_refused, place_before, is_last}
 use Rattle.ddcmp_input.specs.Lengths.{entry_of_length}
 use Rattle.ddcmp_input.specs.Lengths as lengths
+use Rattle.ddcmp_input.specs.Records as records
 use Rattle.ddcmp_input.specs.Told.{Told, told_of}
 use Rattle.ddcmp_input.proofs.BinaryLaws as in_binary
 use Rattle.ddcmp_input.proofs.LineLaws as in_lines
 use Rattle.ddcmp_input.proofs.LengthsLaws as length_laws
+use Rattle.ddcmp_input.proofs.RecordsLaws as record_laws
 use Rattle.ddcmp_input.proofs.HexLinesLaws as hex_laws
 use Rattle.ddcmp_streams.specs.declared.messages.MessageForm.{MessageForm}
 use Rattle.ddcmp_streams.specs.declared.messages.MessageForm.TheVariants as form
@@ -71,6 +73,7 @@ got_told (Some Message) message = refl
 got_told (Some NotHexadecimal) message = refl
 got_told (Some TooLong) message = refl
 got_told (Some Empty) message = refl
+got_told (Some Command) message = refl
 
 abbrev ReadsBinary : List ℕ → LengthsView → Type 0
 ReadsBinary used v =
@@ -113,6 +116,7 @@ got_told_lines (Some Message) number message = refl
 got_told_lines (Some NotHexadecimal) number message = refl
 got_told_lines (Some TooLong) number message = refl
 got_told_lines (Some Empty) number message = refl
+got_told_lines (Some Command) number message = refl
 
 abbrev ReadsLines : List ℕ → HexView → Type 0
 ReadsLines used v =
@@ -148,9 +152,9 @@ ReadsMore f max input used m =
     ≡ messages_of f max input ++ read_by (entries_of_input used m) (message_in (after_input used m))
 
 pub read_more : (f : MessageForm) (max : ℕ) (input used : List ℕ) (m : Messages)
-    → m ≡ after_input input (messages_begun f max) → CompletesLast used m
+    → f ≢ form.Events → m ≡ after_input input (messages_begun f max) → CompletesLast used m
     → ReadsMore f max input used m
-read_more form.Digits max input used m is part =
+read_more form.Digits max input used m plain is part =
     subst (ReadsMore form.Digits max input used) (sym is) (
     ap (λ ts. got_in (map second ts)) (in_lines.told_more input used (hex.begun max))
     ∙ ap got_in (map_more second (lines.told_in input (hex.begun max)) (lines.told_in used v))
@@ -162,7 +166,7 @@ read_more form.Digits max input used m is part =
   where
     v : HexView
     v = hex.after_bytes input (hex.begun max)
-read_more form.Binary max input used m is part =
+read_more form.Binary max input used m plain is part =
     subst (ReadsMore form.Binary max input used) (sym is) (
     ap got_in (in_binary.told_more input used (lengths.begun max))
     ∙ got_more (binary.told_in input (lengths.begun max)) (binary.told_in used v)
@@ -172,16 +176,7 @@ read_more form.Binary max input used m is part =
   where
     v : LengthsView
     v = lengths.after_bytes input (lengths.begun max)
-read_more form.Events max input used m is part =
-    subst (ReadsMore form.Events max input used) (sym is) (
-    ap got_in (in_binary.told_more input used (lengths.begun max))
-    ∙ got_more (binary.told_in input (lengths.begun max)) (binary.told_in used v)
-    ∙ ap (λ ms. messages_of form.Events max input ++ ms)
-    (read_binary used v (subst (CompletesLast used) is part))
-    )
-  where
-    v : LengthsView
-    v = lengths.after_bytes input (lengths.begun max)
+read_more form.Events max input used m plain is part = absurd (plain refl)
 
 pub after_more : (f : MessageForm) (max : ℕ) (input used : List ℕ) (m : Messages)
     → m ≡ after_input input (messages_begun f max)
@@ -193,7 +188,7 @@ after_more form.Binary max input used m is =
     ∙ ap Binary (sym (length_laws.after_more input used (lengths.begun max)))
 after_more form.Events max input used m is =
     ap (after_input used) is
-    ∙ ap Events (sym (length_laws.after_more input used (lengths.begun max)))
+    ∙ ap Events (sym (record_laws.after_more input used (records.begun max)))
 
 -- ---- no message is too long: in binary
 
@@ -350,6 +345,7 @@ entry_fits max v f = by v.refused f.why
     by (Some NotHexadecimal) why = tt
     by (Some TooLong) why = tt
     by (Some Empty) why = tt
+    by (Some Command) why = tt
 
 abbrev StaysLines : ℕ → ℕ → HexView → Type 0
 StaysLines max byte v =
@@ -452,8 +448,8 @@ fits_in_lines max used v f part = by (last used)
         subst (λ u. ReadFits max u (Digits v)) (sym r.2) (one r.0 r.1 (part r.0 r.1 r.2))
 
 pub read_fits : (f : MessageForm) (max : ℕ) (input used : List ℕ) (m : Messages)
-    → m ≡ after_input input (messages_begun f max) → CompletesLast used m → ReadFits max used m
-read_fits form.Digits max input used m is part =
+    → f ≢ form.Events → m ≡ after_input input (messages_begun f max) → CompletesLast used m → ReadFits max used m
+read_fits form.Digits max input used m plain is part =
     subst (ReadFits max used) (sym is)
     (fits_in_lines max used (hex.after_bytes input (hex.begun max))
     (fit_lines max input (hex.begun max) (record { most = refl; short = omega arith; why = none }))
@@ -461,11 +457,8 @@ read_fits form.Digits max input used m is part =
   where
     none : None ≡ Some Message → ⊥
     none e = cc
-read_fits form.Binary max input used m is part =
+read_fits form.Binary max input used m plain is part =
     subst (ReadFits max used) (sym is)
     (fits_in_binary max used (lengths.after_bytes input (lengths.begun max))
     (fit_binary max input (lengths.begun max) (refl, tt)) (subst (CompletesLast used) is part))
-read_fits form.Events max input used m is part =
-    subst (ReadFits max used) (sym is)
-    (fits_in_binary max used (lengths.after_bytes input (lengths.begun max))
-    (fit_binary max input (lengths.begun max) (refl, tt)) (subst (CompletesLast used) is part))
+read_fits form.Events max input used m plain is part = absurd (plain refl)

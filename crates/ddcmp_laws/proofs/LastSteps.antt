@@ -8,7 +8,7 @@ use Rattle.ddcmp_frame.proofs.ReadingLaws.{items-nothing}
 use Rattle.ddcmp_frame.proofs.Tests.{eqb-true}
 use Rattle.ddcmp_window.specs.Sender.{answer_unless}
 use Rattle.ddcmp_input.specs.declared.entry.Entry.{Entry}
-use Rattle.ddcmp_input.specs.declared.entry.Entry.TheVariants.{Empty, Message, NotHexadecimal}
+use Rattle.ddcmp_input.specs.declared.entry.Entry.TheVariants.{Command, Empty, Message, NotHexadecimal}
 use Rattle.ddcmp_input.specs.declared.entry.Entry.TheVariants.{TooLong}
 use Rattle.ddcmp_core.specs.Core.{CoreView, IsSound}
 use Rattle.ddcmp_core.specs.declared.notice.Notice.{Notice}
@@ -184,6 +184,7 @@ offers-calm (Message ∷ rest) message new = (tt, tt)
 offers-calm (NotHexadecimal ∷ rest) message new = tt
 offers-calm (TooLong ∷ rest) message new = tt
 offers-calm (Empty ∷ rest) message new = tt
+offers-calm (Command ∷ rest) message new = tt
 
 abbrev IsCalmCall : SessionCall → Type 0
 IsCalmCall Connected = ⊥

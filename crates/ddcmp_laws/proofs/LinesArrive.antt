@@ -25,7 +25,7 @@ use Rattle.ddcmp_laws.specs.MailLines.{mails_in}
 use Rattle.ddcmp_laws.specs.Pipe.{undelivered}
 use Rattle.ddcmp_laws.specs.Prefix.{Begins}
 use Rattle.ddcmp_laws.specs.SessionRuns.{Ran, given_since, got_to}
-use Rattle.ddcmp_laws.specs.Sessions.{got_in, mail_in, messages_of, texts_of}
+use Rattle.ddcmp_laws.specs.Sessions.{IsPlain, got_in, mail_in, messages_of, texts_of}
 use Rattle.ddcmp_laws.proofs.Anew.{text_of_all}
 use Rattle.ddcmp_laws.proofs.BytesArrive.{WasRun, over-one-line, was-run}
 use Rattle.ddcmp_laws.proofs.Extended.{Extended, delivered_to, extended}
@@ -92,11 +92,20 @@ text-is options after new written x is =
     ∙ ap (λ (o : Options). texts_of o.form h.shown) x.same
     ∙ ap (λ (f : MessageForm). texts_of f h.shown) is
 
+plain-lines : (options : Options) → IsInLines options → IsPlain options
+plain-lines options lines = record {
+  of_data = lines.of_data;
+  no_events = λ e. no (sym lines.form ∙ e);
+}
+  where
+    no : form.Digits ≡ form.Events → ⊥
+    no e = cc
+
 output-of : (is_well : Bool) (options : Options) → IsInLines options → (kind : LineKind)
     (last : SessionView) (after : Traffic)
     → RunsNew is_well options kind (Some no_traffic) last (Some after) → Output options after
 output-of is_well options lines kind last after new =
-    let w = was-run is_well options lines.of_data kind last after new in
+    let w = was-run is_well options (plain-lines options lines) kind last after new in
     subst (λ (o : Options). Output o after) w.same
     (by w (ap (λ (o : Options). o.form) w.same ∙ lines.form) w.finished.finishes.writes refl)
   where
@@ -193,8 +202,8 @@ pub lines-arrive : (options other_options : Options) (kind other_kind : LineKind
     → IsOneLine options other_options t u → LinesArrive options t u
 lines-arrive options other_options kind other_kind last other_last t u f g in_lines_a in_lines_b
     ran none other line of returns fit file =
-    let a = was-run true options in_lines_a.of_data kind last t ran in
-    let b = was-run true other_options in_lines_b.of_data other_kind other_last u other in
+    let a = was-run true options (plain-lines options in_lines_a) kind last t ran in
+    let b = was-run true other_options (plain-lines other_options in_lines_b) other_kind other_last u other in
     let both =
     over-one-line a.ran b.ran options other_options t u a.left b.left a.same b.same f g a.done
     b.done a.follows b.follows line in

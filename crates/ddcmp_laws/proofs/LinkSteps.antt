@@ -1,4 +1,5 @@
 -- The calls of a session are calls of its link, and the histories of both keep together.
+use Rattle.std.proofs.Common.{◌≢◌}
 use Rattle.std.proofs.Common.{◌≡◌, ℕ, Bool, true, false, cond, List, [], ◌∷◌}
 use Rattle.std.proofs.Common.{◌++◌, map, take, refl, sym, ◌∙◌, ap}
 use Rattle.std.proofs.Common.{append-nil, option_to_list}
@@ -39,7 +40,7 @@ use Rattle.ddcmp_session.specs.Calls.{OutputTook}
 use Rattle.ddcmp_session.specs.Calls.{Closed, HasReceived, HasDelivered, HasLeft, HasClosed}
 use Rattle.ddcmp_session.specs.Calls.{SessionDoes, Shown, Mail, Reports, SessionHistory}
 use Rattle.ddcmp_session.specs.Calls.{new_session, SessionStep, end_in, losses}
-use Rattle.ddcmp_laws.specs.Sessions.{messages_of, got_in, mail_in, texts_of, link_step}
+use Rattle.ddcmp_laws.specs.Sessions.{IsPlain, messages_of, got_in, mail_in, texts_of, link_step}
 use Rattle.ddcmp_laws.specs.Sessions.{offers_of, frames_put}
 use Rattle.ddcmp_laws.proofs.Texts.{mail_more, no_mail, mail_is, nothing_lost, notices_are}
 use Rattle.ddcmp_laws.proofs.Texts.{mail_text_is, lost_text_is, no_text, IsText, writes}
@@ -297,6 +298,7 @@ closed_step f max h left over r new k holds d =
             (reported_lost r (form_of h.session.messages) count) holds.text d.wrote
             (ap (λ g. reported_lost r g count) holds.kind ∙ lost_text_is r f h.session);
         of_data = ap (λ (x : SessionView). x.options.maintenance) d.stays ∙ holds.of_data;
+        plain = holds.plain;
       },
       no_offer f max h.input (link_step Halts new.link ∷ []) refl,
     )
@@ -318,6 +320,7 @@ holds_with_line f max b c h k =
       reads = k.reads;
       text = k.text;
       of_data = k.of_data;
+      plain = k.plain;
     }
 
 -- a session of data was connected
@@ -409,47 +412,40 @@ begun f o kind line =
     record h { session = record h.session { messages = messages_begun f o.config.max } }
 
 begun_holds : (f : MessageForm) (o : Options) (kind : LineKind) (line : ReaderView)
-    → o.maintenance ≡ false
+    → o.maintenance ≡ false → f ≢ form.Events
     → Holds f o.config.max (begun f o kind line)
     × (new_history o.config o.timer_ms line
     ≡ link_history f o.config.max (begun f o kind line) 0)
 unfolding begun got_in mail_in texts_of binary.told_in lines.told_in lengths.after_bytes
     hex.after_bytes
-begun_holds form.Digits o kind line of_data = (
+begun_holds form.Digits o kind line of_data plain = (
   record {
     kind = refl;
     longest = refl;
     reads = λ going. refl;
     text = refl;
     of_data = of_data;
+    plain = plain;
   },
   refl,
 )
-begun_holds form.Binary o kind line of_data = (
+begun_holds form.Binary o kind line of_data plain = (
   record {
     kind = refl;
     longest = refl;
     reads = λ going. refl;
     text = refl;
     of_data = of_data;
+    plain = plain;
   },
   refl,
 )
-begun_holds form.Events o kind line of_data = (
-  record {
-    kind = refl;
-    longest = refl;
-    reads = λ going. refl;
-    text = refl;
-    of_data = of_data;
-  },
-  refl,
-)
+begun_holds form.Events o kind line of_data plain = absurd (plain refl)
 
 pub begins : (o : Options) (kind : LineKind) (line : ReaderView)
-    → o.maintenance ≡ false
+    → IsPlain o
     → Holds o.form o.config.max (new_session o kind line)
     × (new_history o.config o.timer_ms line
     ≡ link_history o.form o.config.max (new_session o kind line) 0)
 unfolding begun
-begins o kind line of_data = begun_holds o.form o kind line of_data
+begins o kind line plain = begun_holds o.form o kind line plain.of_data plain.no_events

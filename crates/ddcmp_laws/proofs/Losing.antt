@@ -11,6 +11,11 @@ use Rattle.ddcmp_frame.specs.declared.nak.Nak.{Nak}
 use Rattle.ddcmp_input.specs.declared.entry.Entry.{Entry}
 use Rattle.ddcmp_input.specs.declared.entry.Entry.TheVariants.{Message, NotHexadecimal, TooLong}
 use Rattle.ddcmp_input.specs.declared.entry.Entry.TheVariants.{Empty}
+use Rattle.ddcmp_input.specs.declared.entry.Entry.TheVariants as entry
+use Rattle.ddcmp_streams.specs.Messages.{command_in}
+use Rattle.ddcmp_streams.specs.declared.messages.Command.{Command}
+use Rattle.ddcmp_streams.specs.declared.messages.Command.TheVariants as command
+use Rattle.ddcmp_session.specs.Session.{after_command, after_message, is_held}
 use Rattle.ddcmp_window.specs.Sender.{accept_refusal, answer_unless}
 use Rattle.ddcmp_window.specs.declared.sender.SendRefusal.TheVariants.{WrongState}
 use Rattle.ddcmp_core.specs.declared.counters.NakCounts.{NakCounts}
@@ -177,26 +182,61 @@ wake-halted now d halted =
 
 entry-halted : (e : Entry) (s : SessionView) → s.link.station.core.station.state ≡ Halted
     → (after_entry e s).link ≡ s.link
-entry-halted Message s halted = offered-in-halted s.options.maintenance _ s.link halted
+entry-halted Message s halted = by (is_held s)
+  where
+    by : (held : Bool) → (after_message held s).link ≡ s.link
+    by true = refl
+    by false = offered-in-halted s.options.maintenance _ s.link halted
+entry-halted entry.Command s halted = by (command_in s.messages)
+  where
+    by : (c : Command) → (after_command c s).link ≡ s.link
+    by command.Ready = refl
+    by command.Restart = refl
+    by command.Report = refl
+    by command.Quit = refl
+    by command.Unknown = refl
 entry-halted NotHexadecimal s halted = refl
 entry-halted TooLong s halted = refl
 entry-halted Empty s halted = refl
 
-entry-keeps : (e : Entry) (s : SessionView)
-    → ((after_entry e s).has_line ≡ s.has_line) × ((after_entry e s).course ≡ s.course)
-entry-keeps Message s = (refl, refl)
-entry-keeps NotHexadecimal s = (refl, refl)
-entry-keeps TooLong s = (refl, refl)
-entry-keeps Empty s = (refl, refl)
+-- It keeps the line, and whether the station has run; and what was lost before stays so.
+pub record KeepsLine (s new : SessionView) : Type 0 where
+  pub line : new.has_line ≡ s.has_line
+  pub lost : new.course.lost ≡ 0 → s.course.lost ≡ 0
+  pub run : new.course.has_run ≡ s.course.has_run
+
+kept-line : (s : SessionView) → KeepsLine s s
+kept-line s = record { line = refl; lost = λ e. e; run = refl }
+
+message-keeps : (held : Bool) (s : SessionView) → KeepsLine s (after_message held s)
+message-keeps true s = record {
+  line = refl;
+  lost = λ e. omega (arith, e);
+  run = refl;
+}
+message-keeps false s = record { line = refl; lost = λ e. e; run = refl }
+
+command-keeps : (c : Command) (s : SessionView) → KeepsLine s (after_command c s)
+command-keeps command.Ready s = record { line = refl; lost = λ e. e; run = refl }
+command-keeps command.Restart s = record { line = refl; lost = λ e. e; run = refl }
+command-keeps command.Report s = kept-line s
+command-keeps command.Quit s = record { line = refl; lost = λ e. e; run = refl }
+command-keeps command.Unknown s = record { line = refl; lost = λ e. e; run = refl }
+
+entry-keeps : (e : Entry) (s : SessionView) → KeepsLine s (after_entry e s)
+entry-keeps Message s = message-keeps (is_held s) s
+entry-keeps entry.Command s = command-keeps (command_in s.messages) s
+entry-keeps NotHexadecimal s = record { line = refl; lost = λ e. e; run = refl }
+entry-keeps TooLong s = record { line = refl; lost = λ e. e; run = refl }
+entry-keeps Empty s = record { line = refl; lost = λ e. e; run = refl }
 
 pub entries-halted : (es : List Entry) (s : SessionView)
     → s.link.station.core.station.state ≡ Halted → (after_entries es s).link ≡ s.link
 entries-halted [] s halted = refl
 entries-halted (e ∷ rest) s halted = entry-halted e s halted
 
-pub entries-keep : (es : List Entry) (s : SessionView)
-    → ((after_entries es s).has_line ≡ s.has_line) × ((after_entries es s).course ≡ s.course)
-entries-keep [] s = (refl, refl)
+pub entries-keep : (es : List Entry) (s : SessionView) → KeepsLine s (after_entries es s)
+entries-keep [] s = kept-line s
 entries-keep (e ∷ rest) s = entry-keeps e s
 
 and-false : (a b : Bool) → b ≡ false → a && b ≡ false
@@ -378,6 +418,13 @@ Outcome old new =
     Leaves old new
     ⊎ (LosesLine old new ⊎ (new ≡ after_connected new.link.station.line old))
 
+leaves-if : (old new : SessionView) → new.has_line ≡ old.has_line
+    → (new.course.lost ≡ 0 → old.course.lost ≡ 0)
+    → ((station_of old).state ≡ Halted → Stays (station_of old) (station_of new))
+    → Outcome old new
+leaves-if old new line lost station =
+    inl (record { line = line; lost = lost; station = station })
+
 leaves : (old new : SessionView)
     → (new.has_line ≡ old.has_line) × (new.course.lost ≡ old.course.lost)
     → ((station_of old).state ≡ Halted → Stays (station_of old) (station_of new))
@@ -391,43 +438,38 @@ input_read used old new does =
     let es = entries_of_input used old.messages in
     let s : SessionView = record old { messages = after_input used old.messages } in
     let k = entries-keep es s in
-    leaves old new (
-      ap (λ (x : SessionView). x.has_line) does ∙ k.0,
-      ap (λ (x : SessionView). x.course.lost) does ∙ ap (λ (c : Course). c.lost) k.1,
-    )
+    leaves-if old new (ap (λ (x : SessionView). x.has_line) does ∙ k.line)
+    (λ e. k.lost (sym (ap (λ (x : SessionView). x.course.lost) does) ∙ e))
     (λ halted. same-stays (station_of old) (station_of new) halted
     (ap station_of does
     ∙ ap (λ (d : LinkView). d.station.core.station) (entries-halted es s halted)))
 
-last-keeps : (s : SessionView)
-    → ((after_unfinished s).has_line ≡ s.has_line) × ((after_unfinished s).course ≡ s.course)
+last-keeps : (s : SessionView) → KeepsLine s (after_unfinished s)
 last-keeps s = by (is_message_unfinished s.messages)
   where
-    by : (b : Bool)
-        → ((cond b (record s { was_refused = true }) s).has_line ≡ s.has_line)
-        × ((cond b (record s { was_refused = true }) s).course ≡ s.course)
-    by true = (refl, refl)
-    by false = (refl, refl)
+    by : (b : Bool) → KeepsLine s (cond b (record s { was_refused = true }) s)
+    by true = record { line = refl; lost = λ e. e; run = refl }
+    by false = kept-line s
 
-end-keeps : (s : SessionView)
-    → ((after_input_end s).has_line ≡ s.has_line) × ((after_input_end s).course ≡ s.course)
+end-keeps : (s : SessionView) → KeepsLine s (after_input_end s)
 end-keeps s = by (takes_end s)
   where
     last : SessionView
     last = record s { messages = after_last s.messages; is_read = true }
 
-    k : ((after_last_line s).has_line ≡ s.has_line) × ((after_last_line s).course ≡ s.course)
+    k : KeepsLine last (after_last_line s)
     k = entries-keep (option_to_list (entry_of_last s.messages)) last
 
-    u : ((after_unfinished (after_last_line s)).has_line ≡ (after_last_line s).has_line)
-        × ((after_unfinished (after_last_line s)).course ≡ (after_last_line s).course)
+    u : KeepsLine (after_last_line s) (after_unfinished (after_last_line s))
     u = last-keeps (after_last_line s)
 
-    by : (b : Bool)
-        → ((cond b (after_unfinished (after_last_line s)) s).has_line ≡ s.has_line)
-        × ((cond b (after_unfinished (after_last_line s)) s).course ≡ s.course)
-    by true = (u.0 ∙ k.0, u.1 ∙ k.1)
-    by false = (refl, refl)
+    by : (b : Bool) → KeepsLine s (cond b (after_unfinished (after_last_line s)) s)
+    by true = record {
+      line = u.line ∙ k.line;
+      lost = λ e. k.lost (u.lost e);
+      run = u.run ∙ k.run;
+    }
+    by false = kept-line s
 
 unfinished-station : (s : SessionView) → station_of (after_unfinished s) ≡ station_of s
 unfinished-station s = by (is_message_unfinished s.messages)
@@ -454,10 +496,8 @@ ended-station s halted = by (takes_end s)
 input-ended : (old new : SessionView) → new ≡ after_input_end old → Outcome old new
 input-ended old new does =
     let k = end-keeps old in
-    leaves old new (
-      ap (λ (x : SessionView). x.has_line) does ∙ k.0,
-      ap (λ (x : SessionView). x.course.lost) does ∙ ap (λ (c : Course). c.lost) k.1,
-    )
+    leaves-if old new (ap (λ (x : SessionView). x.has_line) does ∙ k.line)
+    (λ e. k.lost (sym (ap (λ (x : SessionView). x.course.lost) does) ∙ e))
     (λ halted. same-stays (station_of old) (station_of new) halted
     (ap station_of does ∙ ended-station old halted))
 

@@ -192,14 +192,14 @@ module _ (first second : Made) (steps : List (End × SessionStep)) where
   pub made_links : links_made first second ≡ links_of first second (new_sessions first second) 0 0
   made_links =
       λ i. record {
-        a = (begins first.options first.kind first.line first.of_data).1 i;
-        b = (begins second.options second.kind second.line second.of_data).1 i;
+        a = (begins first.options first.kind first.line first.plain).1 i;
+        b = (begins second.options second.kind second.line second.plain).1 i;
       }
 
   pub new_hold : BothHold first second (new_sessions first second)
   new_hold = (
-    (begins first.options first.kind first.line first.of_data).0,
-    (begins second.options second.kind second.line second.of_data).0,
+    (begins first.options first.kind first.line first.plain).0,
+    (begins second.options second.kind second.line second.plain).0,
   )
 
   pub are_once : AreConnectedOnce steps

@@ -4,7 +4,7 @@ use Rattle.std.proofs.Common.{◌++◌, refl, sym, ◌∙◌, ap, subst, arith}
 use Rattle.std.proofs.Common.{option_to_list}
 use Rattle.ddcmp_input.specs.declared.entry.Entry.{Entry}
 use Rattle.ddcmp_input.specs.declared.entry.Entry.TheVariants.{Message, NotHexadecimal, TooLong}
-use Rattle.ddcmp_input.specs.declared.entry.Entry.TheVariants.{Empty}
+use Rattle.ddcmp_input.specs.declared.entry.Entry.TheVariants.{Command, Empty}
 use Rattle.ddcmp_station.specs.Linking.{LinkView, after_frame}
 use Rattle.ddcmp_io.specs.declared.carrier.End.{End}
 use Rattle.ddcmp_io.specs.declared.carrier.End.TheVariants.{A, B}
@@ -149,6 +149,7 @@ offers_start_none (Message ∷ rest) message d = refl
 offers_start_none (NotHexadecimal ∷ rest) message d = refl
 offers_start_none (TooLong ∷ rest) message d = refl
 offers_start_none (Empty ∷ rest) message d = refl
+offers_start_none (Command ∷ rest) message d = refl
 
 pub call_starts : (call : SessionCall) (s : SessionView) (new : LinkView)
     → starts_in_steps (link_steps_of call s new) ≡ connects_in_call call

@@ -1,14 +1,15 @@
 -- What a session reads of its input.
-use Rattle.std.proofs.Common.{◌≡◌, ℕ, ◌+◌, Bool, true, false, cond, List, [], ◌∷◌}
+use Rattle.std.proofs.Common.{◌≡◌, ◌≢◌, ℕ, ◌+◌, Bool, true, false, cond, List, [], ◌∷◌}
 use Rattle.std.proofs.Common.{◌++◌, refl, sym, ◌∙◌, ap, subst}
 use Rattle.std.proofs.Common.{append-nil, option_to_list}
 use Rattle.std.specs.Prelude.{◌&&◌, ◌||◌, not, is_some, Option, None, Some}
 use Rattle.ddcmp_input.specs.declared.entry.Entry.{Entry}
 use Rattle.ddcmp_input.specs.declared.entry.Entry.TheVariants.{Message, NotHexadecimal, TooLong}
-use Rattle.ddcmp_input.specs.declared.entry.Entry.TheVariants.{Empty}
+use Rattle.ddcmp_input.specs.declared.entry.Entry.TheVariants.{Command, Empty}
 use Rattle.ddcmp_input.specs.HexLines as hex
 use Rattle.ddcmp_input.specs.InBinary.{Fits}
 use Rattle.ddcmp_input.specs.Lengths as lengths
+use Rattle.ddcmp_input.specs.Records as records
 use Rattle.ddcmp_station.specs.Linking.{LinkView}
 use Rattle.ddcmp_station.specs.Linking.{after_offered, takes_message}
 use Rattle.ddcmp_streams.specs.declared.messages.MessageForm.{MessageForm}
@@ -18,7 +19,11 @@ use Rattle.ddcmp_streams.specs.Messages.{message_in, after_input, entries_of_inp
 use Rattle.ddcmp_streams.specs.Messages.{after_last, entry_of_last, has_last_line}
 use Rattle.ddcmp_streams.specs.Messages.{is_message_unfinished}
 use Rattle.ddcmp_session.specs.Session.{SessionView, form_of, takes_end, wants_input}
-use Rattle.ddcmp_session.specs.Session.{after_entries}
+use Rattle.ddcmp_session.specs.Session.{after_command, after_entries, after_message, is_barred}
+use Rattle.ddcmp_session.specs.Session.{is_held}
+use Rattle.ddcmp_streams.specs.Messages.{command_in}
+use Rattle.ddcmp_streams.specs.declared.messages.Command.TheVariants as command
+use Rattle.ddcmp_streams.specs.declared.messages.MessageForm.TheVariants as form
 use Rattle.ddcmp_session.specs.Session.{after_last_line, after_unfinished, after_offered_in}
 use Rattle.ddcmp_session.specs.Session.{takes_in}
 use Rattle.ddcmp_laws.specs.Links.{Offers}
@@ -47,46 +52,93 @@ Entered es s new =
     × IsEntered es (message_in s.messages) s.link new.link
     × (new.is_read ≡ s.is_read)
 
-pub entered : (es : List Entry) (s new : SessionView) → s.options.maintenance ≡ false
-    → new ≡ after_entries es s → Entered es s new
-entered [] s new of_data e = (
+-- without events no message is refused, and there are no commands
+not_held : (s : SessionView) → form_of s.messages ≢ form.Events → is_held s ≡ false
+not_held s plain = by s.messages plain
+  where
+    by : (m : Messages) → form_of m ≢ form.Events → is_barred m s.course ≡ false
+    by (Digits v) n = refl
+    by (Binary v) n = refl
+    by (Events v) n = absurd (n refl)
+
+no_command : (m : Messages) → form_of m ≢ form.Events → command_in m ≡ command.Unknown
+no_command (Digits v) n = refl
+no_command (Binary v) n = refl
+no_command (Events v) n = absurd (n refl)
+
+pub entered : (es : List Entry) (s new : SessionView) → form_of s.messages ≢ form.Events
+    → s.options.maintenance ≡ false → new ≡ after_entries es s → Entered es s new
+entered [] s new plain of_data e = (
   ap (λ (x : SessionView). x.messages) e,
   ap (λ (x : SessionView). x.output) e,
   ap (λ (x : SessionView). x.link) e,
   ap (λ (x : SessionView). x.is_read) e,
 )
-entered (Message ∷ rest) s new of_data e = (
-  ap (λ (x : SessionView). x.messages) e,
-  ap (λ (x : SessionView). x.output) e,
-  ap (λ (x : SessionView). x.link) e
-      ∙ ap (λ b. after_offered_in b (message_in s.messages) s.link) of_data,
-  ap (λ (x : SessionView). x.is_read) e,
-)
-entered (NotHexadecimal ∷ rest) s new of_data e = (
-  ap (λ (x : SessionView). x.messages) e,
-  ap (λ (x : SessionView). x.output) e,
-  ap (λ (x : SessionView). x.link) e,
-  ap (λ (x : SessionView). x.is_read) e,
-)
-entered (TooLong ∷ rest) s new of_data e = (
-  ap (λ (x : SessionView). x.messages) e,
-  ap (λ (x : SessionView). x.output) e,
-  ap (λ (x : SessionView). x.link) e,
-  ap (λ (x : SessionView). x.is_read) e,
-)
-entered (Empty ∷ rest) s new of_data e = (
+entered (Message ∷ rest) s new plain of_data e =
+    let is : new ≡ after_message false s = e ∙ ap (λ b. after_message b s) (not_held s plain) in (
+      ap (λ (x : SessionView). x.messages) is,
+      ap (λ (x : SessionView). x.output) is,
+      ap (λ (x : SessionView). x.link) is
+          ∙ ap (λ b. after_offered_in b (message_in s.messages) s.link) of_data,
+      ap (λ (x : SessionView). x.is_read) is,
+    )
+entered (Command ∷ rest) s new plain of_data e =
+    let is : new ≡ after_command command.Unknown s =
+    e ∙ ap (λ c. after_command c s) (no_command s.messages plain) in (
+      ap (λ (x : SessionView). x.messages) is,
+      ap (λ (x : SessionView). x.output) is,
+      ap (λ (x : SessionView). x.link) is,
+      ap (λ (x : SessionView). x.is_read) is,
+    )
+entered (NotHexadecimal ∷ rest) s new plain of_data e = (
   ap (λ (x : SessionView). x.messages) e,
   ap (λ (x : SessionView). x.output) e,
   ap (λ (x : SessionView). x.link) e,
   ap (λ (x : SessionView). x.is_read) e,
 )
+entered (TooLong ∷ rest) s new plain of_data e = (
+  ap (λ (x : SessionView). x.messages) e,
+  ap (λ (x : SessionView). x.output) e,
+  ap (λ (x : SessionView). x.link) e,
+  ap (λ (x : SessionView). x.is_read) e,
+)
+entered (Empty ∷ rest) s new plain of_data e = (
+  ap (λ (x : SessionView). x.messages) e,
+  ap (λ (x : SessionView). x.output) e,
+  ap (λ (x : SessionView). x.link) e,
+  ap (λ (x : SessionView). x.is_read) e,
+)
+
+-- so whether the input was read stays
+pub reads-on : (es : List Entry) (s : SessionView) → form_of s.messages ≢ form.Events
+    → (after_entries es s).is_read ≡ s.is_read
+reads-on [] s plain = refl
+reads-on (Message ∷ rest) s plain =
+    ap (λ b. (after_message b s).is_read) (not_held s plain)
+reads-on (NotHexadecimal ∷ rest) s plain = refl
+reads-on (TooLong ∷ rest) s plain = refl
+reads-on (Empty ∷ rest) s plain = refl
+reads-on (Command ∷ rest) s plain =
+    ap (λ c. (after_command c s).is_read) (no_command s.messages plain)
 
 abbrev SameMode : SessionView → SessionView → Type 0
 SameMode s new = new.options.maintenance ≡ s.options.maintenance
 
 entered_mode : (es : List Entry) (s : SessionView) → SameMode s (after_entries es s)
 entered_mode [] s = refl
-entered_mode (Message ∷ rest) s = refl
+entered_mode (Message ∷ rest) s = by (is_held s)
+  where
+    by : (held : Bool) → SameMode s (after_message held s)
+    by true = refl
+    by false = refl
+entered_mode (Command ∷ rest) s = by (command_in s.messages)
+  where
+    by : (c : command.the_data) → SameMode s (after_command c s)
+    by command.Ready = refl
+    by command.Restart = refl
+    by command.Report = refl
+    by command.Quit = refl
+    by command.Unknown = refl
 entered_mode (NotHexadecimal ∷ rest) s = refl
 entered_mode (TooLong ∷ rest) s = refl
 entered_mode (Empty ∷ rest) s = refl
@@ -118,6 +170,7 @@ entered_longest (Message ∷ rest) message old new e = ap longest_of e ∙ offer
 entered_longest (NotHexadecimal ∷ rest) message old new e = ap longest_of e
 entered_longest (TooLong ∷ rest) message old new e = ap longest_of e
 entered_longest (Empty ∷ rest) message old new e = ap longest_of e
+entered_longest (Command ∷ rest) message old new e = ap longest_of e
 
 pub read_holds : {told : Bool} (f : MessageForm) (max : ℕ) (h : SessionHistory) (used : List ℕ)
     (es : List Entry) (message : List ℕ) (new : SessionView) → Holds f max h
@@ -131,6 +184,7 @@ read_holds {told} f max h used es message new k r = record {
       ∙ after_more f max h.input used h.session.messages (k.reads (r.going going));
   text = text_on f max h new k r.output;
   of_data = r.mode ∙ k.of_data;
+  plain = k.plain;
 }
 
 pub offered_is : (es : List Entry) (message : List ℕ) (d : LinkView)
@@ -141,6 +195,7 @@ offered_is (Message ∷ rest) message d = refl
 offered_is (NotHexadecimal ∷ rest) message d = refl
 offered_is (TooLong ∷ rest) message d = refl
 offered_is (Empty ∷ rest) message d = refl
+offered_is (Command ∷ rest) message d = refl
 
 abbrev pub after_reading : SessionHistory → List ℕ → SessionView → SessionHistory
 after_reading h used new =
@@ -198,9 +253,10 @@ read_leads f max h used es message new k holds r =
     by (NotHexadecimal ∷ rest) e fit takes more = quiet e more
     by (TooLong ∷ rest) e fit takes more = quiet e more
     by (Empty ∷ rest) e fit takes more = quiet e more
+    by (Command ∷ rest) e fit takes more = quiet e more
 
 pub none_read : (m : Messages) → entries_of_input [] m ≡ []
-unfolding lengths.entries_of_bytes hex.entries_of_bytes
+unfolding lengths.entries_of_bytes hex.entries_of_bytes records.entries_of_bytes
 none_read (Digits v) = refl
 none_read (Binary v) = refl
 none_read (Events v) = refl
@@ -211,6 +267,7 @@ if_message (Message ∷ rest) p = p
 if_message (NotHexadecimal ∷ rest) p = tt
 if_message (TooLong ∷ rest) p = tt
 if_message (Empty ∷ rest) p = tt
+if_message (Command ∷ rest) p = tt
 
 -- some bytes were read: what they complete fits, is taken, and is more of the messages
 abbrev pub IsReading : MessageForm → ℕ → SessionHistory → List ℕ → Type 0
@@ -248,9 +305,9 @@ is_reading f max h used k wanted part =
     by true takes wanted e t = subst (IsReading f max h) (sym (wanted refl)) (none_reading f max h)
     by false false wanted e t = subst (IsReading f max h) (sym (wanted refl)) (none_reading f max h)
     by false true wanted e t = (
-      read_fits f max h.input used h.session.messages (k.reads e) part,
+      read_fits f max h.input used h.session.messages k.plain (k.reads e) part,
       if_message (entries_of_input used h.session.messages) t,
-      read_more f max h.input used h.session.messages (k.reads e) part,
+      read_more f max h.input used h.session.messages k.plain (k.reads e) part,
     )
 
 pub reading_input : (f : MessageForm) (max : ℕ) (h : SessionHistory) (used : List ℕ)
@@ -260,7 +317,9 @@ pub reading_input : (f : MessageForm) (max : ℕ) (h : SessionHistory) (used : L
     (message_in (after_input used h.session.messages)) new
 reading_input f max h used new k t =
     let e = entered (entries_of_input used h.session.messages)
-    (record h.session { messages = after_input used h.session.messages }) new k.of_data t.state in
+    (record h.session { messages = after_input used h.session.messages }) new
+    (λ e. k.plain (sym k.kind ∙ sym (form-stays used h.session.messages) ∙ e)) k.of_data
+    t.state in
     let r = is_reading f max h used k t.wanted t.part in
     record {
       messages = e.0;
@@ -294,6 +353,7 @@ no_byte m (x ∷ front) byte e = cc
 
 pub last_reads : (m : Messages) → LastReads m
 unfolding lengths.entries_of_bytes hex.entries_of_bytes lengths.after_bytes hex.after_bytes
+    records.entries_of_bytes records.after_bytes
 last_reads (Digits v) = record {
   state = refl;
   entries = sym (append-nil (option_to_list (hex.entry_of_byte 10 v)));
@@ -328,6 +388,11 @@ last_taken false ran None taken = tt
 last_taken false true (Some e) taken = cc
 last_taken false false (Some e) taken = cc
 
+last_form : (m : Messages) → form_of (after_last m) ≡ form_of m
+last_form (Digits v) = refl
+last_form (Binary v) = refl
+last_form (Events v) = refl
+
 pub ended_reads : (f : MessageForm) (max : ℕ) (h : SessionHistory) (new : SessionView)
     → Holds f max h
     → takes_end h.session ≡ true → new ≡ after_unfinished (after_last_line h.session)
@@ -341,7 +406,7 @@ ended_reads f max h new k takes is =
     let r = last_reads m in
     let mid = after_last_line h.session in
     let last = record h.session { messages = after_last m; is_read = true } in
-    let e = entered es last mid k.of_data refl in
+    let e = entered es last mid (λ e. k.plain (sym k.kind ∙ sym (last_form m) ∙ e)) k.of_data refl in
     let u = unfinished_keeps mid in
     let late = h.session.course.has_run && not (has_last_line m) in
     let w = both (not h.session.is_read) (takes_message h.session.link || late)
@@ -361,12 +426,12 @@ ended_reads f max h new k takes is =
       fits =
           subst (λ xs. IfMessage xs (Fits max (message_in (after_last m)))) (sym r.entries)
           (subst (λ x. IfMessage (entries_of_input used m) (Fits max (message_in x)))
-          (sym r.state) (read_fits f max h.input used m (k.reads going) r.part));
+          (sym r.state) (read_fits f max h.input used m k.plain (k.reads going) r.part));
       takes =
           last_taken (takes_message h.session.link) h.session.course.has_run (entry_of_last m)
           w.1;
       more =
-          read_more f max h.input used m (k.reads going) r.part
+          read_more f max h.input used m k.plain (k.reads going) r.part
           ∙ ap (λ xs. messages_of f max h.input ++ read_by xs (message_in (after_input used m)))
           (sym r.entries)
           ∙ ap (λ x. messages_of f max h.input ++ read_by es (message_in x)) (sym r.state);

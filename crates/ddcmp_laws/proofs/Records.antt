@@ -1,5 +1,5 @@
 -- Of an output with events the records whose lengths have the top bit off are the messages.
-use Rattle.std.proofs.Common.{◌≡◌, ◌∙◌, ap, refl, absurd, arith, ℕ, zero, suc, ◌+◌, ◌*◌}
+use Rattle.std.proofs.Common.{◌≡◌, ◌∙◌, ap, refl, arith, ℕ, zero, suc, ◌+◌, ◌*◌}
 use Rattle.std.proofs.Common.{◌/◌, ◌%◌, ◌<◌, ◌≤◌, Bool, true, false, cond, nat_lt, ◌==◌, subst, sym}
 use Rattle.std.proofs.Common.{List, [], ◌∷◌, ◌++◌, length, take, drop, append_assoc, length-append}
 use Rattle.std.proofs.lemmas.Bool.Decides.{nat_tests}
@@ -61,11 +61,15 @@ of-loss count rest messages short reads = by (count == 0)
     by true = reads
     by false = of-event (lost_words count) rest messages short reads
 
+none-in-nothing : (n : ℕ) → mail_among n [] ≡ []
+unfolding mail_among
+none-in-nothing zero = refl
+none-in-nothing (suc n) = refl
+
 pub only-mail-read : (shown : List Shown) → AreShort shown
     → ReadsAs (mail_in shown) (texts_of form.Events shown)
 unfolding AreShort texts_of mail_in mail_among
-only-mail-read [] short zero most = refl
-only-mail-read [] short (suc n) most = refl
+only-mail-read [] short = λ n most. none-in-nothing n
 only-mail-read (Mail message ∷ rest) short =
     of-mail message (texts_of form.Events rest) (mail_in rest) short.0 (only-mail-read rest short.1)
 only-mail-read (Reports notice ∷ rest) short =

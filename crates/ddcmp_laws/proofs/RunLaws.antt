@@ -1,5 +1,5 @@
 -- Two runs over devices, in some order of their calls.
-use Rattle.std.proofs.Common.{◌≡◌, ◌∙◌, ap, sym, subst, refl, Bool, true, false, cond, List, []}
+use Rattle.std.proofs.Common.{◌≡◌, ◌≢◌, ◌∙◌, ap, sym, subst, refl, Bool, true, false, cond, List, []}
 use Rattle.std.proofs.Common.{◌∷◌, ◌++◌, length, drop, append_assoc, append-nil, Option, Some, None}
 use Rattle.std.specs.Prelude.{◌||◌}
 use Rattle.ddcmp_frame.specs.Reader.{StandsFor}
@@ -20,7 +20,9 @@ use Rattle.ddcmp_session.specs.Devices.{BuffersView, nothing_read}
 use Rattle.ddcmp_session.specs.Traffic.{Traffic, no_traffic}
 use Rattle.ddcmp_session.specs.Lines.{AllKeepOpen, Closes, Ends, IsReady, KeepsOpen, WentOver}
 use Rattle.ddcmp_streams.specs.Messages.{after_input, entries_of_input}
-use Rattle.ddcmp_session.proofs.InputGoes.{entries-read}
+use Rattle.ddcmp_session.proofs.InputLaws.{form-stays}
+use Rattle.ddcmp_session.specs.Session.{form_of}
+use Rattle.ddcmp_laws.proofs.Reading.{reads-on}
 use Rattle.ddcmp_session.proofs.GoingLaws.{same-at}
 use Rattle.ddcmp_laws.specs.Sessions.{got_in, messages_of, mail_in}
 use Rattle.ddcmp_laws.specs.Pipe.{Made, session_of}
@@ -34,6 +36,7 @@ use Rattle.ddcmp_laws.specs.SessionRuns.{Ran, RanTogether, WasEnded, calls_of, g
 use Rattle.ddcmp_laws.proofs.Anew.{AcknowledgedAnew, Stays, acknowledged_anew_a}
 use Rattle.ddcmp_laws.proofs.Anew.{acknowledged_anew_b, closed_anew_a, closed_anew_b, left_out}
 use Rattle.ddcmp_laws.proofs.Anew.{pipes_anew_a, pipes_anew_b, stays_a, stays_all, stays_b}
+use Rattle.ddcmp_laws.proofs.Anew.{follows}
 use Rattle.ddcmp_laws.proofs.Anew.{stays_first, writes_anew_a, writes_anew_b}
 use Rattle.ddcmp_laws.proofs.EachLine.{left-with-none, none-in-nothing, read-over-lines}
 use Rattle.ddcmp_laws.proofs.Given.{gave_more, messages_more, no_more, none_unread, unread}
@@ -74,39 +77,41 @@ ended-read true told old last new is was e = refl
 ended-read false told old last new is was e =
     same-read told old new (ap (λ (s : SessionView). s.is_read) is) was e
 
-read-step : (call : SessionCall) (h : SessionHistory) (new : SessionView) → KeepsOpen call
+read-step : (call : SessionCall) (h : SessionHistory) (new : SessionView)
+    → form_of h.session.messages ≢ form.Events → KeepsOpen call
     → Does call h.used h.session new → ReadTold h.session h.is_told
     → ReadTold new (is_told_in call h.session || h.is_told)
-read-step (InputRead used) h new of d =
+read-step (InputRead used) h new plain of d =
     let s : SessionView =
     record h.session { messages = after_input used h.session.messages } in
     same-read h.is_told h.session new
     (same-at (λ x. x.is_read) new _ d.state
-    ∙ entries-read (entries_of_input used h.session.messages) s)
-read-step InputEnded h new of d =
+    ∙ reads-on (entries_of_input used h.session.messages) s
+    (λ e. plain (sym (form-stays used h.session.messages) ∙ e)))
+read-step InputEnded h new plain of d =
     ended-read (takes_end h.session) h.is_told h.session
     (after_unfinished (after_last_line h.session)) new d
-read-step Connected h new of d =
+read-step Connected h new plain of d =
     same-read h.is_told h.session new (same-at (λ s. s.is_read) new _ d)
-read-step (LineEnded r) h new of d =
+read-step (LineEnded r) h new plain of d =
     same-read h.is_told h.session new (same-at (λ s. s.is_read) new _ d.stays)
-read-step (Received used) h new of d =
+read-step (Received used) h new plain of d =
     same-read h.is_told h.session new (same-at (λ s. s.is_read) new _ d.stays)
-read-step (Filled n) h new of d =
+read-step (Filled n) h new plain of d =
     same-read h.is_told h.session new (same-at (λ s. s.is_read) new _ d.0)
-read-step (LineTook n) h new of d =
+read-step (LineTook n) h new plain of d =
     same-read h.is_told h.session new (same-at (λ s. s.is_read) new _ d)
-read-step (TimedOut now) h new of d =
+read-step (TimedOut now) h new plain of d =
     same-read h.is_told h.session new (same-at (λ s. s.is_read) new _ d)
-read-step TimePassed h new of d =
+read-step TimePassed h new plain of d =
     same-read h.is_told h.session new (same-at (λ s. s.is_read) new _ d.stays)
-read-step (Delivered true) h new of d =
+read-step (Delivered true) h new plain of d =
     same-read h.is_told h.session new (same-at (λ s. s.is_read) new _ d.stays)
-read-step (Delivered false) h new of d =
+read-step (Delivered false) h new plain of d =
     same-read h.is_told h.session new (same-at (λ s. s.is_read) new _ d.stays)
-read-step (OutputTook n) h new of d =
+read-step (OutputTook n) h new plain of d =
     same-read h.is_told h.session new (same-at (λ s. s.is_read) new _ d)
-read-step (Closed left over r) h new of d = absurd of
+read-step (Closed left over r) h new plain of d = absurd of
 
 told-after : (call : SessionCall) (new : SessionView) (c : Connection)
     → (after_step (record { call = call; session = new }) c).history.is_told
@@ -124,16 +129,18 @@ told-after (Delivered has) new c = refl
 told-after (OutputTook n) new c = refl
 told-after (Closed left over r) new c = refl
 
-all-read : (steps : List SessionStep) (c : Connection) → AreDone steps c → AllKeepOpen steps
+all-read : (made : Made) (steps : List SessionStep) (c : Connection) → Stays made c
+    → AreDone steps c → AllKeepOpen steps
     → ReadTold c.history.session c.history.is_told
     → ReadTold (after_all steps c).history.session (after_all steps c).history.is_told
 unfolding after_all
-all-read [] c does of was = was
-all-read (step ∷ rest) c does of was =
-    all-read rest (after_step step c) does.1 of.1
+all-read made [] c stays does of was = was
+all-read made (step ∷ rest) c stays does of was =
+    all-read made rest (after_step step c) (follows made step c 0 does.0 stays).2 does.1 of.1
     (λ e.
     told-after step.call step.session c
-    ∙ read-step step.call c.history step.session of.0 does.0 was
+    ∙ read-step step.call c.history step.session
+    (λ f. made.plain.no_events (sym stays.holds.kind ∙ f)) of.0 does.0 was
     (sym (ap (λ (s : SessionView). s.is_read) (session-after step.call step.session c)) ∙ e))
 
 -- ---- what an input gave since
@@ -172,7 +179,9 @@ given-read ran does held t closed ended none =
     let h = (got_to ran).history in
     let holds =
     (stays_all ran.made ran.steps (first_connection ran.made) does (stays_first ran.made)).holds in
-    let told = all-read ran.steps (first_connection ran.made) does ended.only (λ e. e) in
+    let told =
+    all-read ran.made ran.steps (first_connection ran.made) (stays_first ran.made) does ended.only
+    (λ e. e) in
     let p =
     closed-loses held.input held.is_over ended.closes.is_reported h.session closed
     ended.closes.closed none in

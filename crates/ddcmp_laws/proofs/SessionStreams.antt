@@ -4,7 +4,7 @@ use Rattle.std.proofs.Common.{◌++◌, ◌⊎◌, inl, inr, refl, sym, ◌∙�
 use Rattle.std.proofs.Common.{append-nil, option_to_list}
 use Rattle.ddcmp_input.specs.declared.entry.Entry.{Entry}
 use Rattle.ddcmp_input.specs.declared.entry.Entry.TheVariants.{Message, NotHexadecimal, TooLong}
-use Rattle.ddcmp_input.specs.declared.entry.Entry.TheVariants.{Empty}
+use Rattle.ddcmp_input.specs.declared.entry.Entry.TheVariants.{Command, Empty}
 use Rattle.ddcmp_station.specs.Linking.{LinkView, after_frame}
 use Rattle.ddcmp_io.specs.declared.carrier.End.{End}
 use Rattle.ddcmp_io.specs.declared.carrier.End.TheVariants.{A, B}
@@ -52,6 +52,7 @@ offers_still (Message ∷ rest) message d = (tt, tt)
 offers_still (NotHexadecimal ∷ rest) message d = tt
 offers_still (TooLong ∷ rest) message d = tt
 offers_still (Empty ∷ rest) message d = tt
+offers_still (Command ∷ rest) message d = tt
 
 pub still_bytes : (c : LinkCall) (d : LinkView) → IsStill c → (used_by c ≡ []) × (gone_by c d ≡ [])
 still_bytes Starts d s = (refl, refl)

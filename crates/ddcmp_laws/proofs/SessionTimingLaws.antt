@@ -54,7 +54,7 @@ no-stay true false c e f = cc
 done-of : (s : SessionView) → end s ≡ Some Done
     → (is_done s ≡ true) × (nat_le (lingers_until s) s.course.moment ≡ true)
 done-of s e =
-    is-done (nat_le (run_ends_at s) s.course.moment) (s.has_line && s.course.peer_restarted)
+    is-done (nat_le (run_ends_at s) s.course.moment) (s.has_line && s.course.leaves)
     (s.has_line && is_given_up s) (is_done s) (nat_le (lingers_until s) s.course.moment) e
 
 spent-of : (s : SessionView) → end s ≡ Some Done → is_spent s ≡ true

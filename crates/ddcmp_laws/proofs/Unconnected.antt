@@ -221,10 +221,10 @@ input_read-none used text old new d was =
     record {
       idle =
           same-link old new
-          (ap (λ (x : SessionView). x.has_line) d.state ∙ (entries-keep es s).0)
+          (ap (λ (x : SessionView). x.has_line) d.state ∙ (entries-keep es s).line)
           (ap (λ (x : SessionView). x.link) d.state ∙ entries-halted es s was.halted)
           (ap (λ (x : SessionView). x.course.has_run) d.state
-          ∙ ap (λ (c : Course). c.has_run) (entries-keep es s).1) was;
+          ∙ (entries-keep es s).run) was;
       used = refl;
       gone = refl;
       input = d.wanted (input-halted old was.halted);

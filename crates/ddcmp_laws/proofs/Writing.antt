@@ -6,6 +6,11 @@ use Rattle.ddcmp_window.specs.Store.{first_message}
 use Rattle.ddcmp_input.specs.declared.entry.Entry.{Entry}
 use Rattle.ddcmp_input.specs.declared.entry.Entry.TheVariants.{Message, NotHexadecimal, TooLong}
 use Rattle.ddcmp_input.specs.declared.entry.Entry.TheVariants.{Empty}
+use Rattle.ddcmp_input.specs.declared.entry.Entry.TheVariants as entry
+use Rattle.ddcmp_streams.specs.Messages.{command_in}
+use Rattle.ddcmp_streams.specs.declared.messages.Command.{Command}
+use Rattle.ddcmp_streams.specs.declared.messages.Command.TheVariants as command
+use Rattle.ddcmp_session.specs.Session.{after_command, after_message, is_held}
 use Rattle.ddcmp_proto.specs.Bytes.{notices_of_piece}
 use Rattle.ddcmp_streams.specs.declared.messages.MessageForm.{MessageForm}
 use Rattle.ddcmp_streams.specs.declared.messages.MessageForm.TheVariants as form
@@ -45,10 +50,22 @@ Keeps s new = (new.output ≡ s.output) × (form_of new.messages ≡ form_of s.m
 
 pub entries_keep : (es : List Entry) (s : SessionView) → Keeps s (after_entries es s)
 entries_keep [] s = (refl, refl)
-entries_keep (Message ∷ rest) s = (refl, refl)
+entries_keep (Message ∷ rest) s = by (is_held s)
+  where
+    by : (held : Bool) → Keeps s (after_message held s)
+    by true = (refl, refl)
+    by false = (refl, refl)
 entries_keep (NotHexadecimal ∷ rest) s = (refl, refl)
 entries_keep (TooLong ∷ rest) s = (refl, refl)
 entries_keep (Empty ∷ rest) s = (refl, refl)
+entries_keep (entry.Command ∷ rest) s = by (command_in s.messages)
+  where
+    by : (c : Command) → Keeps s (after_command c s)
+    by command.Ready = (refl, refl)
+    by command.Restart = (refl, refl)
+    by command.Report = (refl, refl)
+    by command.Quit = (refl, refl)
+    by command.Unknown = (refl, refl)
 
 unfinished_keeps : (s : SessionView) → Keeps s (after_unfinished s)
 unfinished_keeps s = by (is_message_unfinished s.messages)

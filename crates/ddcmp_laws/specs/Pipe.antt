@@ -19,12 +19,12 @@ use Rattle.ddcmp_laws.specs.LinkLines.{calls_of_steps}
 use Rattle.ddcmp_session.specs.Calls.{HasClosed, SessionCall, Connected, SessionDoes}
 use Rattle.ddcmp_session.specs.Calls.{SessionHistory}
 use Rattle.ddcmp_session.specs.Calls.{new_session, SessionStep, after_session_step}
-use Rattle.ddcmp_laws.specs.Sessions.{messages_of, mail_in, link_steps_of}
+use Rattle.ddcmp_laws.specs.Sessions.{IsPlain, messages_of, mail_in, link_steps_of}
 
 -- how a session of data messages is made
 pub record Made : Type 0 where
   pub options : Options
-  pub of_data : options.maintenance ≡ false
+  pub plain : IsPlain options
   pub kind : LineKind
   pub line : ReaderView
 

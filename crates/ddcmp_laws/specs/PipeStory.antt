@@ -23,7 +23,7 @@ use Rattle.ddcmp_session.specs.Calls.{Received, Filled, LineTook, TimedOut, Time
 use Rattle.ddcmp_session.specs.Calls.{OutputTook}
 use Rattle.ddcmp_session.specs.Calls.{Closed, SessionHistory, SessionStep}
 use Rattle.ddcmp_session.specs.Calls.{shown_in}
-use Rattle.ddcmp_laws.specs.Sessions.{texts_of}
+use Rattle.ddcmp_laws.specs.Sessions.{IsPlain, texts_of}
 use Rattle.ddcmp_laws.specs.Pipe.{Made, Sessions, new_sessions, session_at, after_session_at}
 
 -- what is written of a call
@@ -110,9 +110,15 @@ small_options = record {
   json = false;
 }
 
+pub not_events : form.Binary ≡ form.Events → ⊥
+not_events e = cc
+
+abbrev pub small_plain : IsPlain small_options
+small_plain = record { of_data = refl; no_events = not_events }
+
 abbrev pub small_made : ReaderView → Made
 small_made line =
-    record { options = small_options; of_data = refl; kind = Connect; line = line }
+    record { options = small_options; plain = small_plain; kind = Connect; line = line }
 
 abbrev pub small_sessions : ReaderView → ReaderView → Sessions
 small_sessions line other_line = new_sessions (small_made line) (small_made other_line)

@@ -1,11 +1,12 @@
 -- Sessions as callers of their links: which calls of its link each call of a session makes.
-use Rattle.std.specs.Prelude.{◌≡◌, ⊤, ℕ, zero, suc, ◌+◌, ◌*◌, ◌%◌, ◌<◌, true, false, List, [], ◌∷◌, ◌++◌}
+use Rattle.std.specs.Prelude.{◌≡◌, ◌≢◌, ⊤, ℕ, zero, suc, ◌+◌, ◌*◌, ◌%◌, ◌<◌, true, false, List, [], ◌∷◌, ◌++◌}
 use Rattle.std.specs.Prelude.{if◌then◌else◌, drop, length, map, nat_lt, option_to_list, take}
 use Rattle.ddcmp_input.specs.declared.entry.Entry.{Entry}
 use Rattle.ddcmp_input.specs.declared.entry.Entry.TheVariants.{Message}
 use Rattle.ddcmp_input.specs.Told.{Told, Got, Refused}
 use Rattle.ddcmp_station.specs.Linking.{LinkView, after_frame}
 use Rattle.ddcmp_streams.specs.declared.messages.MessageForm.{MessageForm}
+use Rattle.ddcmp_streams.specs.declared.options.Options.{Options}
 use Rattle.ddcmp_streams.specs.declared.messages.MessageForm.TheVariants.{Digits, Binary, Events}
 use Rattle.ddcmp_streams.specs.Messages.{message_in, after_input, entries_of_input, after_last}
 use Rattle.ddcmp_streams.specs.Messages.{entry_of_last}
@@ -33,12 +34,18 @@ unfoldable pub got_in : List Told → List (List ℕ)
 got_in [] = []
 got_in (told ∷ rest) = got told ++ got_in rest
 
--- the messages of at most `max` bytes in an input
+-- Data messages, without events: with these the moments of the events decide which messages of an
+-- input are refused.
+pub record IsPlain (options : Options) : Type 0 where
+  pub of_data : options.maintenance ≡ false
+  pub no_events : options.form ≢ Events
+
+-- the messages of at most `max` bytes in an input without commands
 abbrev pub messages_of : MessageForm → ℕ → List ℕ → List (List ℕ)
 messages_of Digits max input =
     got_in (map (λ (told : ℕ × Told). told.1) (lines.told_in input (hex.begun max)))
 messages_of Binary max input = got_in (binary.told_in input (lengths.begun max))
-messages_of Events max input = got_in (binary.told_in input (lengths.begun max))
+messages_of Events max input = []
 
 abbrev pub mail_of : Shown → List (List ℕ)
 mail_of (Mail message) = message ∷ []

@@ -1,5 +1,5 @@
 //! A session does what its link does, and writes the text of that.
-ghost use Rattle.std.specs.Prelude.{◌≡◌, ◌≤◌, ◌++◌, ℕ, List, false, length};
+ghost use Rattle.std.specs.Prelude.{◌≡◌, ◌≤◌, ◌++◌, ℕ, List, length};
 ghost use Rattle.ddcmp_frame.specs.Reader.{ReaderView};
 ghost use Rattle.ddcmp_input.specs.InBinary.{in_binary};
 ghost use Rattle.ddcmp_io.specs.declared.line_kind.LineKind.{LineKind as LineKindValue};
@@ -8,28 +8,29 @@ ghost use Rattle.ddcmp_streams.specs.declared.messages.MessageForm.TheVariants.{
 ghost use Rattle.ddcmp_laws.specs.Links.{IsHistory, after_history, new_history, offered_in};
 ghost use Rattle.ddcmp_session.specs.Calls.{SessionStep, new_session, IsSessionHistory};
 ghost use Rattle.ddcmp_session.specs.Calls.{after_session_steps, Shown};
-ghost use Rattle.ddcmp_laws.specs.Sessions.{link_steps_in, IsOfLink, messages_of, mail_in};
+ghost use Rattle.ddcmp_laws.specs.Sessions.{IsPlain, link_steps_in, IsOfLink, messages_of, mail_in};
 ghost use Rattle.ddcmp_laws.specs.Sessions.{AreShort, mail_among, texts_of};
 
-/// Each list of calls of a new session of data messages makes a list of calls of its link. These
+/// Each list of calls of a new session of data messages without events makes a list of calls of its
+/// link. These
 /// use and write the same bytes of the line; they offer the messages of the input, in their order,
 /// each once, and all of them are accepted; and the messages that they take are those that the
 /// session delivered.
 pub fn session_calls_are_link_calls()
     ensures calls { (options : OptionsValue) (kind : LineKindValue) (line : ReaderView)
-        (steps : List SessionStep) → options.maintenance ≡ false
+        (steps : List SessionStep) → IsPlain options
         → IsSessionHistory steps (new_session options kind line)
         → IsHistory (link_steps_in steps (new_session options kind line))
         (new_history options.config options.timer_ms line) }
     ensures same { (options : OptionsValue) (kind : LineKindValue) (line : ReaderView)
-        (steps : List SessionStep) → options.maintenance ≡ false
+        (steps : List SessionStep) → IsPlain options
         → IsSessionHistory steps (new_session options kind line)
         → IsOfLink options.form options.config.max
         (after_session_steps steps (new_session options kind line))
         (after_history (link_steps_in steps (new_session options kind line))
         (new_history options.config options.timer_ms line)) }
     ensures offers { (options : OptionsValue) (kind : LineKindValue) (line : ReaderView)
-        (steps : List SessionStep) → options.maintenance ≡ false
+        (steps : List SessionStep) → IsPlain options
         → IsSessionHistory steps (new_session options kind line)
         → offered_in (link_steps_in steps (new_session options kind line))
         ≡ messages_of options.form options.config.max

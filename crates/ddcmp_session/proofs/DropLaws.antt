@@ -7,6 +7,7 @@ use Rattle.ddcmp_input.specs.declared.entry.Entry.{Entry}
 use Rattle.ddcmp_input.specs.declared.entry.Entry.TheVariants as entry
 use Rattle.ddcmp_input.proofs.LengthsLaws as length_laws
 use Rattle.ddcmp_input.proofs.HexLinesLaws as line_laws
+use Rattle.ddcmp_input.proofs.RecordsLaws as record_laws
 use Rattle.ddcmp_streams.specs.declared.messages.Messages.{Messages}
 use Rattle.ddcmp_streams.specs.declared.messages.Messages.TheVariants.{Digits, Binary, Events}
 use Rattle.ddcmp_streams.specs.Messages.{after_input, count_of, entries_of_input}
@@ -35,14 +36,14 @@ pub read-more : (xs ys : List ℕ) (m : Messages)
     → after_input (xs ++ ys) m ≡ after_input ys (after_input xs m)
 read-more xs ys (Digits v) = ap (λ x. Digits x) (line_laws.after_more xs ys v)
 read-more xs ys (Binary v) = ap (λ x. Binary x) (length_laws.after_more xs ys v)
-read-more xs ys (Events v) = ap (λ x. Events x) (length_laws.after_more xs ys v)
+read-more xs ys (Events v) = ap (λ x. Events x) (record_laws.after_more xs ys v)
 
 pub entries-more : (xs ys : List ℕ) (m : Messages)
     → entries_of_input (xs ++ ys) m
     ≡ entries_of_input xs m ++ entries_of_input ys (after_input xs m)
 entries-more xs ys (Digits v) = line_laws.entries_of_more xs ys v
 entries-more xs ys (Binary v) = length_laws.entries_of_more xs ys v
-entries-more xs ys (Events v) = length_laws.entries_of_more xs ys v
+entries-more xs ys (Events v) = record_laws.entries_of_more xs ys v
 
 -- ---- the parts that were dropped
 
@@ -73,6 +74,7 @@ few-messages (Some entry.Message) = omega arith
 few-messages (Some entry.NotHexadecimal) = omega arith
 few-messages (Some entry.TooLong) = omega arith
 few-messages (Some entry.Empty) = omega arith
+few-messages (Some entry.Command) = omega arith
 
 -- A part is one byte at least.
 some : (used : ℕ) (rest : List ℕ) (entry : Option Entry) (m : Messages) → 0 < length rest

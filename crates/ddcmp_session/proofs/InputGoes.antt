@@ -14,7 +14,11 @@ use Rattle.ddcmp_streams.specs.declared.messages.Messages.{Messages}
 use Rattle.ddcmp_streams.specs.declared.messages.Messages.TheVariants.{Digits, Binary, Events}
 use Rattle.ddcmp_streams.specs.Messages.{message_in, after_input, entries_of_input, after_last}
 use Rattle.ddcmp_streams.specs.Messages.{entry_of_last, has_last_line, is_message_unfinished}
-use Rattle.ddcmp_session.specs.Session.{after_entry, after_entries, after_input_read}
+use Rattle.ddcmp_session.specs.Session.{after_command, after_entry, after_entries}
+use Rattle.ddcmp_session.specs.Session.{after_input_read, after_message, is_held}
+use Rattle.ddcmp_streams.specs.Messages.{command_in}
+use Rattle.ddcmp_streams.specs.declared.messages.Command.{Command}
+use Rattle.ddcmp_streams.specs.declared.messages.Command.TheVariants as command
 use Rattle.ddcmp_session.specs.Session.{after_unfinished}
 use Rattle.ddcmp_session.specs.Session.{after_offered_in, takes_in}
 use Rattle.ddcmp_session.proofs.InputLaws.{form-stays}
@@ -82,7 +86,7 @@ none-dropped (suc n) = refl
 -- a call of `input_read` took bytes
 pub input_read-goes : {held : BuffersView} {known : Option Traffic} (old new : SessionView) (n : ℕ)
     → HasReadInput (take n held.input) old new → form_of new.messages ≡ form_of old.messages
-    → new.is_read ≡ old.is_read
+    → (old.is_read ≡ true → new.is_read ≡ true)
     → new.link.station.line ≡ old.link.station.line
     → GoesOn held old known (record held { input = drop n held.input }) new known
 input_read-goes {held} {known} old new n does form reads line = λ h t is was a.
@@ -103,7 +107,7 @@ input_read-goes {held} {known} old new n does form reads line = λ h t is was a.
             over = a.over;
             told = a.told;
             drained = λ e. ap (drop n) (a.drained e) ∙ none-dropped n;
-            ended = λ e. reads ∙ sym (same-at (λ x. x.is_read) h.session old is) ∙ a.ended e;
+            ended = λ e. reads (sym (same-at (λ x. x.is_read) h.session old is) ∙ a.ended e);
             came = a.came ∙ ap (λ xs. xs ++ held.received) (sym (append-nil h.used));
             gone = a.gone ∙ sym (append-nil h.gone);
             written = a.written ∙ sym (append-nil h.written);
@@ -199,22 +203,64 @@ offered-in-line : (b : Bool) (message : List ℕ) (d : LinkView)
 offered-in-line true message d = offered-maintenance-line message d
 offered-in-line false message d = offered-line message d
 
+message-line : (held : Bool) (s : SessionView)
+    → (after_message held s).link.station.line ≡ s.link.station.line
+message-line true s = refl
+message-line false s =
+    offered-in-line s.options.maintenance (message_in s.messages) s.link
+
+command-line : (c : Command) (s : SessionView)
+    → (after_command c s).link.station.line ≡ s.link.station.line
+command-line command.Ready s = refl
+command-line command.Restart s = refl
+command-line command.Report s = refl
+command-line command.Quit s = refl
+command-line command.Unknown s = refl
+
 entry-line : (e : Entry) (s : SessionView)
     → (after_entry e s).link.station.line ≡ s.link.station.line
-entry-line entry.Message s =
-    offered-in-line s.options.maintenance (message_in s.messages) s.link
+entry-line entry.Message s = message-line (is_held s) s
+entry-line entry.Command s = command-line (command_in s.messages) s
 entry-line entry.NotHexadecimal s = refl
 entry-line entry.TooLong s = refl
 entry-line entry.Empty s = refl
 
-entry-read : (e : Entry) (s : SessionView) → (after_entry e s).is_read ≡ s.is_read
-entry-read entry.Message s = refl
-entry-read entry.NotHexadecimal s = refl
-entry-read entry.TooLong s = refl
-entry-read entry.Empty s = refl
+abbrev StaysRead : SessionView → SessionView → Type 0
+StaysRead s new = s.is_read ≡ true → new.is_read ≡ true
+
+message-read : (held : Bool) (s : SessionView) → StaysRead s (after_message held s)
+message-read true s read = read
+message-read false s read = read
+
+command-read : (c : Command) (s : SessionView) → StaysRead s (after_command c s)
+command-read command.Ready s read = read
+command-read command.Restart s read = read
+command-read command.Report s read = read
+command-read command.Quit s read = refl
+command-read command.Unknown s read = read
+
+entry-read : (e : Entry) (s : SessionView) → StaysRead s (after_entry e s)
+entry-read entry.Message s read = message-read (is_held s) s read
+entry-read entry.NotHexadecimal s read = read
+entry-read entry.TooLong s read = read
+entry-read entry.Empty s read = read
+entry-read entry.Command s read = command-read (command_in s.messages) s read
+
+message-messages : (held : Bool) (s : SessionView)
+    → (after_message held s).messages ≡ s.messages
+message-messages true s = refl
+message-messages false s = refl
+
+command-messages : (c : Command) (s : SessionView) → (after_command c s).messages ≡ s.messages
+command-messages command.Ready s = refl
+command-messages command.Restart s = refl
+command-messages command.Report s = refl
+command-messages command.Quit s = refl
+command-messages command.Unknown s = refl
 
 entry-messages : (e : Entry) (s : SessionView) → (after_entry e s).messages ≡ s.messages
-entry-messages entry.Message s = refl
+entry-messages entry.Message s = message-messages (is_held s) s
+entry-messages entry.Command s = command-messages (command_in s.messages) s
 entry-messages entry.NotHexadecimal s = refl
 entry-messages entry.TooLong s = refl
 entry-messages entry.Empty s = refl
@@ -224,11 +270,11 @@ pub entries-line : (es : List Entry) (s : SessionView)
 entries-line [] s = refl
 entries-line (e ∷ rest) s = entry-line e s
 
-pub entries-read : (es : List Entry) (s : SessionView) → (after_entries es s).is_read ≡ s.is_read
-entries-read [] s = refl
-entries-read (e ∷ rest) s = entry-read e s
+pub entries-read : (es : List Entry) (s : SessionView) → StaysRead s (after_entries es s)
+entries-read [] s read = read
+entries-read (e ∷ rest) s read = entry-read e s read
 
-entries-messages : (es : List Entry) (s : SessionView)
+pub entries-messages : (es : List Entry) (s : SessionView)
     → (after_entries es s).messages ≡ s.messages
 entries-messages [] s = refl
 entries-messages (e ∷ rest) s = entry-messages e s
@@ -241,12 +287,11 @@ types {held} {known} old new n does =
     let used = take n held.input in
     let es = entries_of_input used old.messages in
     let s = record old { messages = after_input used old.messages } in
-    let reads =
-    same-at (λ x. x.is_read) new (after_input_read used old) does.state ∙ entries-read es s in
     input_read-goes old new n does
     (same-at (λ x. form_of x.messages) new (after_input_read used old) does.state
     ∙ ap form_of (entries-messages es s) ∙ form-stays used old.messages)
-    reads
+    (λ read.
+    same-at (λ x. x.is_read) new (after_input_read used old) does.state ∙ entries-read es s read)
     (same-at (λ x. x.link.station.line) new (after_input_read used old) does.state
     ∙ entries-line es s)
 
@@ -293,7 +338,7 @@ ends {held} {known} old new does wants empty over =
     (same-at (λ x. form_of x.messages) new to done ∙ unfinished-form (after_entries es s)
     ∙ ap form_of (entries-messages es s) ∙ last-form old.messages)
     (same-at (λ x. x.is_read) new to done ∙ unfinished-read (after_entries es s)
-    ∙ entries-read es s)
+    ∙ entries-read es s refl)
     (same-at (λ x. x.link.station.line) new to done
     ∙ unfinished-line (after_entries es s) ∙ entries-line es s)
   where

@@ -7,10 +7,12 @@ use Rattle.std.proofs.Math.Seq.{take-append_seam}
 use Rattle.ddcmp_input.specs.declared.entry.Entry.{Entry}
 use Rattle.ddcmp_input.proofs.LengthsLaws as length_laws
 use Rattle.ddcmp_input.proofs.HexLinesLaws as line_laws
+use Rattle.ddcmp_input.proofs.RecordsLaws as record_laws
 use Rattle.ddcmp_session.specs.Calls.{CompletesLast, HasReadInput}
 use Rattle.std.specs.Prelude.{option_to_list}
 use Rattle.ddcmp_input.specs.HexLines as lines
 use Rattle.ddcmp_input.specs.Lengths as lengths
+use Rattle.ddcmp_input.specs.Records as records
 use Rattle.ddcmp_streams.specs.declared.messages.Messages.{Messages}
 use Rattle.ddcmp_streams.specs.declared.messages.Messages.TheVariants.{Digits, Binary, Events}
 use Rattle.ddcmp_streams.specs.Messages.{after_input, entries_of_input}
@@ -18,13 +20,13 @@ use Rattle.ddcmp_session.specs.Session.{SessionView, after_input_read, after_ent
 use Rattle.ddcmp_session.specs.Session.{wants_input}
 
 pub no-entries : (m : Messages) → entries_of_input [] m ≡ []
-unfolding lines.entries_of_bytes lengths.entries_of_bytes
+unfolding lines.entries_of_bytes lengths.entries_of_bytes records.entries_of_bytes
 no-entries (Digits v) = refl
 no-entries (Binary v) = refl
 no-entries (Events v) = refl
 
 pub nothing-read : (m : Messages) → after_input [] m ≡ m
-unfolding lines.after_bytes lengths.after_bytes
+unfolding lines.after_bytes lengths.after_bytes records.after_bytes
 nothing-read (Digits v) = refl
 nothing-read (Binary v) = refl
 nothing-read (Events v) = refl
@@ -62,9 +64,9 @@ none_in_front front byte (Binary v) e =
     (option_to_list (lengths.entry_of_byte byte (lengths.after_bytes front v)))
     (sym (length_laws.entries_of_last front byte v) ∙ e)
 none_in_front front byte (Events v) e =
-    empty_front (lengths.entries_of_bytes front v)
-    (option_to_list (lengths.entry_of_byte byte (lengths.after_bytes front v)))
-    (sym (length_laws.entries_of_last front byte v) ∙ e)
+    empty_front (records.entries_of_bytes front v)
+    (option_to_list (records.entry_of_byte byte (records.after_bytes front v)))
+    (sym (record_laws.entries_of_last front byte v) ∙ e)
 
 front_is : (n : ℕ) (bytes front : List ℕ) (byte : ℕ) → take n bytes ≡ front ++ byte ∷ []
     → take (length front) bytes ≡ front

@@ -452,16 +452,18 @@ may-end {R} {ran} {result} {has_run} s well may is ok = by (well e)
     by (inl same) = may (same ∙ e)
     by (inr has) = inr (sym is ∙ has)
 
--- whether more may be to be read: the input isn't over and is one whose end is awaited
-none-more : (over awaits : Bool) → not over && awaits ≡ false → (over ≡ true) ⊎ (awaits ≡ false)
-none-more true awaits e = inl refl
-none-more false awaits e = inr e
+-- whether more may be to be read: the input isn't over, wasn't read, and is one whose end is awaited
+none-more : (over read awaits : Bool) → not over && (not read && awaits) ≡ false
+    → (read ≡ true) ⊎ ((over ≡ true) ⊎ (awaits ≡ false))
+none-more true read awaits e = inr (inl refl)
+none-more false true awaits e = inl refl
+none-more false false awaits e = inr (inr e)
 
 pub read-to-end : {R : Type 0} {ran result : Result (Unit {0}) R} {more : Bool}
     (held : BuffersView) (s : SessionView)
     → (result ≡ Ok tt → (ran ≡ result) ⊎ (more ≡ false))
     → (ran ≡ Ok tt → s.is_read ≡ true)
-    → more ≡ (not held.is_over && s.options.awaits_end)
+    → more ≡ (not held.is_over && (not s.is_read && s.options.awaits_end))
     → is_ok result ≡ true → IsReadToEnd held s
 read-to-end {R} {ran} {result} {more} held s read done is ok = by (read e)
   where
@@ -470,4 +472,4 @@ read-to-end {R} {ran} {result} {more} held s read done is ok = by (read e)
 
     by : (ran ≡ result) ⊎ (more ≡ false) → IsReadToEnd held s
     by (inl same) = inl (done (same ∙ e))
-    by (inr none) = inr (none-more held.is_over s.options.awaits_end (sym is ∙ none))
+    by (inr none) = none-more held.is_over s.is_read s.options.awaits_end (sym is ∙ none)

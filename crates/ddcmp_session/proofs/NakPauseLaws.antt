@@ -191,9 +191,9 @@ nak-goes (InputRead used) text old new d =
     let es = entries_of_input used old.messages in
     let s : SessionView = record old { messages = after_input used old.messages } in
     same old new (after_entries es s) d.state
-    (ap (λ (c : Course). c.nak_pause) (entries-keep es s))
+    (entries-keep es s).nak_pause
 nak-goes InputEnded text old new d =
-    same old new (after_input_end old) d (ap (λ (c : Course). c.nak_pause) (input-end-keeps old))
+    same old new (after_input_end old) d (input-end-keeps old).nak_pause
 nak-goes Connected text old new d =
     inr
     (inl

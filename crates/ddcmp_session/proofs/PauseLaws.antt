@@ -29,7 +29,11 @@ use Rattle.ddcmp_session.specs.Course.{after_naks, after_writing, naks_of, progr
 use Rattle.ddcmp_session.specs.Course.{refusal_between}
 use Rattle.ddcmp_session.specs.Course.{try_counted}
 use Rattle.ddcmp_session.specs.Session.{SessionView, after_connecting_in}
-use Rattle.ddcmp_session.specs.Session.{after_entries, after_entry, after_input_end}
+use Rattle.ddcmp_session.specs.Session.{after_command, after_entries, after_entry}
+use Rattle.ddcmp_session.specs.Session.{after_input_end, after_message, is_held}
+use Rattle.ddcmp_streams.specs.Messages.{command_in}
+use Rattle.ddcmp_streams.specs.declared.messages.Command.{Command}
+use Rattle.ddcmp_streams.specs.declared.messages.Command.TheVariants as command
 use Rattle.ddcmp_session.specs.Session.{after_last_line, after_told, after_time, after_timeout}
 use Rattle.ddcmp_session.specs.Session.{after_unfinished, awaits_peer, expires, is_sending}
 use Rattle.ddcmp_session.specs.Session.{lost_by_start, starts}
@@ -219,8 +223,8 @@ looked ms before d c =
     (either-moment (n == one.naks || is_some one.nak_pause) one _ one.moment refl refl))
 
 noticed : (n : Notice) (c : Course) → Keeps c (after_notice n c)
-noticed notice.Running c = keeps c c refl
-noticed notice.RunningAndHandedUp c = keeps c c refl
+noticed notice.Running c = record { pause = refl; nak_pause = refl; moment = refl }
+noticed notice.RunningAndHandedUp c = record { pause = refl; nak_pause = refl; moment = refl }
 noticed (notice.Acknowledged m) c = keeps c c refl
 noticed notice.HandedUp c = keeps c c refl
 noticed (notice.HandedUpAndAcknowledged m) c = keeps c c refl
@@ -290,17 +294,29 @@ passed-pause now p = by (is_due now p)
 
 -- ---- each call
 
-entry-keeps : (e : Entry) (s : SessionView) → (after_entry e s).course ≡ s.course
-entry-keeps entry.Message s = refl
-entry-keeps entry.NotHexadecimal s = refl
-entry-keeps entry.TooLong s = refl
-entry-keeps entry.Empty s = refl
+message-keeps : (b : Bool) (s : SessionView) → Keeps s.course (after_message b s).course
+message-keeps true s = record { pause = refl; nak_pause = refl; moment = refl }
+message-keeps false s = kept s.course
 
-pub entries-keep : (es : List Entry) (s : SessionView) → (after_entries es s).course ≡ s.course
-entries-keep [] s = refl
+command-keeps : (c : Command) (s : SessionView) → Keeps s.course (after_command c s).course
+command-keeps command.Ready s = record { pause = refl; nak_pause = refl; moment = refl }
+command-keeps command.Restart s = record { pause = refl; nak_pause = refl; moment = refl }
+command-keeps command.Report s = kept s.course
+command-keeps command.Quit s = kept s.course
+command-keeps command.Unknown s = kept s.course
+
+entry-keeps : (e : Entry) (s : SessionView) → Keeps s.course (after_entry e s).course
+entry-keeps entry.Message s = message-keeps (is_held s) s
+entry-keeps entry.NotHexadecimal s = kept s.course
+entry-keeps entry.TooLong s = kept s.course
+entry-keeps entry.Empty s = kept s.course
+entry-keeps entry.Command s = command-keeps (command_in s.messages) s
+
+pub entries-keep : (es : List Entry) (s : SessionView) → Keeps s.course (after_entries es s).course
+entries-keep [] s = kept s.course
 entries-keep (e ∷ rest) s = entry-keeps e s
 
-pub input-end-keeps : (s : SessionView) → (after_input_end s).course ≡ s.course
+pub input-end-keeps : (s : SessionView) → Keeps s.course (after_input_end s).course
 input-end-keeps s = by (takes_end s)
   where
     last : SessionView
@@ -311,11 +327,13 @@ input-end-keeps s = by (takes_end s)
     unfinished true x = refl
     unfinished false x = refl
 
-    by : (b : Bool) → (cond b (after_unfinished (after_last_line s)) s).course ≡ s.course
+    by : (b : Bool) → Keeps s.course (cond b (after_unfinished (after_last_line s)) s).course
     by true =
-        unfinished (is_message_unfinished (after_last_line s).messages) (after_last_line s)
-        ∙ entries-keep (option_to_list (entry_of_last s.messages)) last
-    by false = refl
+        then-keeps s.course (after_last_line s).course (after_unfinished (after_last_line s)).course
+        (entries-keep (option_to_list (entry_of_last s.messages)) last)
+        (keeps (after_last_line s).course (after_unfinished (after_last_line s)).course
+        (unfinished (is_message_unfinished (after_last_line s).messages) (after_last_line s)))
+    by false = kept s.course
 
 connected-pause : (b enters : Bool) (c : Course) → (after_connecting_in b enters c).pause ≡ None
 connected-pause true enters c = refl
@@ -352,9 +370,9 @@ pause-goes (InputRead used) text old new d =
     let es = entries_of_input used old.messages in
     let s : SessionView = record old { messages = after_input used old.messages } in
     same old new (after_entries es s) d.state
-    (ap (λ (c : Course). c.pause) (entries-keep es s))
+    (entries-keep es s).pause
 pause-goes InputEnded text old new d =
-    same old new (after_input_end old) d (ap (λ (c : Course). c.pause) (input-end-keeps old))
+    same old new (after_input_end old) d (input-end-keeps old).pause
 pause-goes Connected text old new d =
     inr
     (inl

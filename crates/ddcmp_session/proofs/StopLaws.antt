@@ -65,7 +65,7 @@ pub may-at-end : (s : SessionView) → end s ≡ Some end_of.Done → MayEndWell
 may-at-end s e =
     spent-or-ran (is_delivered s) s.is_read s.course.has_run s.has_line (stays s)
     (nat_le (lingers_until s) s.course.moment)
-    (ends-done (nat_le (run_ends_at s) s.course.moment) (s.has_line && s.course.peer_restarted)
+    (ends-done (nat_le (run_ends_at s) s.course.moment) (s.has_line && s.course.leaves)
     (s.has_line && is_given_up s) _ e)
 
 spent-was-read : (read delivered ran line goes_on quiet : Bool)
@@ -78,7 +78,7 @@ pub read-at-end : (s : SessionView) → end s ≡ Some end_of.Done → s.is_read
 read-at-end s e =
     spent-was-read s.is_read (delivered s.link) s.course.has_run s.has_line (stays s)
     (nat_le (lingers_until s) s.course.moment)
-    (ends-done (nat_le (run_ends_at s) s.course.moment) (s.has_line && s.course.peer_restarted)
+    (ends-done (nat_le (run_ends_at s) s.course.moment) (s.has_line && s.course.leaves)
     (s.has_line && is_given_up s) _ e)
 
 -- ---- faults that were reported

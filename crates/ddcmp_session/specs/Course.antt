@@ -6,7 +6,7 @@ use Rattle.ddcmp_frame.specs.declared.nak.Nak.{Nak}
 use Rattle.ddcmp_frame.specs.declared.nak.Nak.TheVariants as nak
 use Rattle.ddcmp_core.specs.declared.counters.NakCounts.{NakCounts}
 use Rattle.ddcmp_core.specs.declared.notice.Notice.{Notice}
-use Rattle.ddcmp_core.specs.declared.notice.Notice.TheVariants.{PeerRestarted, Restarted}
+use Rattle.ddcmp_core.specs.declared.notice.Notice.TheVariants as notice
 use Rattle.ddcmp_core.specs.declared.state.State.{State}
 use Rattle.ddcmp_core.specs.declared.state.State.TheVariants.{Halted, IStart, AStart, Running}
 use Rattle.ddcmp_core.specs.declared.state.State.TheVariants.{Maintenance}
@@ -57,7 +57,8 @@ course_begun report_ms = record {
   peer_has_started = false;
   has_run_here = false;
   has_run = false;
-  peer_restarted = false;
+  leaves = false;
+  unready = 0;
   lost = 0;
 }
 
@@ -117,7 +118,7 @@ after_connecting c = record c {
   read_before = c.read;
   peer_has_started = false;
   has_run_here = false;
-  peer_restarted = false;
+  leaves = false;
   quiet_since = c.moment;
 }
 
@@ -339,12 +340,29 @@ start_counted counts c = record c {
 abbrev pub lost_more : ℕ → Course → Course
 lost_more n c = record c { lost = total_plus c.lost n }
 
+-- one more event that begins an incarnation, and an acknowledgement of the first of them
+abbrev pub one_unready : Course → Course
+one_unready c = record c { unready = total_plus c.unready 1 }
+
+abbrev pub one_ready : Course → Course
+one_ready c = record c { unready = c.unready - 1 }
+
+-- if the notice begins an incarnation
+abbrev pub unready_by : Notice → Course → Course
+unready_by notice.Running c = one_unready c
+unready_by notice.RunningAndHandedUp c = one_unready c
+unready_by (notice.Restarted count) c = one_unready c
+unready_by _ c = c
+
 -- The peer restarted, and with `--restart` the messages that this station had accepted are lost by
 -- that.
+abbrev pub noted_by : Notice → Course → Course
+noted_by notice.PeerRestarted c = record c { leaves = true }
+noted_by (notice.Restarted count) c = lost_more count c
+noted_by _ c = c
+
 abbrev pub after_notice : Notice → Course → Course
-after_notice PeerRestarted c = record c { peer_restarted = true }
-after_notice (Restarted count) c = lost_more count c
-after_notice _ c = c
+after_notice n c = noted_by n (unready_by n c)
 
 unfoldable pub after_notices : List Notice → Course → Course
 after_notices [] c = c

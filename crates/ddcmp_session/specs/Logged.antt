@@ -5,6 +5,11 @@ use Rattle.std.specs.Prelude.{if◌then◌else◌, Option, None, Some, List, [],
 use Rattle.ddcmp_core.specs.declared.notice.Notice.{Notice}
 use Rattle.ddcmp_input.specs.declared.entry.Entry.{Entry}
 use Rattle.ddcmp_input.specs.declared.entry.Entry.TheVariants.{NotHexadecimal}
+use Rattle.ddcmp_input.specs.declared.entry.Entry.TheVariants as entry
+use Rattle.ddcmp_streams.specs.declared.messages.Command.{Command}
+use Rattle.ddcmp_streams.specs.declared.messages.Command.TheVariants.{Ready, Restart, Report}
+use Rattle.ddcmp_streams.specs.declared.messages.Command.TheVariants.{Quit}
+use Rattle.ddcmp_streams.specs.declared.messages.Command.TheVariants.{Unknown}
 use Rattle.ddcmp_station.specs.CountersText.{counters_line}
 use Rattle.ddcmp_station.specs.Linking.{LinkView, total_plus}
 use Rattle.ddcmp_station.specs.StationText.{notice_line}
@@ -26,7 +31,7 @@ use Rattle.ddcmp_session.specs.declared.course.Course.{Course}
 use Rattle.ddcmp_session.specs.Course.{tells_no_buffer, tells_refused_long}
 use Rattle.ddcmp_session.specs.Session.{is_telnet, refusals_of}
 use Rattle.ddcmp_streams.specs.Messages.{after_last, entry_of_last, is_message_unfinished}
-use Rattle.ddcmp_streams.specs.Messages.{is_question}
+use Rattle.ddcmp_streams.specs.Messages.{command_in, is_question}
 use Rattle.ddcmp_session.specs.Session.{SessionView, after_start, course_at_start, expires}
 use Rattle.ddcmp_session.specs.Session.{is_delivered, timed_out, unstarted_now, untold}
 use Rattle.ddcmp_streams.specs.Options.{report_ms}
@@ -48,8 +53,20 @@ pub record LoggedSession : Type 0 where
 
 -- ---- how many messages were read
 
--- after a part of the input, which counts unless it is a question
+-- a known command
+abbrev pub is_known : Command → Bool
+is_known Ready = true
+is_known Restart = true
+is_known Report = true
+is_known Quit = true
+is_known Unknown = false
+
+abbrev pub read_by_command : Command → ℕ → ℕ
+read_by_command command n = if is_known command then n else total_plus n 1
+
+-- after a part of the input, which counts unless it is a question or a known command
 abbrev pub read_with : Entry → Messages → ℕ → ℕ
+read_with entry.Command m n = read_by_command (command_in m) n
 read_with NotHexadecimal m n = if is_question m then n else total_plus n 1
 read_with _ m n = total_plus n 1
 

@@ -5,6 +5,11 @@ use Rattle.std.specs.Prelude.{option_to_list}
 use Rattle.ddcmp_input.specs.declared.entry.Entry.{Entry}
 use Rattle.ddcmp_input.specs.declared.entry.Entry.TheVariants.{Message, NotHexadecimal}
 use Rattle.ddcmp_input.specs.declared.entry.Entry.TheVariants.{TooLong, Empty}
+use Rattle.ddcmp_input.specs.declared.entry.Entry.TheVariants as entry
+use Rattle.ddcmp_streams.specs.declared.messages.Command.{Command}
+use Rattle.ddcmp_streams.specs.declared.messages.Command.TheVariants.{Ready, Restart, Report}
+use Rattle.ddcmp_streams.specs.declared.messages.Command.TheVariants.{Quit}
+use Rattle.ddcmp_streams.specs.declared.messages.Command.TheVariants.{Unknown}
 use Rattle.ddcmp_station.specs.Linking.{total_plus}
 use Rattle.ddcmp_streams.specs.declared.errors.TheConstants.{SHORT_LINE}
 use Rattle.ddcmp_streams.specs.declared.messages.Messages.{Messages}
@@ -15,10 +20,10 @@ use Rattle.ddcmp_session.specs.declared.text.TheConstants.{LINE_ROOM}
 use Rattle.ddcmp_streams.specs.Echo.{none_echoed}
 use Rattle.ddcmp_streams.specs.Errors.{ErrorsView, HasLine, no_lines, refused_text}
 use Rattle.ddcmp_session.specs.Logged.{LogView, LoggedSession, HasLost, HasReport, read_after}
-use Rattle.ddcmp_session.specs.Logged.{read_at_end, read_unfinished}
+use Rattle.ddcmp_session.specs.Logged.{is_known, read_at_end, read_unfinished}
 use Rattle.ddcmp_streams.specs.Messages.{after_input, after_last, entries_of_input}
 use Rattle.ddcmp_streams.specs.Messages.{entry_of_last}
-use Rattle.ddcmp_streams.specs.Messages.{is_message_unfinished, is_question}
+use Rattle.ddcmp_streams.specs.Messages.{command_in, is_message_unfinished, is_question}
 use Rattle.ddcmp_session.specs.Session.{form_of, lost_by_end}
 use Rattle.ddcmp_streams.specs.Trace.{TraceView, IsNew}
 
@@ -71,6 +76,7 @@ reason_text Message = codes "message"
 reason_text NotHexadecimal = codes "not hexadecimal"
 reason_text TooLong = codes "too long"
 reason_text Empty = codes "empty"
+reason_text entry.Command = codes "unknown command"
 
 -- The part that was read last is reported, with this reason.
 abbrev pub HasRefused : List ℕ → Messages → ℕ → ErrorsView → ErrorsView → Type 0
@@ -93,9 +99,20 @@ RefusesUnfinished m read old new =
 
 -- ---- while the session runs
 
+-- What is reported for a command: the counters, or that it isn't known.
+abbrev pub ReportsCommand : Command → LoggedSession → ErrorsView → Type 0
+ReportsCommand Ready s new = new ≡ s.log.errors
+ReportsCommand Restart s new = new ≡ s.log.errors
+ReportsCommand Report s new =
+    HasReport s.state.options.json s.state.course.lost s.state.link s.log.errors new
+ReportsCommand Quit s new = new ≡ s.log.errors
+ReportsCommand Unknown s new =
+    RefusesEntry entry.Command s.state.messages s.log.read s.log.errors new
+
 -- For a message nothing is reported; for a question the counters are.
 abbrev pub ReportsEntry : Entry → LoggedSession → ErrorsView → Type 0
 ReportsEntry Message s new = new ≡ s.log.errors
+ReportsEntry entry.Command s new = ReportsCommand (command_in s.state.messages) s new
 ReportsEntry NotHexadecimal s new = MatchBool (is_question s.state.messages)
     (HasReport s.state.options.json s.state.course.lost s.state.link s.log.errors new)
     (RefusesEntry NotHexadecimal s.state.messages s.log.read s.log.errors new)
@@ -130,9 +147,11 @@ ReportsLast s new =
 
 -- ---- after the run
 
--- Of dropped input neither messages nor questions are reported.
+-- Of dropped input neither messages nor questions nor known commands are reported.
 abbrev pub DropsEntry : Entry → Messages → ℕ → ErrorsView → ErrorsView → Type 0
 DropsEntry Message m read old new = new ≡ old
+DropsEntry entry.Command m read old new =
+    MatchBool (is_known (command_in m)) (new ≡ old) (RefusesEntry entry.Command m read old new)
 DropsEntry NotHexadecimal m read old new =
     MatchBool (is_question m) (new ≡ old) (RefusesEntry NotHexadecimal m read old new)
 DropsEntry entry m read old new = RefusesEntry entry m read old new
@@ -149,6 +168,7 @@ CutsEach (entry ∷ rest) m read old new = HasRefused unfinished_text m read old
 -- whether a part of the input was refused, after this one
 abbrev pub refused_with : Entry → Messages → Bool → Bool
 refused_with Message m was = was
+refused_with entry.Command m was = if is_known (command_in m) then was else true
 refused_with NotHexadecimal m was = if is_question m then was else true
 refused_with entry m was = true
 

@@ -9,6 +9,7 @@ use Rattle.ddcmp_core.specs.Table.{after_halt, answer_to_start, is_maintenance}
 use Rattle.ddcmp_core.specs.declared.notice.Notice.{Notice}
 use Rattle.ddcmp_input.specs.declared.entry.Entry.{Entry}
 use Rattle.ddcmp_input.specs.declared.entry.Entry.TheVariants.{Message, NotHexadecimal}
+use Rattle.ddcmp_input.specs.declared.entry.Entry.TheVariants as entry
 use Rattle.ddcmp_frame.specs.Reader.{ReaderView}
 use Rattle.ddcmp_station.specs.Driving.{expires_at}
 use Rattle.ddcmp_station.specs.Linking.{LinkView, link_made, takes_message, after_offered, anew}
@@ -31,7 +32,7 @@ use Rattle.ddcmp_streams.specs.declared.options.Options.{Options}
 use Rattle.ddcmp_streams.specs.Options.{report_ms, speed_of}
 use Rattle.ddcmp_session.specs.declared.text.TheConstants.{LINE_ROOM, LOST_ROOM, NOTICES_ROOM}
 use Rattle.ddcmp_session.specs.Course.{course_begun, after_connecting, after_moment, after_pauses}
-use Rattle.ddcmp_session.specs.Course.{after_entering, lost_more}
+use Rattle.ddcmp_session.specs.Course.{after_entering, lost_more, one_ready}
 use Rattle.ddcmp_session.specs.Course.{after_looked, after_notices, after_unheard}
 use Rattle.ddcmp_session.specs.Course.{after_unstarted, after_writing, expiry_counted, has_asked}
 use Rattle.ddcmp_session.specs.Course.{after_refusals_told, heard_here, start_counted, unstarted}
@@ -39,7 +40,10 @@ use Rattle.ddcmp_core.specs.declared.counters.NakCounts.{NakCounts}
 use Rattle.ddcmp_streams.specs.Messages.{messages_begun, message_in, after_input}
 use Rattle.ddcmp_streams.specs.Messages.{entries_of_input, after_last, entry_of_last}
 use Rattle.ddcmp_streams.specs.Messages.{is_message_unfinished, is_question, count_of}
-use Rattle.ddcmp_streams.specs.Messages.{has_last_line, messages_among}
+use Rattle.ddcmp_streams.specs.Messages.{command_in, has_last_line, messages_among}
+use Rattle.ddcmp_streams.specs.declared.messages.Command.{Command}
+use Rattle.ddcmp_streams.specs.declared.messages.Command.TheVariants.{Ready, Restart, Report, Quit}
+use Rattle.ddcmp_streams.specs.declared.messages.Command.TheVariants.{Unknown}
 use Rattle.ddcmp_session.specs.declared.session.TheConstants.{OUTPUT_ROOM}
 use Rattle.ddcmp_io.specs.Queue.{QueueView, no_bytes}
 
@@ -117,11 +121,35 @@ takes_end s =
     && (takes_in s.options.maintenance s.link
     || (s.course.has_run && not (has_last_line s.messages)))
 
--- A message is sent, and a line `?` asks for a report; any other part is refused.
-abbrev pub after_entry : Entry → SessionView → SessionView
-after_entry Message s = record s {
+-- With events in the output, messages are refused until each event that begins an incarnation is
+-- acknowledged, and once the line is to be left.
+abbrev pub is_barred : Messages → Course → Bool
+is_barred (Digits v) c = false
+is_barred (Binary v) c = false
+is_barred (Events v) c = c.leaves || nat_lt 0 c.unready
+
+abbrev pub is_held : SessionView → Bool
+is_held s = is_barred s.messages s.course
+
+abbrev pub after_message : Bool → SessionView → SessionView
+after_message true s = record s { course = lost_more 1 s.course }
+after_message false s = record s {
   link = after_offered_in s.options.maintenance (message_in s.messages) s.link;
 }
+
+-- A command that is no known one is refused.
+abbrev pub after_command : Command → SessionView → SessionView
+after_command Ready s = record s { course = one_ready s.course }
+after_command Restart s = record s { course = record s.course { leaves = true } }
+after_command Report s = s
+after_command Quit s = record s { is_read = true }
+after_command Unknown s = record s { was_refused = true }
+
+-- A message is sent, or lost if it is refused so, and a line `?` asks for a report; a command is
+-- obeyed; any other part is refused.
+abbrev pub after_entry : Entry → SessionView → SessionView
+after_entry Message s = after_message (is_held s) s
+after_entry entry.Command s = after_command (command_in s.messages) s
 after_entry NotHexadecimal s =
     record s { was_refused = if is_question s.messages then s.was_refused else true }
 after_entry _ s = record s { was_refused = true }

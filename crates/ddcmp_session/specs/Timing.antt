@@ -79,7 +79,7 @@ run_ends_at s = 1000 * s.options.seconds
 abbrev pub end : SessionView → Option EndReason
 end s =
     if nat_le (run_ends_at s) s.course.moment then Some Time
-    else if s.has_line && s.course.peer_restarted then Some Restarted
+    else if s.has_line && s.course.leaves then Some Restarted
     else if s.has_line && is_given_up s then Some GivenUp
     else if is_done s && nat_le (lingers_until s) s.course.moment then Some Done
     else None

@@ -4,7 +4,7 @@ ghost use Rattle.ddcmp_session.specs.Course.{after_connecting, after_entering, a
 ghost use Rattle.ddcmp_session.specs.Course.{after_moment, after_noise, after_opening_failed};
 ghost use Rattle.ddcmp_session.specs.Course.{after_progress, after_state, after_unheard};
 ghost use Rattle.ddcmp_session.specs.Course.{after_writing, course_begun, expiry_counted};
-ghost use Rattle.ddcmp_session.specs.Course.{lost_more};
+ghost use Rattle.ddcmp_session.specs.Course.{lost_more, one_ready, unready_by};
 ghost use Rattle.ddcmp_session.specs.Course.{reports_at, sending_ms, try_counted};
 
 mod pauses;
@@ -13,7 +13,7 @@ mod refusals;
 mod start;
 
 use ddcmp_frame::Nak;
-use ddcmp_station::{Link, NakCounts, State};
+use ddcmp_station::{Link, NakCounts, Notice, State};
 use pauses::{naks_of, refusal_between};
 use progress::{Progress, goes_on, is_at, progress_of};
 pub(crate) use start::Unstarted;
@@ -119,7 +119,10 @@ pub(crate) struct Course {
     /// Whether the station has run over the line that is open, and over any line.
     pub(crate) has_run_here: bool,
     pub(crate) has_run: bool,
-    pub(crate) peer_restarted: bool,
+    /// Whether the line is to be left, since the peer has restarted or a restart is asked for.
+    pub(crate) leaves: bool,
+    /// How many events that began an incarnation the program hasn't acknowledged.
+    pub(crate) unready: u64,
     /// How many messages were read and will never be acknowledged.
     pub(crate) lost: u64,
 }
@@ -165,7 +168,8 @@ impl Course {
             peer_has_started: false,
             has_run_here: false,
             has_run: false,
-            peer_restarted: false,
+            leaves: false,
+            unready: 0,
             lost: 0,
         }
     }
@@ -214,7 +218,7 @@ impl Course {
         self.read_before = self.read;
         self.peer_has_started = false;
         self.has_run_here = false;
-        self.peer_restarted = false;
+        self.leaves = false;
         self.quiet_since = self.moment;
     }
 
@@ -338,6 +342,25 @@ impl Course {
         ensures { self.new ≡ lost_more count self.old }
     {
         self.lost = self.lost.saturating_add(count);
+    }
+
+    /// Counts a notice if it begins an incarnation.
+    pub(crate) fn note_incarnation(&mut self, notice: Notice)
+        ensures { self.new ≡ unready_by notice self.old }
+    {
+        match notice {
+            Notice::Running | Notice::RunningAndHandedUp | Notice::Restarted(_) => {
+                self.unready = self.unready.saturating_add(1);
+            }
+            _ => {}
+        }
+    }
+
+    /// Counts an acknowledgement of such an event.
+    pub(crate) fn make_ready(&mut self)
+        ensures { self.new ≡ one_ready self.old }
+    {
+        self.unready = self.unready.saturating_sub(1);
     }
 
     /// Doubles the pause before the line is opened again, since it couldn't be opened, or ended

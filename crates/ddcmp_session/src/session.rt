@@ -31,7 +31,7 @@ pub enum EndReason {
     Done,
     /// The time limit of the run was reached.
     Time,
-    /// The peer restarted, which halted the station.
+    /// The peer restarted, which halted the station, or a command asks for a restart.
     Restarted,
     /// The peer didn't reply, or refused messages, too many times in a row.
     GivenUp,

@@ -1,9 +1,15 @@
 -- The messages of an input, in any form.
 use Rattle.std.specs.Prelude.{ℕ, ◌+◌, Bool, false, List, [], ◌∷◌, Option, Some, None, is_some}
+use Rattle.std.specs.Prelude.{codes, if◌then◌else◌}
+use Rattle.std.specs.Str.{bytes_eq}
 use Rattle.ddcmp_input.specs.declared.entry.Entry.{Entry}
 use Rattle.ddcmp_input.specs.declared.entry.Entry.TheVariants.{Message}
 use Rattle.ddcmp_input.specs.HexLines as lines
 use Rattle.ddcmp_input.specs.Lengths as lengths
+use Rattle.ddcmp_input.specs.Records as records
+use Rattle.ddcmp_streams.specs.declared.messages.Command.{Command}
+use Rattle.ddcmp_streams.specs.declared.messages.Command.TheVariants.{Ready, Restart, Report}
+use Rattle.ddcmp_streams.specs.declared.messages.Command.TheVariants.{Quit, Unknown}
 use Rattle.ddcmp_streams.specs.declared.messages.MessageForm.{MessageForm}
 use Rattle.ddcmp_streams.specs.declared.messages.MessageForm.TheVariants as form
 use Rattle.ddcmp_streams.specs.declared.messages.Messages.{Messages}
@@ -13,24 +19,24 @@ use Rattle.ddcmp_streams.specs.declared.messages.Messages.TheVariants.{Digits, B
 abbrev pub messages_begun : MessageForm → ℕ → Messages
 messages_begun form.Digits max = Digits (lines.begun max)
 messages_begun form.Binary max = Binary (lengths.begun max)
-messages_begun form.Events max = Events (lengths.begun max)
+messages_begun form.Events max = Events (records.begun max)
 
 -- the message that the last byte completed, if it did
 abbrev pub message_in : Messages → List ℕ
 message_in (Digits v) = v.message
 message_in (Binary v) = v.message
-message_in (Events v) = v.message
+message_in (Events v) = v.lengths.message
 
 -- the reader after bytes of the input, and the parts that they complete
 abbrev pub after_input : List ℕ → Messages → Messages
 after_input bytes (Digits v) = Digits (lines.after_bytes bytes v)
 after_input bytes (Binary v) = Binary (lengths.after_bytes bytes v)
-after_input bytes (Events v) = Events (lengths.after_bytes bytes v)
+after_input bytes (Events v) = Events (records.after_bytes bytes v)
 
 abbrev pub entries_of_input : List ℕ → Messages → List Entry
 entries_of_input bytes (Digits v) = lines.entries_of_bytes bytes v
 entries_of_input bytes (Binary v) = lengths.entries_of_bytes bytes v
-entries_of_input bytes (Events v) = lengths.entries_of_bytes bytes v
+entries_of_input bytes (Events v) = records.entries_of_bytes bytes v
 
 -- The end of the input ends a last line, and completes nothing in binary.
 abbrev pub after_last : Messages → Messages
@@ -64,13 +70,28 @@ messages_among (entry ∷ rest) = count_message entry + messages_among rest
 abbrev pub is_message_unfinished : Messages → Bool
 is_message_unfinished (Digits v) = false
 is_message_unfinished (Binary v) = lengths.is_unfinished v.place
-is_message_unfinished (Events v) = lengths.is_unfinished v.place
+is_message_unfinished (Events v) = records.is_unfinished v
 
 -- the line of the input that was read last is `?`, which asks for a report
 abbrev pub is_question : Messages → Bool
 is_question (Digits v) = lines.is_question v
 is_question (Binary v) = false
 is_question (Events v) = false
+
+-- what a command of a text asks for
+abbrev pub command_of : List ℕ → Command
+command_of text =
+    if bytes_eq text (codes "ready") then Ready
+    else if bytes_eq text (codes "restart") then Restart
+    else if bytes_eq text (codes "report") then Report
+    else if bytes_eq text (codes "quit") then Quit
+    else Unknown
+
+-- what the last command asks for, if the last byte completed it
+abbrev pub command_in : Messages → Command
+command_in (Digits v) = Unknown
+command_in (Binary v) = Unknown
+command_in (Events v) = command_of v.command
 
 -- the number of the line that is read; a message in binary has none
 abbrev pub line_number : Messages → Option ℕ

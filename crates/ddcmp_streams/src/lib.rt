@@ -11,6 +11,6 @@ mod trace;
 
 pub use echo::Echo;
 pub use errors::{EVENT_ROOM, Errors};
-pub use messages::{MessageForm, Messages};
+pub use messages::{Command, MessageForm, Messages};
 pub use options::Options;
 pub use trace::{Trace, Way};

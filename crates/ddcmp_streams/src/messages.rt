@@ -4,10 +4,10 @@ ghost use Rattle.std.specs.Prelude.{option_to_list};
 ghost use Rattle.ddcmp_streams.specs.Messages.{messages_begun, message_in, after_input};
 ghost use Rattle.ddcmp_streams.specs.Messages.{entries_of_input, is_message_unfinished};
 ghost use Rattle.ddcmp_streams.specs.Messages.{after_last, entry_of_last, has_last_line};
-ghost use Rattle.ddcmp_streams.specs.Messages.{is_question};
+ghost use Rattle.ddcmp_streams.specs.Messages.{command_in, command_of, is_question};
 ghost use Rattle.ddcmp_streams.specs.Messages.{line_number};
 
-use ddcmp_input::{Entry, HexLines, Lengths, PushedEntry};
+use ddcmp_input::{Entry, HexLines, Lengths, PushedEntry, Records};
 use std::alloc::{AllocError, Global};
 
 /// How messages are written on standard input and output.
@@ -17,15 +17,48 @@ pub enum MessageForm {
     Digits,
     /// Each after its length as two bytes, high byte first.
     Binary,
-    /// The same, with events among them in the output, whose lengths have the top bit set.
+    /// The same, with events among them in the output and commands among them in the input, whose
+    /// lengths have the top bit set.
     Events,
+}
+
+/// What a command among messages in binary asks for.
+#[derive(Clone, Copy, PartialEq, Eq)]
+pub enum Command {
+    /// `ready`: acknowledges the first event that has none yet and begins an incarnation.
+    Ready,
+    /// `restart`: leaves the line, which is opened again if that is asked for.
+    Restart,
+    /// `report`: asks for a report of the counters.
+    Report,
+    /// `quit`: ends the input.
+    Quit,
+    /// Another text.
+    Unknown,
+}
+
+/// Returns what a command of this text asks for.
+fn command_of(text: &[u8]) -> Command
+    ensures { result ≡ command_of text.now }
+{
+    if text == b"ready".as_slice() {
+        Command::Ready
+    } else if text == b"restart".as_slice() {
+        Command::Restart
+    } else if text == b"report".as_slice() {
+        Command::Report
+    } else if text == b"quit".as_slice() {
+        Command::Quit
+    } else {
+        Command::Unknown
+    }
 }
 
 /// A reader of messages from an input in chunks of any size.
 pub enum Messages {
     Digits(HexLines),
     Binary(Lengths),
-    Events(Lengths),
+    Events(Records),
 }
 
 // Manual, since a derived `Drop` is expanded wherever it is dropped.
@@ -33,7 +66,8 @@ impl Drop for Messages {
     fn drop(self) {
         match self {
             Messages::Digits(_lines) => {}
-            Messages::Binary(_lengths) | Messages::Events(_lengths) => {}
+            Messages::Binary(_lengths) => {}
+            Messages::Events(_records) => {}
         }
     }
 }
@@ -46,7 +80,7 @@ impl Messages {
         match form {
             MessageForm::Digits => Ok(Messages::Digits(HexLines::new(alloc, max)?)),
             MessageForm::Binary => Ok(Messages::Binary(Lengths::new(alloc, max)?)),
-            MessageForm::Events => Ok(Messages::Events(Lengths::new(alloc, max)?)),
+            MessageForm::Events => Ok(Messages::Events(Records::new(alloc, max)?)),
         }
     }
 
@@ -56,7 +90,8 @@ impl Messages {
     {
         match self {
             Messages::Digits(lines) => lines.message(),
-            Messages::Binary(lengths) | Messages::Events(lengths) => lengths.message(),
+            Messages::Binary(lengths) => lengths.message(),
+            Messages::Events(records) => records.message(),
         }
     }
 
@@ -73,7 +108,7 @@ impl Messages {
         match self {
             Messages::Digits(lines) => lines.push_all(bytes),
             Messages::Binary(lengths) => lengths.push_all(bytes),
-            Messages::Events(lengths) => lengths.push_all(bytes),
+            Messages::Events(records) => records.push_all(bytes),
         }
     }
 
@@ -84,7 +119,7 @@ impl Messages {
     {
         match self {
             Messages::Digits(lines) => lines.push(b'\n'),
-            Messages::Binary(_lengths) | Messages::Events(_lengths) => None,
+            Messages::Binary(_) | Messages::Events(_) => None,
         }
     }
 
@@ -94,17 +129,18 @@ impl Messages {
     {
         match self {
             Messages::Digits(lines) => lines.has_last_line(),
-            Messages::Binary(_lengths) | Messages::Events(_lengths) => false,
+            Messages::Binary(_) | Messages::Events(_) => false,
         }
     }
 
-    /// Returns whether a message in binary has begun whose end wasn't read yet.
+    /// Returns whether a message in binary, or a command, has begun whose end wasn't read yet.
     pub fn is_unfinished(&self) -> bool
         ensures { result ≡ is_message_unfinished self.now }
     {
         match self {
             Messages::Digits(_lines) => false,
-            Messages::Binary(lengths) | Messages::Events(lengths) => lengths.is_unfinished(),
+            Messages::Binary(lengths) => lengths.is_unfinished(),
+            Messages::Events(records) => records.is_unfinished(),
         }
     }
 
@@ -114,7 +150,17 @@ impl Messages {
     {
         match self {
             Messages::Digits(lines) => lines.is_question(),
-            Messages::Binary(_lengths) | Messages::Events(_lengths) => false,
+            Messages::Binary(_) | Messages::Events(_) => false,
+        }
+    }
+
+    /// Returns what the last command asks for, if the last byte completed it.
+    pub fn command(&self) -> Command
+        ensures { result ≡ command_in self.now }
+    {
+        match self {
+            Messages::Digits(_) | Messages::Binary(_) => Command::Unknown,
+            Messages::Events(records) => command_of(records.command()),
         }
     }
 
@@ -124,7 +170,7 @@ impl Messages {
     {
         match self {
             Messages::Digits(lines) => Some(lines.number()),
-            Messages::Binary(_lengths) | Messages::Events(_lengths) => None,
+            Messages::Binary(_) | Messages::Events(_) => None,
         }
     }
 }

@@ -1,5 +1,5 @@
-//! Messages of an input, in lines and in binary, pushed in chunks and byte by byte.
-use ddcmp_input::{Entry, HexLines, Lengths, PushedEntry};
+//! Messages of an input, in lines, in binary, and with commands among them, pushed in chunks and byte by byte.
+use ddcmp_input::{Entry, HexLines, Lengths, PushedEntry, Records};
 use std::process::Abort;
 
 /// A call, with its argument and its expected result.
@@ -9,6 +9,7 @@ enum Row {
     Chunk(&'static [u8], usize, Option<Entry>),
     Byte(u8, Option<Entry>),
     Message(&'static [u8]),
+    Command(&'static [u8]),
     Number(u64),
     Unfinished(bool),
 }
@@ -34,7 +35,7 @@ fn is_line(lines: &mut HexLines, row: Row) -> bool {
         Row::Byte(byte, entry) => lines.push(byte) == entry,
         Row::Message(message) => lines.message() == message,
         Row::Number(number) => lines.number() == number,
-        Row::Unfinished(_) => false,
+        Row::Command(_) | Row::Unfinished(_) => false,
     }
 }
 
@@ -45,6 +46,18 @@ fn is_binary(lengths: &mut Lengths, row: Row) -> bool {
         Row::Byte(byte, entry) => lengths.push(byte) == entry,
         Row::Message(message) => lengths.message() == message,
         Row::Unfinished(is_unfinished) => lengths.is_unfinished() == is_unfinished,
+        Row::Command(_) | Row::Number(_) => false,
+    }
+}
+
+/// Returns whether messages with commands among them do what the row expects.
+fn is_record(records: &mut Records, row: Row) -> bool {
+    match row {
+        Row::Chunk(piece, used, entry) => records.push_all(piece) == PushedEntry { used, entry },
+        Row::Byte(byte, entry) => records.push(byte) == entry,
+        Row::Message(message) => records.message() == message,
+        Row::Command(command) => records.command() == command,
+        Row::Unfinished(is_unfinished) => records.is_unfinished() == is_unfinished,
         Row::Number(_) => false,
     }
 }
@@ -120,6 +133,32 @@ const BINARY: &[Row] = &[
     Row::Unfinished(true),
 ];
 
+const RECORDS: &[Row] = &[
+    Row::Chunk(b"\x80\x05ready\x00\x01a", 7, Some(Entry::Command)),
+    Row::Command(b"ready"),
+    Row::Chunk(b"\x00\x03\x80\xff\x80\x80\x00", 5, Some(Entry::Message)),
+    Row::Message(b"\x80\xff\x80"),
+    Row::Command(b"ready"),
+    Row::Chunk(b"\x80\x00\x80\x01x", 2, Some(Entry::Command)),
+    Row::Command(b""),
+    Row::Chunk(b"\x80\x100123456789abcdef", 18, Some(Entry::Command)),
+    Row::Command(b"0123456789abcdef"),
+    Row::Chunk(b"\x80\x110", 2, Some(Entry::TooLong)),
+    Row::Unfinished(false),
+    Row::Chunk(b"0123456789abcdefg\x00\x01z", 20, Some(Entry::Message)),
+    Row::Message(b"z"),
+    Row::Byte(b'\x80', None),
+    Row::Unfinished(true),
+    Row::Byte(b'\x02', None),
+    Row::Byte(b'a', None),
+    Row::Unfinished(true),
+    Row::Byte(b'b', Some(Entry::Command)),
+    Row::Unfinished(false),
+    Row::Chunk(b"\x7f\xff", 2, Some(Entry::TooLong)),
+    Row::Chunk(b"\x00", 1, None),
+    Row::Unfinished(false),
+];
+
 fn with_cr() -> &'static [Row] {
     CR
 }
@@ -130,6 +169,10 @@ fn counted() -> &'static [Row] {
 
 fn binary() -> &'static [Row] {
     BINARY
+}
+
+fn with_commands() -> &'static [Row] {
+    RECORDS
 }
 
 #[test]
@@ -156,5 +199,16 @@ fn messages_after_lengths(rt: HostRuntime) {
     let mut lengths = lengths(&rt);
     for (i, row) in binary().iter().enumerate() {
         assert!(rt; is_binary(&mut lengths, *row), "row {i}");
+    }
+}
+
+#[test]
+fn messages_with_commands(rt: HostRuntime) {
+    let mut records = match Records::new(rt.alloc(), 3) {
+        Ok(records) => records,
+        Err(_refused) => panic!(rt; "no memory"),
+    };
+    for (i, row) in with_commands().iter().enumerate() {
+        assert!(rt; is_record(&mut records, *row), "row {i}");
     }
 }

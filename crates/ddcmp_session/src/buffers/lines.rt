@@ -329,7 +329,8 @@ impl Buffers {
 
     /// Returns whether there may be more input than was read.
     fn has_more(&self, session: &Session) -> bool
-        ensures { result ≡ (not self.now.is_over && session.now.state.options.awaits_end) }
+        ensures { result ≡ (not self.now.is_over && (not session.now.state.is_read
+            && session.now.state.options.awaits_end)) }
     {
         !self.input_is_over && session.awaits_end()
     }

@@ -4,7 +4,7 @@ use crate::text;
 use ddcmp_streams::MessageForm;
 
 impl Session {
-    ghost use Rattle.std.specs.Prelude.{◌≡◌, ◌≢◌, true, false, []};
+    ghost use Rattle.std.specs.Prelude.{◌≡◌, ◌≢◌, ◌&&◌, not, true, false, []};
     ghost use Rattle.ddcmp_io.specs.Written.{HandsOver};
     ghost use Rattle.ddcmp_core.specs.Table.{after_halt};
     ghost use Rattle.ddcmp_station.specs.CountersText.{counters_line};
@@ -166,11 +166,11 @@ impl Session {
         self.course.peer_has_started
     }
 
-    /// Returns whether the run ends well only if its input was read to its end.
+    /// Returns whether the run ends well only if the rest of its input is read to its end.
     pub(crate) fn awaits_end(&self) -> bool
-        ensures { result ≡ self.now.state.options.awaits_end }
+        ensures { result ≡ (not self.now.state.is_read && self.now.state.options.awaits_end) }
     {
-        self.options.awaits_end
+        !self.input_is_read && self.options.awaits_end
     }
 
     /// Returns whether a part of the input was refused.

@@ -5,6 +5,7 @@ ghost use Rattle.ddcmp_session.specs.Reported.{reason_text};
 use crate::session::Session;
 use ddcmp_input::Entry;
 use ddcmp_station::State;
+use ddcmp_streams::{Command, MessageForm};
 
 /// Returns what is wrong with a part of the input that is no message.
 fn reason_of(entry: Entry) -> &'static [u8]
@@ -15,6 +16,7 @@ fn reason_of(entry: Entry) -> &'static [u8]
         Entry::NotHexadecimal => b"not hexadecimal",
         Entry::TooLong => b"too long",
         Entry::Empty => b"empty",
+        Entry::Command => b"unknown command",
     }
 }
 
@@ -24,17 +26,20 @@ impl Session {
     ghost use Rattle.std.specs.Prelude.{◌≡◌, ◌+◌, ◌≤◌, ◌∷◌, ℕ, true, false, [], length, take};
     ghost use Rattle.std.specs.Prelude.{option_to_list};
     ghost use Rattle.ddcmp_session.specs.Course.{lost_more};
-    ghost use Rattle.ddcmp_session.specs.Logged.{read_after, read_at_end, read_unfinished};
+    ghost use Rattle.ddcmp_session.specs.Logged.{read_after, read_at_end, read_by_command};
+    ghost use Rattle.ddcmp_session.specs.Logged.{read_unfinished};
     ghost use Rattle.ddcmp_station.specs.Linking.{total_plus};
     ghost use Rattle.ddcmp_streams.specs.Messages.{after_input, entries_of_input};
     ghost use Rattle.ddcmp_streams.specs.Messages.{count_of};
     ghost use Rattle.ddcmp_session.specs.Reported.{CutsEach, DropsBytes, DropsEach, DropsInput};
     ghost use Rattle.ddcmp_session.specs.Reported.{DropsLast, HasRefused, RefusesUnfinished};
-    ghost use Rattle.ddcmp_session.specs.Reported.{ReportsEach, ReportsInput, ReportsLast};
+    ghost use Rattle.ddcmp_session.specs.Reported.{ReportsCommand, ReportsEach, ReportsInput};
+    ghost use Rattle.ddcmp_session.specs.Reported.{ReportsLast};
     ghost use Rattle.ddcmp_session.specs.Reported.{dropping, read_at_last, refused_after};
     ghost use Rattle.ddcmp_session.specs.Reported.{refused_at_last, refused_cut};
     ghost use Rattle.ddcmp_session.specs.Session.{wants_input, after_input_read, after_input_end};
-    ghost use Rattle.ddcmp_session.specs.Session.{after_entries, after_entry, after_unfinished};
+    ghost use Rattle.ddcmp_session.specs.Session.{after_command, after_entries, after_entry};
+    ghost use Rattle.ddcmp_session.specs.Session.{after_message, after_unfinished, is_held};
     ghost use Rattle.ddcmp_session.specs.Session.{form_of, takes_end, takes_in};
     ghost use Rattle.ddcmp_session.specs.Session.{lost_among, lost_at_end, lost_with_last};
 
@@ -59,7 +64,7 @@ impl Session {
     /// Sends the message that was read last.
     fn offer(&mut self)
         ensures { self.new
-            ≡ record self.old { state = after_entry Entry.Message self.old.state } }
+            ≡ record self.old { state = after_message false self.old.state } }
     {
         let message = self.messages.message();
         let _sent = if self.options.maintenance {
@@ -144,12 +149,57 @@ impl Session {
             None => {}
             Some(Entry::Message) => {
                 self.count_entry();
-                self.offer();
+                self.take_message();
+            }
+            Some(Entry::Command) => {
+                let command = self.messages.command();
+                self.obey(command);
             }
             Some(Entry::NotHexadecimal) if self.messages.is_question() => self.report_counters(),
             Some(refused) => {
                 self.count_entry();
                 self.refuse(reason_of(refused));
+            }
+        }
+    }
+
+    /// Sends the message that was read last, or counts it as lost if an event that began an
+    /// incarnation isn't acknowledged, or if the line is to be left.
+    fn take_message(&mut self)
+        ensures { self.new
+            ≡ record self.old { state = after_entry Entry.Message self.old.state } }
+    {
+        if self.is_held() {
+            self.course.lose(1);
+        } else {
+            self.offer();
+        }
+    }
+
+    /// Returns whether messages are refused so.
+    fn is_held(&self) -> bool
+        ensures { result ≡ is_held self.now.state }
+    {
+        let is_barred = self.course.leaves || self.course.unready > 0;
+        self.options.form == MessageForm::Events && is_barred
+    }
+
+    /// Obeys the command that was read last, or reports that it isn't known.
+    fn obey(&mut self, command: Command)
+        ensures state { self.new.state ≡ after_command command self.old.state }
+        ensures errors { ReportsCommand command self.old self.new.log.errors }
+        ensures read { self.new.log.read ≡ read_by_command command self.old.log.read }
+        ensures log { self.new.log
+            ≡ record self.old.log { errors = self.new.log.errors; read = self.new.log.read } }
+    {
+        match command {
+            Command::Ready => self.course.make_ready(),
+            Command::Restart => self.course.leaves = true,
+            Command::Report => self.report_counters(),
+            Command::Quit => self.input_is_read = true,
+            Command::Unknown => {
+                self.count_entry();
+                self.refuse(reason_of(Entry::Command));
             }
         }
     }
@@ -283,6 +333,7 @@ impl Session {
                 1
             }
             Some(Entry::NotHexadecimal) if self.messages.is_question() => 0,
+            Some(Entry::Command) if self.messages.command() != Command::Unknown => 0,
             Some(refused) => {
                 self.count_entry();
                 self.refuse(reason_of(refused));

@@ -254,6 +254,7 @@ impl Session {
             self.old.log.errors self.new.log.errors }
         ensures log { self.new.log ≡ record self.old.log { errors = self.new.log.errors } }
     {
+        self.course.note_incarnation(notice);
         match self.options.form {
             MessageForm::Digits => text::write_notice_line(&mut self.output, notice),
             MessageForm::Binary => put_notice(&mut self.errors, notice),
@@ -263,7 +264,7 @@ impl Session {
             Notice::Restarted(lost) => {
                 let _has_room = self.report_lost(lost);
             }
-            Notice::PeerRestarted => self.course.peer_restarted = true,
+            Notice::PeerRestarted => self.course.leaves = true,
             _ => {}
         }
     }

@@ -189,7 +189,7 @@ impl Session {
         if self.run_ends_at() <= now {
             return Some(EndReason::Time);
         }
-        if self.has_line && self.course.peer_restarted {
+        if self.has_line && self.course.leaves {
             return Some(EndReason::Restarted);
         }
         if self.has_line && self.is_given_up() {
