@@ -115,6 +115,7 @@ module _ (x : Face) (awake : x.station.state ≢ Halted) (trains : x.station.sta
   acts-as early _ (starting_idles e d) = i_starts e d
   acts-as early _ (running_idles e r f place) = i_runs e r f (let n = left in omega
       (arith, place, n))
+  acts-as early _ (maintenance_idles e o) = absurd (trains e)
 
   pub idles-as : (z : Next) → SentFor x.station z → z ≡ Idle → Idles v
   idles-as _ (sends_strt e d) q = absurd (cc q)
@@ -129,7 +130,6 @@ module _ (x : Face) (awake : x.station.state ≢ Halted) (trains : x.station.sta
   idles-as _ (running_idles e r f place) q =
       i_runs e r f (let n = left in omega (arith, place, n))
   idles-as _ (maintenance_idles e o) q = absurd (trains e)
-  acts-as _ (maintenance_idles e r) = absurd (trains e)
 
 -- ---- its timer expires
 

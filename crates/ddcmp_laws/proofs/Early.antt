@@ -1,5 +1,5 @@
 -- Stations that acknowledge messages when they are received.
-use Rattle.std.proofs.Common.{◌≡◌, ℕ, Bool, false, cond, List, [], ◌∷◌, length, drop, refl, sym}
+use Rattle.std.proofs.Common.{◌≡◌, ◌<◌, ℕ, Bool, true, false, arith, cond, List, [], ◌∷◌, length, drop, refl, sym}
 use Rattle.std.proofs.Common.{◌∙◌, ap}
 use Rattle.std.specs.Prelude.{◌&&◌, nat_lt}
 use Rattle.ddcmp_core.specs.Sequence.{distance}
@@ -13,6 +13,13 @@ use Rattle.ddcmp_laws.specs.LossFree.{Line, after_on_line, run_on_line, IsEarly}
 
 pub early-resp : (s : StationState) → s.by_user ≡ false → resp_of s ≡ s.r
 early-resp s e = ap (λ (b : Bool). cond b (distance (length s.inbox) s.r) s.r) e
+
+pub resp-byte : (s : StationState) → s.r < 256 → resp_of s < 256
+resp-byte s h = by s.by_user
+  where
+    by : (b : Bool) → cond b (distance (length s.inbox) s.r) s.r < 256
+    by true = omega arith
+    by false = h
 
 pub early-take : (s : StationState) → s.by_user ≡ false
     → after_take s ≡ record s { inbox = drop 1 s.inbox }

@@ -18,6 +18,7 @@ use Rattle.ddcmp_core.specs.NextFrame.{SentFor, sends_strt, sends_stack, sends_n
 use Rattle.ddcmp_core.specs.NextFrame.{sends_data, sends_ack, sends_maint, halted_idles}
 use Rattle.ddcmp_core.specs.NextFrame.{starting_idles, running_idles, maintenance_idles}
 use Rattle.ddcmp_core.specs.Frames.{frame_of, header_of, message_of}
+use Rattle.ddcmp_laws.proofs.Early.{resp-byte}
 use Rattle.ddcmp_core.specs.Core.{CoreView, IsSound, IsReceivable}
 use Rattle.ddcmp_core.specs.Store.{IsStored}
 use Rattle.ddcmp_core.proofs.Sent.{sending}
@@ -72,10 +73,10 @@ HasBytes Idle = Unit {0}
 has_bytes : (l : Limits) (s : StationState) (t : Next) → IsSound l s → SentFor s t → HasBytes t
 has_bytes l s _ h (sends_strt p d) = tt
 has_bytes l s _ h (sends_stack p d) = tt
-has_bytes l s _ h (sends_nak why p r) = h.r_byte
+has_bytes l s _ h (sends_nak why p r) = resp-byte s h.r_byte
 has_bytes l s _ h (sends_rep p r f) = tt
-has_bytes l s _ h (sends_data p r f place) = (h.r_byte, h.in_window.t_byte)
-has_bytes l s _ h (sends_ack p r f place) = h.r_byte
+has_bytes l s _ h (sends_data p r f place) = (resp-byte s h.r_byte, h.in_window.t_byte)
+has_bytes l s _ h (sends_ack p r f place) = resp-byte s h.r_byte
 has_bytes l s _ h (sends_maint m ms p o) = tt
 has_bytes l s _ h (halted_idles p) = tt
 has_bytes l s _ h (starting_idles p d) = tt

@@ -156,11 +156,11 @@ nothing-is : {X : Type 0} (l : List X) → (length l == 0) ≡ true → l ≡ []
 nothing-is [] e = refl
 nothing-is (x ∷ l) e = let z : length (x ∷ l) ≡ 0 = eqb-true _ _ e in absurd (omega (arith, z))
 
-module _ (x : EndState) (small : x.core.limits.window ≤ 255)
+module _ (x : EndState) (small : x.core.limits.window ≤ 255) (room : x.core.limits.room ≤ 255)
     (halted : is_halted x.core.station.state ≡ true) where
   alone-anew : (empty : Bool) → (length x.core.station.inbox == 0) ≡ empty
       → IsAlone (begun_anew empty x)
-  alone-anew true e = alone-fresh (cleared x) (fresh-cleared x small halted e)
+  alone-anew true e = alone-fresh (cleared x) (fresh-cleared x small room halted e)
   alone-anew false e = λ heard once. absurd (omega (arith, once))
 
   linked-anew : (y : EndState) → IsAlone y → has_heard_none y ≡ true → y.starts ≤ 1
@@ -168,7 +168,7 @@ module _ (x : EndState) (small : x.core.limits.window ≤ 255)
       → (begun_anew empty x).starts ≤ 1 → Linked y (begun_anew empty x)
   linked-anew y a heard once true e s =
       a (nothing-is (good_frames y.core.limits.longest y.arrived) heard) once (cleared x)
-      (fresh-cleared x small halted e)
+      (fresh-cleared x small room halted e)
   linked-anew y a heard once false e s = absurd (omega (arith, s))
 
 keeps-clear-a : (p : PairState) → Keeps p → Keeps (after_station_call A ClearsLine p)
@@ -187,12 +187,14 @@ keeps-clear-a p k = by (is_halted p.a.core.station.state) refl
       holds = record {
         small = k.holds.small;
         small' = k.holds.small';
+    room = k.holds.room;
+    room' = k.holds.room';
         linked = λ honest clean. let c = clean-means _ _ clean in
             linked-turned _ _
-            (linked-anew p.a k.holds.small h p.b k.b honest c.1
+            (linked-anew p.a k.holds.small k.holds.room h p.b k.b honest c.1
             (length p.a.core.station.inbox == 0) refl c.0);
       };
-      a = alone-anew p.a k.holds.small h (length p.a.core.station.inbox == 0) refl;
+      a = alone-anew p.a k.holds.small k.holds.room h (length p.a.core.station.inbox == 0) refl;
       b = k.b;
     }
     by false h = k
@@ -210,12 +212,14 @@ keeps-clear-b p k = by (is_halted p.b.core.station.state) refl
       holds = record {
         small = k.holds.small;
         small' = k.holds.small';
+    room = k.holds.room;
+    room' = k.holds.room';
         linked = λ honest clean. let c = clean-means _ _ clean in
-            linked-anew p.b k.holds.small' h p.a k.a honest c.0
+            linked-anew p.b k.holds.small' k.holds.room' h p.a k.a honest c.0
             (length p.b.core.station.inbox == 0) refl c.1;
       };
       a = k.a;
-      b = alone-anew p.b k.holds.small' h (length p.b.core.station.inbox == 0) refl;
+      b = alone-anew p.b k.holds.small' k.holds.room' h (length p.b.core.station.inbox == 0) refl;
     }
     by false h = k
 
@@ -238,6 +242,8 @@ keeps-maintained-a true p k = record {
   holds = record {
     small = k.holds.small;
     small' = k.holds.small';
+    room = k.holds.room;
+    room' = k.holds.room';
     linked = λ honest clean. let c = (clean-means 2 p.b.starts clean).0 in
         absurd (omega (arith, c));
   };
@@ -252,6 +258,8 @@ keeps-maintained-b true p k = record {
   holds = record {
     small = k.holds.small;
     small' = k.holds.small';
+    room = k.holds.room;
+    room' = k.holds.room';
     linked = λ honest clean. let c = (clean-means p.a.starts 2 clean).1 in
         absurd (omega (arith, c));
   };
@@ -299,6 +307,8 @@ keeps-sends A message p k = record {
   holds = record {
     small = k.holds.small;
     small' = k.holds.small';
+    room = k.holds.room;
+    room' = k.holds.room';
     linked = λ honest clean. linked-sends message p.a p.b (k.holds.linked honest clean);
   };
   a = λ heard once y f. linked-sends message p.a y (k.a heard once y f);
@@ -308,6 +318,8 @@ keeps-sends B message p k = record {
   holds = record {
     small = k.holds.small;
     small' = k.holds.small';
+    room = k.holds.room;
+    room' = k.holds.room';
     linked = λ honest clean.
         linked-turned _ _
         (linked-sends message p.b p.a (linked-turned _ _ (k.holds.linked honest clean)));

@@ -9,6 +9,7 @@ use Rattle.ddcmp_frame.specs.declared.item.Item.TheVariants as item
 use Rattle.ddcmp_frame.specs.Reading.{ReadItem, open_at_end}
 use Rattle.ddcmp_frame.proofs.FrameLaws.{whole-items, whole-closed}
 use Rattle.ddcmp_core.specs.Frames.{header_of, message_of}
+use Rattle.ddcmp_laws.proofs.Early.{resp-byte}
 use Rattle.ddcmp_core.specs.Core.{CoreView, IsSound, IsReceivable}
 use Rattle.ddcmp_core.specs.NextFrame.{SentFor, sends_strt, sends_stack, sends_nak, sends_rep}
 use Rattle.ddcmp_core.specs.NextFrame.{sends_data, sends_ack, sends_maint, halted_idles}
@@ -102,12 +103,12 @@ in_range : (l m : Limits) (s : StationState) → l.longest ≡ m.longest → IsS
     → SentFor s z → InRange m z
 in_range l m s same h _ (sends_strt e d) = tt
 in_range l m s same h _ (sends_stack e d) = tt
-in_range l m s same h _ (sends_nak why e r) = h.r_byte
+in_range l m s same h _ (sends_nak why e r) = resp-byte s h.r_byte
 in_range l m s same h _ (sends_rep e r f) = tt
 in_range l m s same h _ (sends_data e r f place) =
     let g = h.out_stored.lengths (before_next s) place in
-    (h.r_byte, h.in_window.t_byte, g.0, omega (arith, g.1, same))
-in_range l m s same h _ (sends_ack e r f place) = h.r_byte
+    (resp-byte s h.r_byte, h.in_window.t_byte, g.0, omega (arith, g.1, same))
+in_range l m s same h _ (sends_ack e r f place) = resp-byte s h.r_byte
 in_range l m s same h _ (sends_maint message rest e o) =
     let g = h.out_stored.lengths 0 (omega (arith, ap length o)) in
     let g' = rw o at g in

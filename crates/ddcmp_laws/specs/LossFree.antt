@@ -1,6 +1,6 @@
 -- A line without loss: the bytes that an end writes are in flight to the other, and arrive there
 -- from the front, in chunks of any size.
-use Rattle.std.specs.Prelude.{◌≡◌, ℕ, List, [], ◌∷◌, ◌++◌, length, drop, Option, Some, None}
+use Rattle.std.specs.Prelude.{◌≡◌, ℕ, false, List, [], ◌∷◌, ◌++◌, length, drop, Option, Some, None}
 use Rattle.std.specs.List.{All}
 use Rattle.ddcmp_frame.specs.Reading.{ReadItem, open_at_end}
 use Rattle.ddcmp_core.specs.Core.{IsSound, IsReceivable}

@@ -14,7 +14,7 @@ use Rattle.ddcmp_core.specs.declared.state.State.TheVariants.{Maintenance}
 use Rattle.ddcmp_core.specs.declared.state.Owed.{Owed}
 use Rattle.ddcmp_core.specs.declared.state.Owed.TheVariants.{Quiet, Ack, Nak}
 use Rattle.ddcmp_core.specs.declared.state.Timer.TheVariants.{Off, Fresh}
-use Rattle.ddcmp_core.specs.Table.{resp_of}
+use Rattle.ddcmp_core.specs.Table.{resp_of as resp_sent}
 use Rattle.ddcmp_core.specs.Table.{Limits, StationState, Frame, Data, Acked, Naked, Rep, Strt}
 use Rattle.ddcmp_core.specs.Table.{Stack, Maint, Received, Good, BadHeader, BadData, TooLong}
 use Rattle.ddcmp_core.specs.Table.{BadFormat, Next, Idle, Sends, after_ack, has_message}
@@ -316,10 +316,10 @@ first_of (message ∷ rest) = message
 abbrev pub frame_of : Pending → State → Owed → StationState → Frame
 frame_of StartPends IStart reply s = Strt
 frame_of StartPends state reply s = Stack
-frame_of NakPends state reply s = Naked (reason_in reply) (resp_of s)
+frame_of NakPends state reply s = Naked (reason_in reply) (resp_sent s)
 frame_of RepPends state reply s = Rep s.n
-frame_of MessagePends state reply s = Data (resp_of s) s.t (message_at_next s)
-frame_of AckPends state reply s = Acked (resp_of s)
+frame_of MessagePends state reply s = Data (resp_sent s) s.t (message_at_next s)
+frame_of AckPends state reply s = Acked (resp_sent s)
 frame_of MaintenancePends state reply s = Maint (first_of s.out)
 
 -- The station once it was sent: STRT, STACK and REP start the reply timer anew, a message starts
