@@ -148,7 +148,7 @@ def test_quit_before_the_line_is_up():
     assert peer.waits(lambda it: it.frames, 10)
     assert not link.waits(lambda it: not it.is_running(), 0.5)
     held = False
-    must_end("quit", link, 0)
+    assert link.ended() == 0, link
 
 
 def test_commands_of_messages_in_digits():
