@@ -1,5 +1,8 @@
 """A program above a link: events in its output, commands in its input, and messages that are refused
 until it has acknowledged that an incarnation began."""
+import os
+import time
+
 import pytest
 
 from .peers import Peer, called, dials, good, no_ack
@@ -119,6 +122,24 @@ def test_quit_loses_what_follows():
     assert peer.mail == [b"one"]
 
 
+def test_quit_reads_no_more(tmp_path):
+    """What is written to a FIFO after that stays there, even if the line ends."""
+    path = f"{tmp_path}/input"
+    os.mkfifo(path)
+    fifo = os.open(path, os.O_RDWR)
+    link, peer = called(*EVENTS, answer=no_ack, stdin=fifo)
+    assert is_up(link)
+    os.write(fifo, READY + binary([b"one"]) + QUIT)
+    assert peer.waits(lambda it: it.named("DATA"), 10)
+    time.sleep(0.5)
+    os.write(fifo, binary([b"two"]))
+    peer.close()
+    must_end("quit", link, 3, unacknowledged(1))
+    os.set_blocking(fifo, False)
+    assert os.read(fifo, 99) == binary([b"two"])
+    os.close(fifo)
+
+
 def test_quit_before_the_line_is_up():
     """It is read once the station runs, as the end of an input is."""
     link, peer = called(*EVENTS, answer=lambda peer, it: b"" if held else good(peer, it))
@@ -127,7 +148,7 @@ def test_quit_before_the_line_is_up():
     assert peer.waits(lambda it: it.frames, 10)
     assert not link.waits(lambda it: not it.is_running(), 0.5)
     held = False
-    must_end("quit", link, 0)
+    assert link.ended() == 0, link
 
 
 def test_commands_of_messages_in_digits():

@@ -18,7 +18,7 @@ use Rattle.ddcmp_session.specs.Calls.{written_in}
 use Rattle.ddcmp_session.specs.Devices.{BuffersView, GoesOn}
 use Rattle.ddcmp_session.specs.Traffic.{Becomes, Traffic, after_line_read, after_line_written}
 use Rattle.ddcmp_session.specs.Traffic.{after_written, moved_of}
-use Rattle.ddcmp_session.specs.Traffic.{LineLog, Receives, Writes, log_with}
+use Rattle.ddcmp_session.specs.Traffic.{Receives, Writes, log_with}
 use Rattle.ddcmp_session.specs.Orders.{Follows}
 use Rattle.ddcmp_session.proofs.OrderLaws.{follows-came, follows-used, follows-wrote}
 use Rattle.ddcmp_session.proofs.OrderLaws.{received-none, received-one, sent-none, sent-one}

@@ -1,5 +1,5 @@
 -- The run of a new session.
-use Rattle.std.proofs.Common.{◌≡◌, ◌∙◌, ap, sym, subst, Bool, [], Option}
+use Rattle.std.proofs.Common.{◌≡◌, ap, subst, Bool, [], Option}
 use Rattle.std.specs.Prelude.{Result, Ok, Err}
 use Rattle.ddcmp_frame.specs.Reader.{StandsFor}
 use Rattle.ddcmp_session.specs.declared.buffers.lines.Stop.TheVariants.{the_data as Stop}

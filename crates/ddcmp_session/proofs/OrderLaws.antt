@@ -1,12 +1,11 @@
 -- The order of what a session and its devices did at the line.
-use Rattle.std.proofs.Common.{◌≡◌, ◌∙◌, ap, sym, subst, refl, ℕ, List, [], ◌∷◌, ◌++◌}
+use Rattle.std.proofs.Common.{◌≡◌, ◌∙◌, ap, sym, refl, ℕ, List, [], ◌∷◌, ◌++◌}
 use Rattle.std.proofs.Common.{append_assoc, append-nil, ◌+◌}
 use Rattle.ddcmp_session.specs.Traffic.{LineAct, LineLog, Receives, Writes, log_begun, log_with}
 use Rattle.ddcmp_session.specs.Traffic.{received, received_by, sent, written_by}
-use Rattle.ddcmp_session.specs.Session.{SessionView}
 use Rattle.ddcmp_session.specs.Calls.{SessionHistory, SessionStep, after_session_step}
 use Rattle.ddcmp_session.specs.Calls.{after_session_steps}
-use Rattle.ddcmp_session.specs.Orders.{AreReceipts, Follows, IsBehind, KeepsOrder, log_after}
+use Rattle.ddcmp_session.specs.Orders.{AreReceipts, Follows, IsBehind, log_after}
 use Rattle.ddcmp_session.specs.Orders.{log_over}
 
 pub received-more : (xs ys : List LineAct) → received (xs ++ ys) ≡ received xs ++ received ys

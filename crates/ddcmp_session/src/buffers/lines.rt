@@ -318,7 +318,8 @@ impl Buffers {
             (D.traffic devices.new) fault }
     {
         let has_run = session.has_run();
-        let read = self.read_if(devices, has_run && is_over(&ran));
+        let reads = has_run && is_over(&ran) && !session.has_read_input();
+        let read = self.read_if(devices, reads);
         let has_more = self.has_more(session);
         self.close(session);
         match read {

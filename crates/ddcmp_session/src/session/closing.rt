@@ -173,6 +173,13 @@ impl Session {
         !self.input_is_read && self.options.awaits_end
     }
 
+    /// Returns whether no more of the input is read.
+    pub(crate) fn has_read_input(&self) -> bool
+        ensures { result ≡ self.now.state.is_read }
+    {
+        self.input_is_read
+    }
+
     /// Returns whether a part of the input was refused.
     pub fn was_refused(&self) -> bool
         ensures { result ≡ self.now.state.was_refused }
