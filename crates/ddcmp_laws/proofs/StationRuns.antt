@@ -187,8 +187,8 @@ keeps-clear-a p k = by (is_halted p.a.core.station.state) refl
       holds = record {
         small = k.holds.small;
         small' = k.holds.small';
-    room = k.holds.room;
-    room' = k.holds.room';
+        room = k.holds.room;
+        room' = k.holds.room';
         linked = λ honest clean. let c = clean-means _ _ clean in
             linked-turned _ _
             (linked-anew p.a k.holds.small k.holds.room h p.b k.b honest c.1
@@ -212,8 +212,8 @@ keeps-clear-b p k = by (is_halted p.b.core.station.state) refl
       holds = record {
         small = k.holds.small;
         small' = k.holds.small';
-    room = k.holds.room;
-    room' = k.holds.room';
+        room = k.holds.room;
+        room' = k.holds.room';
         linked = λ honest clean. let c = clean-means _ _ clean in
             linked-anew p.b k.holds.small' k.holds.room' h p.a k.a honest c.0
             (length p.b.core.station.inbox == 0) refl c.1;
