@@ -142,8 +142,8 @@ def test_quit_reads_no_more(tmp_path):
 
 def test_quit_before_the_line_is_up():
     """It is read once the station runs, as the end of an input is."""
-    link, peer = called(*EVENTS, answer=lambda peer, it: b"" if held else good(peer, it))
     held = True
+    link, peer = called(*EVENTS, answer=lambda peer, it: b"" if held else good(peer, it))
     link.give(QUIT, close=False)
     assert peer.waits(lambda it: it.frames, 10)
     assert not link.waits(lambda it: not it.is_running(), 0.5)
