@@ -324,7 +324,8 @@ _TYPES: Dict[str, Any] = {
 }
 _CALLS = {
     "new": "4pp", "free": "vp", "config": "4pp", "start": "4pp", "enter_maintenance": "4pp",
-    "acknowledge_on_take": "4pt", "halt": "4p", "clear_line": "tp", "state": "4p", "send": "4ppnp", "send_maintenance": "4ppn",
+    "acknowledge_on_take": "4pt", "halt": "4p", "clear_line": "tp", "state": "4p",
+    "send": "4ppnp", "send_maintenance": "4ppn",
     "send_refusal": "4ppn", "room": "tp", "outgoing": "1p", "take": "4ppnp", "waiting": "1p",
     "waiting_length": "np1", "waiting_at": "4p1pnp", "feed": "4ppnpp", "poll": "4ppnp",
     "frame_room": "np", "next_length": "np", "offset": "8p", "open": "np", "held": "np",

@@ -1,5 +1,5 @@
-"""A program above a link: events in its output, commands in its input, and messages that are refused
-until it has acknowledged that an incarnation began."""
+"""A program above a link: events in its output, commands in its input, and messages that are
+refused until it has acknowledged that an incarnation began."""
 import os
 import time
 
@@ -71,7 +71,8 @@ def test_ready_too_often():
     (commands("nonsense"), "unknown command"), (commands(""), "unknown command"),
     (commands("Ready"), "unknown command"), (commands("readyx"), "unknown command"),
     (commands("x" * 16), "unknown command"), (commands("ready" * 4), "too long"),
-    (commands("x" * 0x7fff), "too long"), (binary([b""]), "empty"), (binary([b"x" * 9999]), "too long"),
+    (commands("x" * 0x7fff), "too long"), (binary([b""]), "empty"),
+    (binary([b"x" * 9999]), "too long"),
     (bytes([0x80, 5]) + b"\xff\0\x80\x05x", "unknown command")])
 def test_unknown(text, why):
     """A command that isn't known is reported, and nothing is lost by it."""

@@ -15,6 +15,7 @@ from .wire import binary, commands, drawn
 
 UNIT = "systemd/ddcmp.service"
 SOON = 30  # seconds that nothing here may take
+MOST = 20_000  # messages that a program has to send
 
 
 def test_form():
@@ -119,12 +120,15 @@ class Program:
             self.wanted += count
             self.write()
 
-    def restart(self):
-        """Stops its link, and starts it again: nothing is written in between."""
+    def left(self):
+        """How many messages aren't acknowledged, or not even sent."""
+        return self.wanted - self.acknowledged
+
+    def stop(self):
+        """Stops its link; nothing is written until another one runs."""
         with self.lock:
             self.is_up = False
         self.service.stop()
-        self.service.start()
 
     def has_all(self, other):
         return self.taken == other.wanted
@@ -135,7 +139,8 @@ class Program:
     3, pytest.param(20, marks=[pytest.mark.long, pytest.mark.limit(600)])])
 def test_restarts(tmp_path, restarts):
     """Nothing is lost over restarts of either side while both send, and nothing comes twice or out
-    of order, but for what may have been lost and is sent again."""
+    of order, but for what may have been lost and is sent again. A link ends though its peer has
+    more to send."""
     port, ends = free_port(), []
     for name, kind in ("one", "listen"), ("two", "connect"):
         (tmp_path / name).mkdir()
@@ -143,9 +148,11 @@ def test_restarts(tmp_path, restarts):
     for again in range(restarts):
         for end in ends:
             assert holds_within(SOON, lambda it=end: it.is_up), end.service.link
-            end.send(1000)
+            end.send(MOST - end.left())
         time.sleep(drawn.uniform(0, 0.1))
-        ends[again % 2].restart()
+        ends[again % 2].stop()
+        assert ends[1 - again % 2].left(), "it waited for the peer"
+        ends[again % 2].service.start()
     for end in ends:
         end.send(100)
     assert holds_within(SOON, lambda: ends[0].has_all(ends[1]) and ends[1].has_all(ends[0])), [

@@ -1,4 +1,6 @@
-"""Receives messages and appends them to a file: `keep.py PORT FILE`, over a connection to this machine.
+"""Receives messages over a connection to this machine, and appends them to a file.
+
+    keep.py PORT FILE
 
 A message is acknowledged only after it is on the disk. So whenever this is killed, the peer still
 has what the file hasn't; what was stored and not yet acknowledged the peer sends again.
