@@ -125,7 +125,8 @@ station_app =
 -- `ddcmp tap`
 abbrev pub tap_app : App
 tap_app =
-    with_rule (with_rule (with_rule (with_rule (with_rule (with_rule (with_rule
+    with_rule (with_rule (with_rule (with_rule (with_rule (with_rule (with_rule (with_rule
+    (with_rule
     (new_app (codes "tap"))
     (required (text_rule (codes "listen"))))
     (required (text_rule (codes "connect"))))
@@ -133,6 +134,8 @@ tap_app =
     (flag_rule (codes "json")))
     (flag_rule (codes "ladder")))
     (flag_rule (codes "time")))
+    (flag_rule (codes "clock")))
+    (number_rule (codes "report") 0 MOST))
     (number_rule (codes "max") 1 MAX_COUNT)
 
 -- `ddcmp link`: its line, who may call, the sizes of its station, and how it runs
@@ -166,7 +169,7 @@ link_app =
 abbrev pub bridge_app : App
 bridge_app =
     with_rule (with_rule (with_rule (with_rule (with_rule (with_rule (with_rule (with_rule
-    (with_rule (with_rule (with_rule (with_rule (with_rule (with_rule
+    (with_rule (with_rule (with_rule (with_rule (with_rule (with_rule (with_rule (with_rule
     (new_app (codes "bridge"))
     (required (place_rule (codes "first"))))
     (required (place_rule (codes "second"))))
@@ -180,6 +183,8 @@ bridge_app =
     (flag_rule (codes "trace")))
     (flag_rule (codes "ladder")))
     (flag_rule (codes "json")))
+    (number_rule (codes "report") 0 MOST))
+    (flag_rule (codes "clock")))
     (text_rule (codes "save-first")))
     (text_rule (codes "save-second"))
 
@@ -325,6 +330,8 @@ pub record HasTap (option text : Text → Option Text) (tapped : TapArgs) : Type
   pub notation : HasNotation (option (codes "json")) tapped.notation
   pub ladder : HasFlag (option (codes "ladder")) tapped.ladder
   pub time : HasFlag (option (codes "time")) tapped.time
+  pub clock : HasFlag (option (codes "clock")) tapped.clock
+  pub report : HasNumber 0 MOST 0 (option (codes "report")) tapped.report
   pub max : HasNumber 1 MAX_COUNT MAX_COUNT (option (codes "max")) tapped.max
 
 -- the default for SYN bytes before each frame, by the name of the line
@@ -406,6 +413,8 @@ pub record HasBridge (option text : Text → Option Text) (bridged : BridgeArgs)
   pub trace : HasFlag (option (codes "trace")) bridged.trace
   pub ladder : HasFlag (option (codes "ladder")) bridged.ladder
   pub notation : HasNotation (option (codes "json")) bridged.notation
+  pub report : HasNumber 0 MOST 0 (option (codes "report")) bridged.report
+  pub clock : HasFlag (option (codes "clock")) bridged.clock
   pub save_first :
       option_map (λ name. name.now) bridged.save_first ≡ text (codes "save-first")
   pub save_second :

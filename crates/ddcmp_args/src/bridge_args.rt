@@ -33,6 +33,10 @@ pub struct BridgeArgs<'a> {
     pub ladder: bool,
     /// The notation in which they are printed. It can't be JSON with a ladder.
     pub notation: Notation,
+    /// After how many seconds each report of the counters is printed; 0 is never.
+    pub report: u32,
+    /// Whether lines on standard error begin with the time of day.
+    pub clock: bool,
     /// The files to save the bytes received over each line in, if any.
     pub save_first: Option<&'a str>,
     pub save_second: Option<&'a str>,
@@ -59,7 +63,7 @@ Output, at the end:
 };
 
 /// The options of a bridge.
-static BRIDGE_OPTIONS: [CommandOption; 14] = table! {
+static BRIDGE_OPTIONS: [CommandOption; 16] = table! {
     "first" required: Place("LINE"), "First line to open, as listen:127.0.0.1:7000";
     "second" required: Place("LINE"),
         "Second line, opened after the first; both listen from the start";
@@ -74,6 +78,8 @@ static BRIDGE_OPTIONS: [CommandOption; 14] = table! {
     "trace": Nothing, "Log received frames on standard error";
     "ladder": Nothing, "Draw received frames as a ladder on standard error";
     "json": Nothing, "Log received frames as JSON objects on standard error";
+    "report": Number(0, u32::MAX), "Report the counters on standard error every N seconds";
+    "clock": Nothing, "Begin each line on standard error with the time of day (UTC)";
     "save-first": Text("FILE"), "Save all bytes that come over the first line in a new FILE";
     "save-second": Text("FILE"), "Save those that come over the second line";
 };
@@ -105,6 +111,8 @@ pub(crate) fn bridge_given<'a>(options: &ArgMatches<'a>) -> BridgeArgs<'a>
         trace: flag_given(options, "trace"),
         ladder: flag_given(options, "ladder"),
         notation: notation_given(options),
+        report: number_given(options, "report", 0, u32::MAX, 0),
+        clock: flag_given(options, "clock"),
         save_first: options.get_str("save-first"),
         save_second: options.get_str("save-second"),
     }

@@ -26,6 +26,10 @@ pub struct TapArgs<'a> {
     pub ladder: bool,
     /// Whether each line begins with the milliseconds.
     pub time: bool,
+    /// Whether each line begins with the time of day, in their place.
+    pub clock: bool,
+    /// After how many seconds each report of the totals is printed; 0 is never.
+    pub report: u32,
     /// The maximum number of bytes of data in a frame.
     pub max: u16,
 }
@@ -42,13 +46,15 @@ Output, as bytes arrive:
 };
 
 /// The options of a tap.
-static TAP_OPTIONS: [CommandOption; 7] = table! {
+static TAP_OPTIONS: [CommandOption; 9] = table! {
     "listen" required: Text("ADDR"), "Address to listen at, for one connection, as 127.0.0.1:7001";
     "connect" required: Text("ADDR"), "Address to connect to once someone has connected";
     "again": Nothing, "Carry one connection after another, until it is killed";
     "json": Nothing, "Print one JSON object per line";
     "ladder": Nothing, "Draw the traffic as a ladder of text";
     "time": Nothing, "Print the milliseconds since both were connected before each line";
+    "clock": Nothing, "Print the time of day (UTC) before each line, not the milliseconds";
+    "report": Number(0, u32::MAX), "Report the totals on standard error every N seconds";
     "max": Number(1, MAX_COUNT as u32),
         "Longest data of a frame, 1 to 16383 bytes [default: 16383]";
 };
@@ -72,6 +78,8 @@ pub(crate) fn tap_given<'a>(options: &ArgMatches<'a>) -> TapArgs<'a>
         notation: notation_given(options),
         ladder: flag_given(options, "ladder"),
         time: flag_given(options, "time"),
+        clock: flag_given(options, "clock"),
+        report: number_given(options, "report", 0, u32::MAX, 0),
         max: number_given(options, "max", 1, MAX_COUNT as u32, MAX_COUNT as u32) as u16,
     }
 }

@@ -3,3 +3,5 @@ pub mod Delaying
 pub mod Faults
 pub mod Relaying
 pub mod Report
+pub mod Reported
+pub mod Reporting

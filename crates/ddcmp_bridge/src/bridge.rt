@@ -3,6 +3,7 @@ ghost use Rattle.std.specs.Prelude.{◌≡◌, ◌≤◌, ◌<◌, ◌++◌, [],
 ghost use Rattle.rand_pcg.specs.Lcg.{Lcg};
 ghost use Rattle.ddcmp_bridge.specs.Crossing.{Crosses, asked_of, can_take, passes_to};
 ghost use Rattle.ddcmp_bridge.specs.Delaying.{Directs};
+ghost use Rattle.ddcmp_bridge.specs.Reported.{ReportsIfDue, reports_json, with_time};
 
 mod leaving;
 mod needs;
@@ -14,6 +15,7 @@ use crate::errors::BridgeErrors;
 use crate::line::{BridgeLine, Stage};
 use crate::options::BridgeOptions;
 use crate::relay::RelayStep;
+use crate::reports::Reports;
 use crate::trace::BridgeTrace;
 use ddcmp_log::{LogNotation, Side};
 use ddcmp_ports::{LineName, Machine, Need, News, OpenFault, Port};
@@ -95,6 +97,7 @@ pub struct Bridge<'a> {
     trace_there: Option<BridgeTrace>,
     trace_back: Option<BridgeTrace>,
     errors: BridgeErrors,
+    reports: Reports,
 }
 
 // Manual, since a derived `Drop` would be expanded wherever a value is dropped.
@@ -121,6 +124,7 @@ impl Drop for Bridge<'_> {
             trace_there: _trace_there,
             trace_back: _trace_back,
             errors: _errors,
+            reports: _reports,
         } = self;
     }
 }
@@ -135,6 +139,13 @@ fn trace_of(
         Some(notation) => Some(Some(BridgeTrace::new(alloc, notation, side).ok()?)),
         None => Some(None),
     }
+}
+
+/// Returns whether reports are JSON objects: if the log is.
+fn reports_json(notation: Option<LogNotation>) -> bool
+    ensures { result ≡ reports_json notation }
+{
+    matches!(notation, Some(LogNotation::Json))
 }
 
 impl<'a> Bridge<'a> {
@@ -176,9 +187,33 @@ impl<'a> Bridge<'a> {
             trace_there,
             trace_back,
             errors,
+            reports: Reports::new(options.report, reports_json(options.trace)),
         };
         bridge.begin();
         Some(bridge)
+    }
+
+    /// Begins each line on standard error with the time of day, if that is asked for. The moment 0
+    /// is this many milliseconds after 1970.
+    pub fn show_time(&mut self, began: u64)
+        ensures { self.new ≡ record self.old { errors = with_time began self.old } }
+    {
+        if self.options.clock {
+            self.errors.show_time(began);
+        }
+    }
+
+    /// Reports the counters, if that is due.
+    fn report_if_due(&mut self)
+        ensures stays { self.new
+            ≡ record self.old { errors = self.new.errors; reports = self.new.reports } }
+        ensures reports { ReportsIfDue self.old self.new }
+    {
+        if self.reports.is_due(self.moment) {
+            let BridgeEnd { there, back, .. } = self.counted();
+            self.reports
+                .report(self.moment, there, back, &mut self.errors);
+        }
     }
 }
 
@@ -332,6 +367,8 @@ impl<'a> Machine for Bridge<'a> {
 
     fn pass_time(&mut self, now: u64) {
         self.moment = now;
+        self.errors.pass_time(now);
+        self.report_if_due();
         self.settle();
     }
 
@@ -345,7 +382,7 @@ impl<'a> Machine for Bridge<'a> {
     }
 
     fn wakes_at(&self) -> u64 {
-        match self.phase {
+        let phase_ends_at = match self.phase {
             Phase::ListenFirst | Phase::OpenFirst => self.opens_at(&self.first),
             Phase::ListenSecond | Phase::OpenSecond => self.opens_at(&self.second),
             Phase::Joined => {
@@ -354,7 +391,8 @@ impl<'a> Machine for Bridge<'a> {
                 self.ends_at.min(there).min(back)
             }
             Phase::Leaving | Phase::Printing => self.ends_at,
-        }
+        };
+        self.reports.due_at.min(phase_ends_at)
     }
 
     fn outcome(&self) -> Option<Result<BridgeEnd, OpenFault<'a>>> {

@@ -1,5 +1,6 @@
 //! The counters of a bridge.
 ghost use Rattle.std.specs.Prelude.{◌≡◌, ◌+◌, ◌-◌, ◌^◌, min};
+ghost use Rattle.ddcmp_bridge.specs.Reporting.{counts_since};
 
 /// The counters of one direction.
 #[derive(Clone, Copy, PartialEq, Eq)]
@@ -42,6 +43,19 @@ impl Counts {
             damaged: self.damaged.saturating_add(more.damaged),
             lost: self.lost.saturating_add(more.lost),
             altered: self.altered.saturating_add(more.altered),
+        }
+    }
+
+    /// Returns what was counted after these were.
+    pub fn since(self, before: Counts) -> Counts
+        ensures { result ≡ counts_since self before }
+    {
+        Counts {
+            frames: self.frames.saturating_sub(before.frames),
+            skipped: self.skipped.saturating_sub(before.skipped),
+            damaged: self.damaged.saturating_sub(before.damaged),
+            lost: self.lost.saturating_sub(before.lost),
+            altered: self.altered.saturating_sub(before.altered),
         }
     }
 }

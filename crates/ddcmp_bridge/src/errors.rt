@@ -2,8 +2,13 @@
 ghost use Rattle.std.specs.Prelude.{◌≡◌, ◌+◌, ◌≤◌, [], false, length};
 ghost use Rattle.ddcmp_bridge.specs.Crossing.{unwritten};
 ghost use Rattle.ddcmp_streams.specs.Errors.{LeftOut, has_room};
+ghost use Rattle.std.specs.Prelude.{◌≡◌, Some};
+ghost use Rattle.ddcmp_bridge.specs.Reporting.{ReportsCounts};
 
 use ddcmp_io::Page;
+use crate::counts::Counts;
+use crate::report::{write_direction, write_object};
+use ddcmp_streams::errors::SHORT_LINE;
 use ddcmp_streams::{EVENT_ROOM, Errors};
 use std::alloc::Global;
 use std::fmt::{Display, InlineText};
@@ -38,23 +43,68 @@ impl BridgeErrors {
         })
     }
 
-    /// Queues a line, or counts it as left out.
+    /// Begins each line with the time of day; the moment 0 is this many milliseconds after 1970.
+    pub(crate) fn show_time(&mut self, began: u64)
+        ensures { self.new ≡ record self.old {
+          lines = record self.old.lines { began = Some began };
+        } }
+    {
+        self.lines.show_time(began);
+    }
+
+    /// Notes the moment of the next lines.
+    pub(crate) fn pass_time(&mut self, now: u64)
+        ensures { self.new ≡ record self.old { lines = record self.old.lines { now = now } } }
+    {
+        self.lines.pass_time(now);
+    }
+
+    /// Queues a line of a log, or counts it as left out.
     fn write_line(&mut self, line: &[u8])
         ensures left { has_room (length line.now + 1) self.old.lines ≡ false
             → LeftOut self.old.lines self.new.lines }
     {
-        if self.lines.begin_line(line.len() + 1) {
+        let (has_room, rest) = match line {
+            [b'{', rest @ ..] => (self.lines.begin_object(line.len() + 1), rest),
+            _ => (self.lines.begin_line(line.len() + 1), line),
+        };
+        if has_room {
             let mut page = Page::new();
-            page.write(&mut self.lines.queue, line);
+            page.write(&mut self.lines.queue, rest);
             page.write(&mut self.lines.queue, b"\n");
             let _is_whole = page.flush(&mut self.lines.queue);
         }
     }
 
-    /// Queues each line of a text.
+    /// Queues each line of the text of a log. A line that is a JSON object has the time of day as a
+    /// member.
     pub(crate) fn write_lines(&mut self, text: &str) {
         for line in text.lines() {
             self.write_line(line.as_bytes());
+        }
+    }
+
+    /// Queues the counters of a direction: as a line, or as a JSON object with those of an
+    /// interval.
+    pub(crate) fn report_counts(
+        &mut self,
+        mark: &[u8],
+        counts: Counts,
+        more: Counts,
+        is_json: bool,
+    )
+        ensures { ReportsCounts is_json mark.now counts more self.old self.new }
+    {
+        if is_json {
+            if self.lines.begin_object(SHORT_LINE) {
+                let mut page = Page::new();
+                write_object(&mut page, &mut self.lines.queue, mark, &counts, &more);
+                let _is_whole = page.flush(&mut self.lines.queue);
+            }
+        } else if self.lines.begin_line(SHORT_LINE) {
+            let mut page = Page::new();
+            write_direction(&mut page, &mut self.lines.queue, mark, &counts);
+            let _is_whole = page.flush(&mut self.lines.queue);
         }
     }
 

@@ -16,6 +16,7 @@ mod options;
 mod pause;
 mod relay;
 mod report;
+mod reports;
 mod running;
 mod trace;
 

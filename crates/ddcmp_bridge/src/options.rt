@@ -17,6 +17,10 @@ pub struct BridgeOptions<'a> {
     pub baud: u32,
     /// The notation in which received frames are printed on standard error, if they are.
     pub trace: Option<LogNotation>,
+    /// After how many seconds each report of the counters is printed on standard error; 0 is never.
+    pub report: u32,
+    /// Whether lines on standard error begin with the time of day.
+    pub clock: bool,
     /// The files to save the bytes received over each line in, if any. They must not exist.
     pub save_first: Option<&'a str>,
     pub save_second: Option<&'a str>,

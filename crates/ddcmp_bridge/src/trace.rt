@@ -5,7 +5,11 @@ use ddcmp_frame::MAX_COUNT;
 use ddcmp_io::MemorySink;
 use ddcmp_log::{ItemLog, LogNotation, NoMemory, Side};
 use std::alloc::Global;
+use std::fmt::InlineText;
 use std::{fmt, str};
+
+/// The longest line of what the bridge did to a frame, in bytes.
+const LINE_ROOM: usize = 128;
 
 /// The log of one direction: a line for each frame, and what the bridge did to it.
 pub(crate) struct BridgeTrace {
@@ -59,7 +63,8 @@ impl BridgeTrace {
         }
         match fate {
             Some(fate @ (Fate::Lost | Fate::Altered { .. })) => {
-                errors.report(self.line_of(now, fate));
+                let line = InlineText::<LINE_ROOM>::of(self.line_of(now, fate));
+                errors.write_lines(line.as_str());
             }
             Some(Fate::Passed) | None => {}
         }

@@ -57,6 +57,8 @@ options_of bridged = record {
   delay_ms = bridged.delay;
   baud = bridged.baud;
   trace = trace_of bridged;
+  report = bridged.report;
+  clock = bridged.clock;
   save_first = bridged.save_first;
   save_second = bridged.save_second;
 }

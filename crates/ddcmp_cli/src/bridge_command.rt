@@ -90,6 +90,8 @@ pub(crate) fn bridge<S: LineSystem, W: Sink>(
         delay_ms: args.delay,
         baud: args.baud,
         trace: traced_as(args),
+        report: args.report,
+        clock: args.clock,
         save_first: args.save_first,
         save_second: args.save_second,
     };

@@ -9,6 +9,7 @@ use mio::Token;
 use std::alloc::Global;
 use std::fs::{File, Files};
 use std::io::ErrorKind;
+use std::time::Clock;
 
 /// The maximum number of bytes that are read at once: no datagram has more.
 const MOST: usize = 65536;
@@ -99,10 +100,19 @@ fn bridge<'a, S: System>(
         Ok(live) => live,
         Err(error) => return Err(no_waiting(error.kind())),
     };
+    if let Some(began) = time_of_day(system) {
+        bridge.show_time(began);
+    }
     match run_bridge(&mut buffers, &mut bridge, &mut live) {
         Ok(end) => Ok(live.counted(end)),
         Err(fault) => Err(BridgeFault::Open(fault)),
     }
+}
+
+/// Returns the time of day in milliseconds after 1970, if it is known.
+fn time_of_day<C: Clock>(system: &C) -> Option<u64> {
+    let since_1970 = system.since_1970().ok()?;
+    u64::try_from(since_1970.as_millis()).ok()
 }
 
 /// Returns the fault of a bridge that can't wait for several lines.

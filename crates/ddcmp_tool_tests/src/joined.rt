@@ -191,6 +191,8 @@ const OPTIONS: BridgeOptions<'static> = BridgeOptions {
     delay_ms: 3,
     baud: 0,
     trace: None,
+    report: 0,
+    clock: false,
     save_first: None,
     save_second: None,
 };
