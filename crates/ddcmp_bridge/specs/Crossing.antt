@@ -112,7 +112,7 @@ wakes_in phase.Printing b = b.ends_at
 
 -- when a report is due, its time is over, a pause ends or a frame is due
 abbrev pub wakes_of : Bridge → ℕ
-wakes_of b = min b.reports.due_at (min b.ends_at (wakes_in b.phase b))
+wakes_of b = min b.reports.schedule.due_at (min b.ends_at (wakes_in b.phase b))
 
 -- ---- what it has passed on
 

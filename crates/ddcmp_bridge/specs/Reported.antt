@@ -3,7 +3,8 @@ use Rattle.std.specs.Prelude.{◌≡◌, ℕ, Bool, true, false, MatchBool, if�
 use Rattle.ddcmp_log.specs.declared.notation.LogNotation.{LogNotation}
 use Rattle.ddcmp_log.specs.declared.notation.LogNotation.TheVariants.{Plain, Json, Ladder}
 use Rattle.ddcmp_bridge.specs.Crossing.{Counted}
-use Rattle.ddcmp_bridge.specs.Reporting.{ReportsBoth, is_due, next_due_after}
+use Rattle.ddcmp_log.specs.Scheduling.{is_due, next_due_after}
+use Rattle.ddcmp_bridge.specs.Reporting.{ReportsBoth}
 use Rattle.ddcmp_bridge.specs.declared.bridge.Bridge.{Bridge}
 use Rattle.ddcmp_bridge.specs.declared.counts.Counts.{Counts}
 use Rattle.ddcmp_bridge.specs.declared.errors.BridgeErrors.{BridgeErrors}
@@ -29,11 +30,13 @@ pub record ReportsNow (old new : Bridge) : Type 0 where
   pub counted_back : Counted old.earlier_back old.back back
   pub both : ReportsBoth old.reports there back old.errors new.errors
   pub next : new.reports ≡ record old.reports {
-    due_at = next_due_after old.reports old.moment;
+    schedule = record old.reports.schedule {
+      due_at = next_due_after old.reports.schedule old.moment;
+    };
     there = there;
     back = back;
   }
 
 -- if that is due
 abbrev pub ReportsIfDue : Bridge → Bridge → Type 0
-ReportsIfDue old new = MatchBool (is_due old.reports old.moment) (ReportsNow old new) (new ≡ old)
+ReportsIfDue old new = MatchBool (is_due old.reports.schedule old.moment) (ReportsNow old new) (new ≡ old)

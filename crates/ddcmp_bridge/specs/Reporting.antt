@@ -1,6 +1,6 @@
 -- The reports of a bridge while it runs.
-use Rattle.std.specs.Prelude.{◌≡◌, ℕ, ◌+◌, ◌-◌, ◌*◌, ◌%◌, ◌^◌, ◌==◌, ◌&&◌, not, nat_le, min, Bool, true}
-use Rattle.std.specs.Prelude.{if◌then◌else◌, MatchBool, List, codes}
+use Rattle.std.specs.Prelude.{◌≡◌, ℕ, ◌-◌, Bool, MatchBool, List, codes}
+use Rattle.ddcmp_log.specs.Scheduling.{schedule_of}
 use Rattle.ddcmp_bridge.specs.Report.{direction_line, report_object}
 use Rattle.ddcmp_bridge.specs.declared.counts.Counts.{Counts}
 use Rattle.ddcmp_bridge.specs.declared.errors.BridgeErrors.{BridgeErrors}
@@ -14,19 +14,11 @@ no_counts = record { frames = 0; skipped = 0; damaged = 0; lost = 0; altered = 0
 -- a report every this many seconds, or none for 0
 abbrev pub reports_begun : ℕ → Bool → Reports
 reports_begun seconds is_json = record {
-  every_ms = 1000 * seconds;
-  due_at = if 1000 * seconds == 0 then 2 ^ 64 - 1 else 1000 * seconds;
+  schedule = schedule_of seconds;
   is_json = is_json;
   there = no_counts;
   back = no_counts;
 }
-
-abbrev pub is_due : Reports → ℕ → Bool
-is_due r now = not (r.every_ms == 0) && nat_le r.due_at now
-
--- a whole number of intervals after this report was due
-abbrev pub next_due_after : Reports → ℕ → ℕ
-next_due_after r now = min (now - (now - r.due_at) % r.every_ms + r.every_ms) (2 ^ 64 - 1)
 
 -- what was counted after some were
 abbrev pub counts_since : Counts → Counts → Counts

@@ -209,7 +209,7 @@ impl<'a> Bridge<'a> {
             ≡ record self.old { errors = self.new.errors; reports = self.new.reports } }
         ensures reports { ReportsIfDue self.old self.new }
     {
-        if self.reports.is_due(self.moment) {
+        if self.reports.schedule.is_due(self.moment) {
             let BridgeEnd { there, back, .. } = self.counted();
             self.reports
                 .report(self.moment, there, back, &mut self.errors);
@@ -392,7 +392,7 @@ impl<'a> Machine for Bridge<'a> {
             }
             Phase::Leaving | Phase::Printing => self.ends_at,
         };
-        self.reports.due_at.min(phase_ends_at)
+        self.reports.schedule.due_at.min(phase_ends_at)
     }
 
     fn outcome(&self) -> Option<Result<BridgeEnd, OpenFault<'a>>> {

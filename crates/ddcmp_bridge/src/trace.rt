@@ -3,7 +3,7 @@ use crate::errors::BridgeErrors;
 use crate::faults::Fate;
 use ddcmp_frame::MAX_COUNT;
 use ddcmp_io::MemorySink;
-use ddcmp_log::{ItemLog, LogNotation, NoMemory, Side};
+use ddcmp_log::{ItemLog, LogNotation, NoMemory, Side, Stamp};
 use std::alloc::Global;
 use std::fmt::InlineText;
 use std::{fmt, str};
@@ -58,7 +58,7 @@ impl BridgeTrace {
             return;
         }
         self.text.clear();
-        if self.log.log(&mut self.text, Some(now), bytes).is_ok() {
+        if self.log.log(&mut self.text, Some(Stamp::Elapsed(now)), bytes).is_ok() {
             errors.write_lines(str::from_utf8(self.text()).unwrap_or(""));
         }
         match fate {

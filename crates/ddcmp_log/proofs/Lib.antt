@@ -1,2 +1,3 @@
+pub mod DayLaws
 pub mod TellLaws
 pub mod TextLaws

@@ -11,6 +11,7 @@ use Rattle.ddcmp_frame.specs.Reader.{ReaderView, StandsFor}
 use Rattle.ddcmp_frame.specs.Reading.{ReadItem, items}
 use Rattle.ddcmp_log.specs.declared.notation.LogNotation.{LogNotation}
 use Rattle.ddcmp_log.specs.declared.side.Side.{Side}
+use Rattle.ddcmp_log.specs.declared.side.Stamp.{Stamp}
 use Rattle.ddcmp_log.specs.Inside.Telling.{Tells}
 use Rattle.ddcmp_log.specs.Items.{HasTold}
 use Rattle.ddcmp_log.specs.Logged.{items_added, logged_line, logged_lines}
@@ -29,7 +30,7 @@ counts frames new count after told more given h s m e n = record {
       ∙ ap length (sym e) ∙ ap (λ k. length (items k (told ++ more))) (sym m);
 }
 
-module _ (notation : LogNotation) (side : Side) (max : ℕ) (stamp : Option ℕ) where
+module _ (notation : LogNotation) (side : Side) (max : ℕ) (stamp : Option Stamp) where
   pub tells-nothing : (told : List ℕ) (at : Output) → Tells notation side max stamp told [] at at
   unfolding logged_lines
   tells-nothing told at = record {
@@ -85,7 +86,7 @@ module _ (notation : LogNotation) (side : Side) (max : ℕ) (stamp : Option ℕ)
       t.puts
 
 -- the same of a side whose names are others
-pub tells-of : (n m : LogNotation) (s t : Side) (a b : ℕ) (stamp : Option ℕ) (told more : List ℕ)
+pub tells-of : (n m : LogNotation) (s t : Side) (a b : ℕ) (stamp : Option Stamp) (told more : List ℕ)
     (old new : Output) → n ≡ m → s ≡ t → a ≡ b
     → Tells n s a stamp told more old new → Tells m t b stamp told more old new
 tells-of n m s t a b stamp told more old new en es ea h =

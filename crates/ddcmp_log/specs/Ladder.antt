@@ -1,18 +1,20 @@
 -- The ladder: a line for each item, with an arrow from the side that it comes from to the
 -- other. The caller is on the left.
-use Rattle.std.specs.Prelude.{[], ℕ, ◌-◌, List, ◌++◌, codes, decimal, length, replicate, Option}
+use Rattle.std.specs.Prelude.{[], ℕ, ◌-◌, List, ◌++◌, codes, length, replicate, Option}
 use Rattle.std.specs.Prelude.{Some, None}
 use Rattle.ddcmp_frame.specs.declared.item.Item.{Item}
 use Rattle.ddcmp_frame.specs.declared.item.Item.TheVariants.{Good, HeaderCheck, DataCheck, TooLong}
 use Rattle.ddcmp_frame.specs.declared.item.Item.TheVariants.{Format}
 use Rattle.ddcmp_explain.specs.Label.{item_label}
+use Rattle.ddcmp_log.specs.Stamps.{stamp_text}
 use Rattle.ddcmp_log.specs.declared.side.Side.{Side}
+use Rattle.ddcmp_log.specs.declared.side.Stamp.{Stamp}
 use Rattle.ddcmp_log.specs.declared.side.Side.TheVariants.{Caller, Called}
 
--- the milliseconds, if requested
-abbrev pub ladder_front : Option ℕ → List ℕ
+-- when bytes were received, if requested
+abbrev pub ladder_front : Option Stamp → List ℕ
 ladder_front None = []
-ladder_front (Some ms) = decimal ms ++ codes " "
+ladder_front (Some stamp) = stamp_text stamp ++ codes " "
 
 -- hyphens for a good frame, tildes for anything else
 abbrev pub stroke_of : Item → ℕ
@@ -29,5 +31,5 @@ rung Caller stroke label =
 rung Called stroke label =
     codes "|<" ++ replicate (71 - length label) stroke ++ codes " " ++ label ++ codes " --|\n"
 
-abbrev pub rung_of : Option ℕ → Side → Item → List ℕ
+abbrev pub rung_of : Option Stamp → Side → Item → List ℕ
 rung_of stamp side item = ladder_front stamp ++ rung side (stroke_of item) (item_label item)

@@ -12,6 +12,7 @@ use Rattle.ddcmp_frame.specs.Reading.{ReadItem}
 use Rattle.ddcmp_explain.specs.Json.{reason_in_words}
 use Rattle.ddcmp_explain.specs.Text.{item_text, line_of}
 use Rattle.ddcmp_log.specs.declared.side.Side.{Side}
+use Rattle.ddcmp_log.specs.declared.side.Stamp.{Stamp}
 use Rattle.ddcmp_log.specs.Logged.{plain_front}
 
 -- why a NAK was sent
@@ -38,6 +39,6 @@ with_reason (Some reason) given =
     item_text given.0 ++ codes " (" ++ reason_in_words reason ++ codes ")\n"
 
 -- the line of an item, with the reason of a NAK
-abbrev pub reasoned_line : Option ℕ → Side → ReadItem → List ℕ
+abbrev pub reasoned_line : Option Stamp → Side → ReadItem → List ℕ
 reasoned_line stamp side given =
     plain_front stamp side ++ with_reason (reason_in given.0) given

@@ -2,21 +2,34 @@
 ghost use Rattle.std.specs.Prelude.{◌≡◌, ◌≤◌};
 ghost use Rattle.ddcmp_io.specs.Written.{HandsOver, output_of};
 ghost use Rattle.ddcmp_log.specs.Logged.{front_in, json_front, plain_front, replaced};
+ghost use Rattle.ddcmp_log.specs.Stamps.{stamp_member, stamp_text};
 
-use crate::side::Origin;
+use crate::day::write_time;
+use crate::side::{Origin, Stamp};
 use ddcmp_explain::{LinePart, Notation};
 use ddcmp_io::text::write_number;
 use ddcmp_io::{Page, Sink};
 
-/// Writes the milliseconds, if requested, and the mark of the side.
+/// Writes when bytes were received.
+pub(crate) fn write_stamp<W: Sink>(page: &mut Page, writer: &mut W, stamp: Stamp)
+    ensures { HandsOver (output_of W.broken W.contents writer.old page.old)
+        (output_of W.broken W.contents writer.new page.new) (stamp_text stamp) }
+{
+    match stamp {
+        Stamp::Elapsed(ms) => write_number(page, writer, ms),
+        Stamp::OfDay(ms) => write_time(page, writer, ms),
+    }
+}
+
+/// Writes when bytes were received, if requested, and the mark of the side.
 pub(crate) fn write_plain_front<W: Sink>(page: &mut Page, writer: &mut W, origin: Origin)
     ensures { HandsOver (output_of W.broken W.contents writer.old page.old)
         (output_of W.broken W.contents writer.new page.new)
         (plain_front origin.stamp origin.side) }
 {
     match origin.stamp {
-        Some(ms) => {
-            write_number(page, writer, ms);
+        Some(stamp) => {
+            write_stamp(page, writer, stamp);
             page.write(writer, b" ");
             page.write(writer, origin.side.mark());
             page.write(writer, b" ");
@@ -28,8 +41,27 @@ pub(crate) fn write_plain_front<W: Sink>(page: &mut Page, writer: &mut W, origin
     }
 }
 
+/// Writes when bytes were received, as a member of an object after another.
+fn write_member<W: Sink>(page: &mut Page, writer: &mut W, stamp: Stamp)
+    ensures { HandsOver (output_of W.broken W.contents writer.old page.old)
+        (output_of W.broken W.contents writer.new page.new) (stamp_member stamp) }
+{
+    match stamp {
+        Stamp::Elapsed(ms) => {
+            page.write(writer, b",\"ms\":");
+            write_number(page, writer, ms);
+            page.write(writer, b",");
+        }
+        Stamp::OfDay(ms) => {
+            page.write(writer, b",\"time\":\"");
+            write_time(page, writer, ms);
+            page.write(writer, b"\",");
+        }
+    }
+}
+
 /// Writes the first members of an object.
-fn write_json_front<W: Sink>(page: &mut Page, writer: &mut W, origin: Origin)
+pub(crate) fn write_json_front<W: Sink>(page: &mut Page, writer: &mut W, origin: Origin)
     ensures { HandsOver (output_of W.broken W.contents writer.old page.old)
         (output_of W.broken W.contents writer.new page.new)
         (json_front origin.stamp origin.side) }
@@ -37,10 +69,9 @@ fn write_json_front<W: Sink>(page: &mut Page, writer: &mut W, origin: Origin)
     page.write(writer, b"{\"from\":\"");
     page.write(writer, origin.side.mark());
     match origin.stamp {
-        Some(ms) => {
-            page.write(writer, b"\",\"ms\":");
-            write_number(page, writer, ms);
-            page.write(writer, b",");
+        Some(stamp) => {
+            page.write(writer, b"\"");
+            write_member(page, writer, stamp);
         }
         None => page.write(writer, b"\","),
     }

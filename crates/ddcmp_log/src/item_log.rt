@@ -6,12 +6,13 @@ ghost use Rattle.ddcmp_io.specs.Written.{HandsOver};
 ghost use Rattle.ddcmp_io.specs.declared.memory.MemorySink.{MemorySink as Text};
 ghost use Rattle.ddcmp_log.specs.Inside.Telling.{Tells, output_in};
 ghost use Rattle.ddcmp_log.specs.Items.{HasTold};
-ghost use Rattle.ddcmp_log.specs.Logged.{items_added, logged_last, logged_lines};
+ghost use Rattle.ddcmp_log.specs.Inside.Telling.{totals_of};
+ghost use Rattle.ddcmp_log.specs.Logged.{items_added, logged_last, logged_lines, reported_line};
 
-use crate::line::{write_line, write_totals};
+use crate::line::{write_line, write_reported, write_totals};
 use crate::no_memory::NoMemory;
 use crate::notation::LogNotation;
-use crate::side::{Origin, Side};
+use crate::side::{Added, Origin, Side, Stamp};
 use ddcmp_explain::Totals;
 use ddcmp_frame::{Pushed, Reader};
 use ddcmp_io::{MemorySink, Page};
@@ -119,7 +120,7 @@ impl ItemLog {
         &mut self,
         page: &mut Page,
         text: &mut MemorySink,
-        stamp: Option<u64>,
+        stamp: Option<Stamp>,
         bytes: &[u8],
     ) -> usize
         requires some { 0 < length bytes.now }
@@ -155,7 +156,7 @@ impl ItemLog {
     pub fn log(
         &mut self,
         text: &mut MemorySink,
-        stamp: Option<u64>,
+        stamp: Option<Stamp>,
         bytes: &[u8],
     ) -> Result<(), NoMemory>
         requires fits { self.old.frames.offset + length bytes.now < 2 ^ 64 }
@@ -180,27 +181,76 @@ impl ItemLog {
         put_page(&mut page, text)
     }
 
+    /// Returns how many items and bytes were received.
+    pub fn added(&self) -> Added
+        ensures { result ≡ record { items = self.now.items; bytes = self.now.frames.offset } }
+    {
+        Added {
+            items: self.items,
+            bytes: self.frames.offset(),
+        }
+    }
+
+    /// Returns the totals.
+    fn totals(&self) -> Totals
+        ensures { (told : List ℕ) → HasTold self.now.frames self.now.items told
+            → result ≡ totals_of self.now.frames.max told }
+    {
+        Totals {
+            items: self.items,
+            bytes: self.frames.offset(),
+            left_open: self.frames.open() as u64,
+        }
+    }
+
+    /// Appends a report to a text: the totals, and in an object what was added since there were
+    /// this many items and bytes.
+    pub fn report(
+        &self,
+        text: &mut MemorySink,
+        stamp: Option<Stamp>,
+        since: Added,
+    ) -> Result<(), NoMemory>
+        requires whole { text.old.refused ≡ false }
+        ensures { IsOk result → (told : List ℕ)
+            → HasTold self.now.frames self.now.items told
+            → text.new.bytes.items ≡ text.old.bytes.items
+            ++ reported_line self.now.notation stamp self.now.side self.now.frames.max since told }
+    {
+        let origin = Origin {
+            stamp,
+            side: self.side,
+        };
+        let mut page = Page::new();
+        match self.notation {
+            LogNotation::Plain | LogNotation::Ladder => {
+                write_totals(&mut page, text, self.notation, origin, self.totals());
+            }
+            LogNotation::Json => {
+                let added = Added {
+                    items: self.items.saturating_sub(since.items),
+                    bytes: self.frames.offset().saturating_sub(since.bytes),
+                };
+                write_reported(&mut page, text, origin, self.totals(), added);
+            }
+        }
+        put_page(&mut page, text)
+    }
+
     /// Appends the last line to a text.
-    pub fn finish(&self, text: &mut MemorySink, stamp: Option<u64>) -> Result<(), NoMemory>
+    pub fn finish(&self, text: &mut MemorySink, stamp: Option<Stamp>) -> Result<(), NoMemory>
         requires whole { text.old.refused ≡ false }
         ensures { IsOk result → (told : List ℕ)
             → HasTold self.now.frames self.now.items told
             → text.new.bytes.items ≡ text.old.bytes.items
             ++ logged_last self.now.notation stamp self.now.side self.now.frames.max told }
     {
-        let bytes = self.frames.offset();
-        let left_open = self.frames.open() as u64;
-        let totals = Totals {
-            items: self.items,
-            bytes,
-            left_open,
-        };
         let origin = Origin {
             stamp,
             side: self.side,
         };
         let mut page = Page::new();
-        write_totals(&mut page, text, self.notation, origin, totals);
+        write_totals(&mut page, text, self.notation, origin, self.totals());
         put_page(&mut page, text)
     }
 }

@@ -3,6 +3,7 @@
 //! `ItemLog` reads the bytes of one side, and writes their lines.
 #![tactic(auto)]
 
+mod day;
 mod front;
 mod item_log;
 mod line;
@@ -10,6 +11,7 @@ mod no_memory;
 pub mod notation;
 mod reason;
 mod rung;
+mod schedule;
 pub mod side;
 
 pub use item_log::ItemLog;
@@ -17,4 +19,5 @@ pub use line::{write_line, write_skipped, write_totals};
 pub use no_memory::NoMemory;
 pub use notation::LogNotation;
 pub use reason::write_reasoned;
-pub use side::{Origin, Side};
+pub use schedule::Schedule;
+pub use side::{Added, Origin, Side, Stamp};

@@ -2,14 +2,16 @@
 ghost use Rattle.ddcmp_explain.specs.Discarded.{passed_text};
 ghost use Rattle.ddcmp_explain.specs.Output.{line_in, totals_in};
 ghost use Rattle.ddcmp_io.specs.Written.{HandsOver, output_of};
-ghost use Rattle.ddcmp_log.specs.Logged.{fronted, logged_line, wording_of};
+ghost use Rattle.ddcmp_log.specs.Logged.{fronted, json_front, logged_line, wording_of};
+ghost use Rattle.std.specs.Prelude.{◌++◌, ◌-◌, codes, decimal, drop};
 
-use crate::front::write_front;
+use crate::front::{write_front, write_json_front};
 use crate::notation::LogNotation;
 use crate::rung::write_rung;
-use crate::side::Origin;
-use ddcmp_explain::{Notation, Skipped, Totals, write_discarded, write_item, write_last};
+use crate::side::{Added, Origin};
+use ddcmp_explain::{LinePart, Notation, Skipped, Totals, write_discarded, write_item, write_last};
 use ddcmp_frame::Item;
+use ddcmp_io::text::write_number;
 use ddcmp_io::{Page, Sink};
 
 /// Writes the line of an item with its data; in a ladder its arrow.
@@ -84,5 +86,33 @@ pub fn write_totals<W: Sink>(
         (totals_in (wording_of notation) totals.items totals.bytes totals.left_open)) }
 {
     let part = write_front(page, writer, notation.wording(), origin);
+    write_last(page, writer, part, totals);
+}
+
+/// Writes a report as an object: what was added since the last one, and the totals.
+pub(crate) fn write_reported<W: Sink>(
+    page: &mut Page,
+    writer: &mut W,
+    origin: Origin,
+    totals: Totals,
+    added: Added,
+)
+    ensures { HandsOver (output_of W.broken W.contents writer.old page.old)
+        (output_of W.broken W.contents writer.new page.new)
+        (json_front origin.stamp origin.side
+        ++ codes "\"event\":\"report\",\"interval\":{\"items\":" ++ decimal added.items
+        ++ codes ",\"bytes\":" ++ decimal added.bytes ++ codes "},"
+        ++ drop 1 (totals_in Notation.Json totals.items totals.bytes totals.left_open)) }
+{
+    write_json_front(page, writer, origin);
+    page.write(writer, b"\"event\":\"report\",\"interval\":{\"items\":");
+    write_number(page, writer, added.items);
+    page.write(writer, b",\"bytes\":");
+    write_number(page, writer, added.bytes);
+    page.write(writer, b"},");
+    let part = LinePart {
+        notation: Notation::Json,
+        from: 1,
+    };
     write_last(page, writer, part, totals);
 }

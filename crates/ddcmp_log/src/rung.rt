@@ -3,10 +3,10 @@ ghost use Rattle.std.specs.Prelude.{◌≡◌, ◌-◌, ◌<◌, ◌≤◌, leng
 ghost use Rattle.ddcmp_io.specs.Written.{HandsOver, output_of};
 ghost use Rattle.ddcmp_log.specs.Ladder.{ladder_front, rung, rung_of, stroke_of as stroke_of_item};
 
-use crate::side::{Origin, Side};
+use crate::front::write_stamp;
+use crate::side::{Origin, Side, Stamp};
 use ddcmp_explain::{LABEL_ROOM, label_item};
 use ddcmp_frame::Item;
-use ddcmp_io::text::write_number;
 use ddcmp_io::{Page, Sink};
 
 /// The columns of a line that its label and strokes share, without the fixed characters.
@@ -66,18 +66,18 @@ pub(crate) fn write_rung<W: Sink>(page: &mut Page, writer: &mut W, origin: Origi
 {
     let mut label = [0; LABEL_ROOM];
     let end = label_item(&mut label, item);
-    write_stamp(page, writer, origin.stamp);
+    write_rung_front(page, writer, origin.stamp);
     write_arrow(page, writer, origin.side, stroke_of(item), &label[..end]);
 }
 
-/// Writes the milliseconds, if requested.
-fn write_stamp<W: Sink>(page: &mut Page, writer: &mut W, stamp: Option<u64>)
+/// Writes when bytes were received, if requested.
+fn write_rung_front<W: Sink>(page: &mut Page, writer: &mut W, stamp: Option<Stamp>)
     ensures { HandsOver (output_of W.broken W.contents writer.old page.old)
         (output_of W.broken W.contents writer.new page.new) (ladder_front stamp) }
 {
     match stamp {
-        Some(ms) => {
-            write_number(page, writer, ms);
+        Some(stamp) => {
+            write_stamp(page, writer, stamp);
             page.write(writer, b" ");
         }
         None => page.write(writer, b""),

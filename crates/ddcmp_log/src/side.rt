@@ -2,12 +2,28 @@
 ghost use Rattle.std.specs.Prelude.{◌≡◌};
 ghost use Rattle.ddcmp_log.specs.Logged.{mark_of};
 
-/// Where the bytes of a line of a log are from: their side, and when they were received, in
-/// milliseconds, if that is requested.
+/// When the bytes of a line of a log were received.
+#[derive(Clone, Copy)]
+pub enum Stamp {
+    /// In milliseconds after the beginning.
+    Elapsed(u64),
+    /// The time of day, in milliseconds after 1970.
+    OfDay(u64),
+}
+
+/// Where the bytes of a line of a log are from: their side, and when they were received, if that is
+/// requested.
 #[derive(Clone, Copy)]
 pub struct Origin {
-    pub stamp: Option<u64>,
+    pub stamp: Option<Stamp>,
     pub side: Side,
+}
+
+/// How many items and bytes were received from a side.
+#[derive(Clone, Copy)]
+pub struct Added {
+    pub items: u64,
+    pub bytes: u64,
 }
 
 /// A side of a line: bytes are received from it and sent to it.

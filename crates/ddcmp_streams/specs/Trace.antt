@@ -17,6 +17,7 @@ use Rattle.ddcmp_log.specs.declared.side.Side.{Side}
 use Rattle.ddcmp_log.specs.declared.side.Side.TheVariants.{Caller, Called}
 use Rattle.ddcmp_log.specs.Logged.{fronted}
 use Rattle.ddcmp_log.specs.Reasons.{reasoned_line}
+use Rattle.ddcmp_log.specs.declared.side.Stamp.TheVariants.{Elapsed}
 use Rattle.ddcmp_streams.specs.declared.errors.TheConstants.{LAST_ROOM}
 use Rattle.ddcmp_streams.specs.declared.skipped.Completed.{Completed}
 use Rattle.ddcmp_streams.specs.declared.skipped.TheConstants.{DEL}
@@ -126,12 +127,12 @@ side_of FromLine = Called
 
 -- an item with its data
 abbrev pub item_line : ℕ → Way → ReadItem → List ℕ
-item_line now way given = reasoned_line (Some now) (side_of way) given
+item_line now way given = reasoned_line (Some (Elapsed now)) (side_of way) given
 
 -- discarded bytes
 abbrev pub skipped_line : ℕ → Way → Skipped → List ℕ
 skipped_line now way it =
-    fronted wording.Plain (Some now) (side_of way) (passed_text wording.Plain it.from it.count)
+    fronted wording.Plain (Some (Elapsed now)) (side_of way) (passed_text wording.Plain it.from it.count)
 
 abbrev pub timer_line : ℕ → List ℕ
 timer_line now = decimal now ++ codes " timer\n"

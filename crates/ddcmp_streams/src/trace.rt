@@ -16,7 +16,7 @@ use ddcmp_explain::Skipped;
 use ddcmp_frame::{Item, MAX_COUNT, ReaderRefusal};
 use ddcmp_io::text::write_number;
 use ddcmp_io::{ByteQueue, Page};
-use ddcmp_log::{LogNotation, Origin, Side, write_reasoned, write_skipped};
+use ddcmp_log::{LogNotation, Origin, Side, Stamp, write_reasoned, write_skipped};
 use std::alloc::Global;
 use std::marker::Model;
 
@@ -33,14 +33,14 @@ pub enum Way {
 impl Way {
     /// Returns the origin of lines about bytes that are sent in this direction now.
     fn origin(self, now: u64) -> Origin
-        ensures { result ≡ record { stamp = Some now; side = side_of self } }
+        ensures { result ≡ record { stamp = Some (Stamp.Elapsed now); side = side_of self } }
     {
         let side = match self {
             Way::ToLine => Side::Caller,
             Way::FromLine => Side::Called,
         };
         Origin {
-            stamp: Some(now),
+            stamp: Some(Stamp::Elapsed(now)),
             side,
         }
     }

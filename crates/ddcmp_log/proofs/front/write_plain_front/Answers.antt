@@ -7,7 +7,7 @@ use Rattle.ddcmp_log.proofs.front.write_plain_front.Goals as goal
 pub returns-in-Some : goal.returns-in-Some
 returns-in-Some g c =
     sends-as (ap (λ stamp. plain_front stamp c.args.origin.side) (sym c.in-Some.is))
-    (sends-then (sends-then (sends-then c.write_number.ensures c.write.ensures.sends)
+    (sends-then (sends-then (sends-then c.write_stamp.ensures c.write.ensures.sends)
     (sends-as c.mark.ensures c.write-in-Some.ensures.sends)) c.write-in-Some-2.ensures.sends)
 
 pub returns-in-None : goal.returns-in-None

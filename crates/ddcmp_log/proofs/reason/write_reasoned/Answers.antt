@@ -1,4 +1,4 @@
-use Rattle.std.proofs.Common.{◌∙◌, ◌++◌, ap, drop, sym, Some}
+use Rattle.std.proofs.Common.{◌∙◌, ◌++◌, ap, drop, sym}
 use Rattle.ddcmp_explain.specs.Output.{line_in}
 use Rattle.ddcmp_io.proofs.WrittenLaws.{sends-then}
 use Rattle.ddcmp_io.proofs.TextLaws.{sends-as}

@@ -1,0 +1,33 @@
+use Rattle.std.proofs.Common.{◌≡◌, ◌∙◌, ◌+◌, ◌-◌, ◌<◌, ◌&&◌, ap, sym, arith, true, false}
+use Rattle.std.specs.Prelude.{nat_le, nat_lt}
+use Rattle.std.proofs.lemmas.Bool.{and_parts}
+use Rattle.ddcmp_log.specs.Day.{month_days, month_from}
+use Rattle.ddcmp_log.proofs.DayLaws.{positive, months-end, months-on}
+use Rattle.ddcmp_log.proofs.day.month_of.Goals as goal
+
+pub loop-at-preserved : goal.loop-at-preserved
+loop-at-preserved c =
+    let m = c.loop-at.more in
+    let n = c.loop-at.at.number in
+    let day = c.loop-at.at.day in
+    let test : (nat_lt 0 m && nat_le (month_days c.args.year n) day) ≡ true =
+    ap (λ d. nat_lt 0 m && nat_le d day) (sym c.days_of_month.ensures.days)
+    ∙ sym c.goes_on.ensures ∙ c.loop-at-test.true in
+    let some : 0 < m = positive m (and_parts (nat_lt 0 m) (nat_le (month_days c.args.year n) day) test).0 in
+    record {
+      same =
+          ap (λ d. month_from c.args.year (m - 1) (n + 1) (day - d)) c.days_of_month-in-loop-at.ensures.days
+          ∙ sym (months-on c.args.year m n day test) ∙ c.loop-at.invariant.same;
+      less = omega (arith, c.loop-at.invariant.less);
+      bound = omega (arith, c.loop-at.invariant.bound, some);
+    }
+
+pub returns-clause-month : goal.returns-clause-month
+returns-clause-month c =
+    let m = c.loop-at.more in
+    let n = c.loop-at.at.number in
+    let day = c.loop-at.at.day in
+    let test : (nat_lt 0 m && nat_le (month_days c.args.year n) day) ≡ false =
+    ap (λ d. nat_lt 0 m && nat_le d day) (sym c.days_of_month.ensures.days)
+    ∙ sym c.goes_on.ensures ∙ c.loop-at-test.false in
+    sym (months-end c.args.year m n day test) ∙ c.loop-at.invariant.same
