@@ -14,6 +14,8 @@ use Rattle.ddcmp_tap.specs.declared.tap_fault.TapFault.{TapFault}
 use Rattle.ddcmp_tap.specs.declared.tap_fault.TapFault.TheVariants as tapping
 use Rattle.ddcmp_tap.specs.declared.tap_fault.Stage.{Stage}
 use Rattle.ddcmp_tap.specs.declared.tap_fault.Stage.TheVariants as stage
+use Rattle.ddcmp_tap.specs.declared.tap_log.LogTimes.{LogTimes}
+use Rattle.ddcmp_tap.specs.declared.tap_log.LogTimes.TheVariants as times
 use Rattle.ddcmp_tap.specs.InTurn.{Lasts, SaysInTurn}
 use Rattle.ddcmp_tap.specs.Logging.{Says, head_of}
 use Rattle.ddcmp_ports.specs.declared.fault.Attempt.{Attempt}
@@ -56,6 +58,11 @@ TapEnds tapped (Err tapping.Write) ending = ending ≡ Faulted Write
 TapEnds tapped (Err tapping.Report) ending = ending ≡ Faulted Write
 TapEnds tapped (Err tapping.Memory) ending = ending ≡ Faulted NoMemory
 
+-- what lines begin with: the time of day, the milliseconds or neither
+abbrev pub times_of : TapArgs → LogTimes
+times_of tapped =
+    if tapped.clock then times.OfDay else if tapped.time then times.Elapsed else times.Absent
+
 -- A tap writes lines of `explain` in this notation,
 abbrev pub lines_in : Notation → LogNotation
 lines_in Plain = told.Plain
@@ -70,14 +77,14 @@ notation_of tapped = if tapped.ladder then told.Ladder else lines_in tapped.nota
 abbrev pub Taps : TapArgs → Known → Known → Ending → Type 0
 Taps tapped old new ending =
     (result : Result (Unit {0}) TapFault) × TapEnds tapped result ending
-    × Says (head_of (notation_of tapped)) (notation_of tapped) tapped.time tapped.max old new result
+    × Says (head_of (notation_of tapped)) (notation_of tapped) (times_of tapped) tapped.max old new result
 
 -- callers were served one after another, until a fault that isn't of one side, which the ending
 -- reports
 abbrev pub TapsInTurn : TapArgs → Known → Known → Ending → Type 0
 TapsInTurn tapped old new ending =
     (fault : TapFault) × TapEnds tapped (Err fault) ending × Lasts fault
-    × SaysInTurn (notation_of tapped) tapped.time tapped.max old new fault
+    × SaysInTurn (notation_of tapped) (times_of tapped) tapped.max old new fault
 
 -- one caller, or one after another if `--again` is given
 abbrev pub TapsBy : Bool → TapArgs → Known → Known → Ending → Type 0

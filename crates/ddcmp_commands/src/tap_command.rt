@@ -4,6 +4,7 @@ ghost use Rattle.ddcmp_core.specs.Limits.{MAX_COUNT};
 ghost use Rattle.ddcmp_commands.specs.Endings.{is_json as is_json_notation};
 ghost use Rattle.ddcmp_commands.specs.TapEndings.{TapEnds, Taps, TapsAsked, TapsInTurn};
 ghost use Rattle.ddcmp_commands.specs.TapEndings.{carrier_text, notation_of as notation};
+ghost use Rattle.ddcmp_commands.specs.TapEndings.{times_of as times};
 ghost use Rattle.ddcmp_ports.specs.Events.{open_fault_text};
 
 use crate::ending::Ending;
@@ -14,7 +15,7 @@ use ddcmp_explain::Notation;
 use ddcmp_io::Sink;
 use ddcmp_log::LogNotation;
 use ddcmp_ports::{Attempt, Cause, OpenFault};
-use ddcmp_tap::{CarrierFault, Stage, TapFault, TapLog, tap_again};
+use ddcmp_tap::{CarrierFault, LogTimes, Stage, TapFault, TapLog, tap_again};
 use std::alloc::Global;
 use std::io::Eprint;
 use std::net::{Net, TcpStream};
@@ -76,15 +77,29 @@ fn notation_of(args: &TapArgs<'_>) -> LogNotation
     }
 }
 
+/// Returns what lines begin with.
+fn times_of(args: &TapArgs<'_>) -> LogTimes
+    ensures { result ≡ times args.now }
+{
+    match (args.clock, args.time) {
+        (true, _) => LogTimes::OfDay,
+        (false, true) => LogTimes::Elapsed,
+        (false, false) => LogTimes::Absent,
+    }
+}
+
 /// Returns how the traffic is logged.
 fn log_of(args: &TapArgs<'_>) -> TapLog
     ensures notation { result.notation ≡ notation args.now }
-    ensures timed { result.timed ≡ args.now.time }
+    ensures times { result.times ≡ times args.now }
+    ensures report { result.report ≡ args.now.report }
     ensures max { result.max ≡ args.now.max }
 {
     TapLog {
         notation: notation_of(args),
-        timed: args.time,
+        times: times_of(args),
+        began: 0,
+        report: args.report,
         max: args.max,
     }
 }

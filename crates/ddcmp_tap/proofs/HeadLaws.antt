@@ -9,6 +9,10 @@ use Rattle.std.proofs.Math.Seq.{take-length}
 use Rattle.ddcmp_io.specs.Written.{AppendsPart, Known, Writes}
 use Rattle.ddcmp_io.proofs.WrittenLaws.{part-append}
 use Rattle.ddcmp_log.specs.declared.notation.LogNotation.{LogNotation}
+use Rattle.ddcmp_log.specs.declared.side.Stamp.{Stamp}
+use Rattle.ddcmp_tap.specs.Stamping.{IsStamp, stamp_in}
+use Rattle.ddcmp_tap.specs.declared.tap_log.LogTimes.{LogTimes}
+use Rattle.ddcmp_tap.specs.declared.tap_log.LogTimes.TheVariants.{Absent, Elapsed, OfDay}
 use Rattle.ddcmp_tap.specs.declared.tap_fault.CarrierFault.{CarrierFault}
 use Rattle.ddcmp_tap.specs.declared.tap_fault.TapFault.{TapFault}
 use Rattle.ddcmp_tap.specs.declared.tap_fault.TapFault.TheVariants.{Carrier, Read, Write, Report}
@@ -17,58 +21,58 @@ use Rattle.ddcmp_tap.specs.Logging.{Says, WritesText, tap_text}
 use Rattle.ddcmp_tap.proofs.PieceLaws.{part-behind}
 
 -- some moment, where one is asked for
-abbrev moment : Bool → Option ℕ
-moment true = Some 0
-moment false = None
+abbrev moment : LogTimes → Option Stamp
+moment times = stamp_in times 0 0
 
-asked : (timed : Bool) → is_some (moment timed) ≡ timed
-asked true = refl
-asked false = refl
+asked : (times : LogTimes) → IsStamp times (moment times)
+asked Absent = tt
+asked Elapsed = tt
+asked OfDay = tt
 
 -- nothing was said of either side
 unsaid
-    : (head : List ℕ) (notation : LogNotation) (timed : Bool) (max : ℕ) (old new : Known)
+    : (head : List ℕ) (notation : LogNotation) (times : LogTimes) (max : ℕ) (old new : Known)
     (fault : TapFault)
-    → WritesText old new (Err fault) (head ++ tap_text notation max (moment timed) [])
-    → Says head notation timed max old new (Err fault)
-unsaid head notation timed max old new fault wrote =
+    → WritesText old new (Err fault) (head ++ tap_text notation max (moment times) [])
+    → Says head notation times max old new (Err fault)
+unsaid head notation times max old new fault wrote =
     record {
       pieces = [];
-      stamp = moment timed;
-      stamped = (All-nil (λ p. is_some p.stamp ≡ timed), asked timed);
+      stamp = moment times;
+      stamped = (All-nil (λ p. IsStamp times p.stamp), asked times);
       wrote = wrote;
     }
 
-pub no-memory : (head : List ℕ) (notation : LogNotation) (timed : Bool) (max : ℕ) (old : Known)
-    → Says head notation timed max old old (Err Memory)
-no-memory head notation timed max old =
-    unsaid head notation timed max old old Memory (0, Appends-nil old)
+pub no-memory : (head : List ℕ) (notation : LogNotation) (times : LogTimes) (max : ℕ) (old : Known)
+    → Says head notation times max old old (Err Memory)
+no-memory head notation times max old =
+    unsaid head notation times max old old Memory (0, Appends-nil old)
 
-pub no-carrier : (head : List ℕ) (notation : LogNotation) (timed : Bool) (max : ℕ) (old : Known)
-    (why : CarrierFault) → Says head notation timed max old old (Err (Carrier why))
-no-carrier head notation timed max old why =
-    unsaid head notation timed max old old (Carrier why) (Keeps-refl old)
+pub no-carrier : (head : List ℕ) (notation : LogNotation) (times : LogTimes) (max : ℕ) (old : Known)
+    (why : CarrierFault) → Says head notation times max old old (Err (Carrier why))
+no-carrier head notation times max old why =
+    unsaid head notation times max old old (Carrier why) (Keeps-refl old)
 
 -- nothing has begun, for one reason or the other
-pub not-begun : (head : List ℕ) (notation : LogNotation) (timed : Bool) (max : ℕ) (old : Known)
+pub not-begun : (head : List ℕ) (notation : LogNotation) (times : LogTimes) (max : ℕ) (old : Known)
     (fault : TapFault) → (fault ≡ Memory) ⊎ ((why : CarrierFault) × (fault ≡ Carrier why))
-    → Says head notation timed max old old (Err fault)
-not-begun head notation timed max old fault (inl e) =
-    subst (λ f. Says head notation timed max old old (Err f)) (sym e)
-    (no-memory head notation timed max old)
-not-begun head notation timed max old fault (inr (why, e)) =
-    subst (λ f. Says head notation timed max old old (Err f)) (sym e)
-    (no-carrier head notation timed max old why)
+    → Says head notation times max old old (Err fault)
+not-begun head notation times max old fault (inl e) =
+    subst (λ f. Says head notation times max old old (Err f)) (sym e)
+    (no-memory head notation times max old)
+not-begun head notation times max old fault (inr (why, e)) =
+    subst (λ f. Says head notation times max old old (Err f)) (sym e)
+    (no-carrier head notation times max old why)
 
 -- the head wasn't written whole
 pub no-head
-    : (head : List ℕ) (notation : LogNotation) (timed : Bool) (max : ℕ) (old new : Known)
+    : (head : List ℕ) (notation : LogNotation) (times : LogTimes) (max : ℕ) (old new : Known)
     (result : Result (Unit {0}) WriteFailed) → is_err result ≡ true → Writes old new result head
-    → Says head notation timed max old new (Err Report)
-no-head head notation timed max old new (Ok u) e w = cc
-no-head head notation timed max old new (Err f) e w =
-    unsaid head notation timed max old new Report
-    (part-append old new head (tap_text notation max (moment timed) []) w)
+    → Says head notation times max old new (Err Report)
+no-head head notation times max old new (Ok u) e w = cc
+no-head head notation times max old new (Err f) e w =
+    unsaid head notation times max old new Report
+    (part-append old new head (tap_text notation max (moment times) []) w)
 
 pub behind : (old mid new : Known) (head text : List ℕ) (result : Result (Unit {0}) TapFault)
     → ((why : CarrierFault) → result ≢ Err (Carrier why)) → Appends old mid head
@@ -83,18 +87,18 @@ behind old mid new head text (Err Memory) met a w = part-behind old mid new head
 
 -- the head was written, and below it what was said
 pub said-below
-    : (head : List ℕ) (notation : LogNotation) (timed : Bool) (max : ℕ) (old mid new : Known)
+    : (head : List ℕ) (notation : LogNotation) (times : LogTimes) (max : ℕ) (old mid new : Known)
     (wrote : Result (Unit {0}) WriteFailed) (result : Result (Unit {0}) TapFault)
     → ((why : CarrierFault) → result ≢ Err (Carrier why)) → is_err wrote ≡ false
     → Writes old mid wrote head
-    → Says [] notation timed max mid new result → Says head notation timed max old new result
-said-below head notation timed max old mid new (Ok u) result met e w s = record {
+    → Says [] notation times max mid new result → Says head notation times max old new result
+said-below head notation times max old mid new (Ok u) result met e w s = record {
   pieces = s.pieces;
   stamp = s.stamp;
   stamped = s.stamped;
   wrote = behind old mid new head (tap_text notation max s.stamp s.pieces) result met w s.wrote;
 }
-said-below head notation timed max old mid new (Err f) result met e w s = cc
+said-below head notation times max old mid new (Err f) result met e w s = cc
 
 -- of a longer text
 pub cut : (old new : Known) (fault : TapFault) (text more : List ℕ)

@@ -25,7 +25,10 @@ use Rattle.ddcmp_tap.specs.declared.tap_fault.CarrierFault.{CarrierFault}
 use Rattle.ddcmp_tap.specs.declared.tap_fault.TapFault.{TapFault}
 use Rattle.ddcmp_tap.specs.declared.tap_fault.TapFault.TheVariants.{Carrier, Read, Write, Report}
 use Rattle.ddcmp_tap.specs.declared.tap_fault.TapFault.TheVariants.{Memory}
+use Rattle.ddcmp_tap.specs.declared.tap_log.LogTimes.{LogTimes}
+use Rattle.ddcmp_tap.specs.declared.tap_log.LogTimes.TheVariants.{Absent, Elapsed, OfDay}
 use Rattle.ddcmp_tap.specs.declared.tap_log.TapLog.{TapLog}
+use Rattle.ddcmp_tap.specs.Stamping.{IsStamp, stamp_in}
 use Rattle.ddcmp_io.proofs.WrittenLaws.{part-append}
 use Rattle.ddcmp_log.specs.Items.{HasTold}
 use Rattle.ddcmp_tap.proofs.HeadLaws.{behind}
@@ -160,28 +163,29 @@ logged log t t' held trace old mid new pauses wrote is k =
     subst (λ x. Going log x held trace old new) (sym is) after
 
 -- the milliseconds are logged if they are asked for
-stamped-by : (timed : Bool) (now : ℕ) → is_some (if timed then Some now else None) ≡ timed
-stamped-by true now = refl
-stamped-by false now = refl
+stamped-by : (times : LogTimes) (began now : ℕ) → IsStamp times (stamp_in times began now)
+stamped-by Absent began now = tt
+stamped-by Elapsed began now = tt
+stamped-by OfDay began now = tt
 
-stamped-all : (timed : Bool) (h : List Event) → AreStamped timed (pieces_of timed h)
-stamped-all timed [] = All-nil (λ (p : Piece). is_some p.stamp ≡ timed)
-stamped-all timed (Gave First bytes ∷ h) =
-    All-cons (λ (p : Piece). is_some p.stamp ≡ timed) (piece_of Caller timed (moment_of h) bytes)
-    (pieces_of timed h) (stamped-by timed (moment_of h)) (stamped-all timed h)
-stamped-all timed (Gave Second bytes ∷ h) =
-    All-cons (λ (p : Piece). is_some p.stamp ≡ timed) (piece_of Called timed (moment_of h) bytes)
-    (pieces_of timed h) (stamped-by timed (moment_of h)) (stamped-all timed h)
-stamped-all timed (Gave Input bytes ∷ h) = stamped-all timed h
-stamped-all timed (Gave Output bytes ∷ h) = stamped-all timed h
-stamped-all timed (Gave Errors bytes ∷ h) = stamped-all timed h
-stamped-all timed (Took q bytes ∷ h) = stamped-all timed h
-stamped-all timed (Told q what ∷ h) = stamped-all timed h
-stamped-all timed (Shut q ∷ h) = stamped-all timed h
-stamped-all timed (Left q ∷ h) = stamped-all timed h
-stamped-all timed (Passed now ∷ h) = stamped-all timed h
-stamped-all timed (Rested ∷ h) = stamped-all timed h
-stamped-all timed (Stopped ∷ h) = stamped-all timed h
+stamped-all : (log : TapLog) (h : List Event) → AreStamped log.times (pieces_of log h)
+stamped-all log [] = All-nil (λ (p : Piece). IsStamp log.times p.stamp)
+stamped-all log (Gave First bytes ∷ h) =
+    All-cons (λ (p : Piece). IsStamp log.times p.stamp) (piece_of Caller log (moment_of h) bytes)
+    (pieces_of log h) (stamped-by log.times log.began (moment_of h)) (stamped-all log h)
+stamped-all log (Gave Second bytes ∷ h) =
+    All-cons (λ (p : Piece). IsStamp log.times p.stamp) (piece_of Called log (moment_of h) bytes)
+    (pieces_of log h) (stamped-by log.times log.began (moment_of h)) (stamped-all log h)
+stamped-all log (Gave Input bytes ∷ h) = stamped-all log h
+stamped-all log (Gave Output bytes ∷ h) = stamped-all log h
+stamped-all log (Gave Errors bytes ∷ h) = stamped-all log h
+stamped-all log (Took q bytes ∷ h) = stamped-all log h
+stamped-all log (Told q what ∷ h) = stamped-all log h
+stamped-all log (Shut q ∷ h) = stamped-all log h
+stamped-all log (Left q ∷ h) = stamped-all log h
+stamped-all log (Passed now ∷ h) = stamped-all log h
+stamped-all log (Rested ∷ h) = stamped-all log h
+stamped-all log (Stopped ∷ h) = stamped-all log h
 
 -- both sides have ended
 both-over : (fault : Option TapFault) (up down : Bool)
@@ -195,7 +199,7 @@ pub passes : (t : TapView) (h : List Event) (held : Held) (trace : Trace)
     (result : Result (Unit {0}) TapFault) → Taps t h → AllAgree h held trace
     → (result ≡ Ok tt → (t.up.over ≡ true) × (t.down.over ≡ true))
     → (one two : Passage) → trace First ≡ Some one → trace Second ≡ Some two
-    → PassesBetween (pieces_of t.log.timed h) result one two
+    → PassesBetween (pieces_of t.log h) result one two
 passes t h held trace result k agrees over one two first second =
     let one-agrees = agrees First one first in
     let two-agrees = agrees Second two second in
@@ -224,7 +228,7 @@ passes t h held trace result k agrees over one two first second =
 -- what a tap promises of its log and of both lines
 abbrev pub Tapped : TapLog → Known → Known → Trace → Result (Unit {0}) TapFault → Type 0
 Tapped log old new trace result =
-    (says : Says [] log.notation log.timed log.max old new result)
+    (says : Says [] log.notation log.times log.max old new result)
     × ((one two : Passage) → trace First ≡ Some one → trace Second ≡ Some two
     → PassesBetween says.pieces result one two)
 
@@ -233,15 +237,15 @@ tapped : (log : TapLog) (t : TapView) (h : List Event) (held : Held) (trace : Tr
     → Taps t h → AllAgree h held trace → t.log ≡ log
     → (result ≡ Ok tt → (t.up.over ≡ true) × (t.down.over ≡ true))
     → WritesText old new result
-    (log_of t.log h ++ last_lines t (said Caller (pieces_of t.log.timed h))
-    (said Called (pieces_of t.log.timed h)))
+    (log_of t.log h ++ last_lines t (said Caller (pieces_of t.log h))
+    (said Called (pieces_of t.log h)))
     → Tapped log old new trace result
 tapped log t h held trace old new result k agrees same over wrote =
     subst (λ l. Tapped l old new trace result) same (
       record {
-        pieces = pieces_of t.log.timed h;
+        pieces = pieces_of t.log h;
         stamp = stamp_of t;
-        stamped = (stamped-all t.log.timed h, stamped-by t.log.timed t.moment);
+        stamped = (stamped-all t.log h, stamped-by t.log.times t.log.began t.moment);
         wrote = wrote;
       },
       passes t h held trace result k agrees over,

@@ -4,6 +4,8 @@ use Rattle.std.proofs.Common.{refl, subst, Bool, true, false, Option, Some, None
 use Rattle.std.proofs.Common.{arith, is_some, not}
 use Rattle.std.proofs.lemmas.List.{drop-append-le, length-append}
 use Rattle.ddcmp_log.specs.declared.side.Side.{Side}
+use Rattle.ddcmp_log.specs.declared.side.Stamp.{Stamp}
+use Rattle.ddcmp_tap.specs.Stamping.{stamp_at}
 use Rattle.ddcmp_log.specs.declared.side.Side.TheVariants.{Caller, Called}
 use Rattle.ddcmp_log.specs.Items.{HasTold}
 use Rattle.ddcmp_log.specs.Logged.{items_added, logged_lines}
@@ -32,27 +34,27 @@ Takes old new bytes = (came gone whole : List ℕ) → Forwards old came gone wh
     → Forwards new (came ++ bytes) gone whole
 
 -- what is to be logged of a piece
-abbrev pub lines_of : TapView → Side → Option ℕ → List ℕ → List ℕ → List ℕ
+abbrev pub lines_of : TapView → Side → Option Stamp → List ℕ → List ℕ → List ℕ
 lines_of t side stamp told bytes =
     logged_lines t.log.notation stamp side (items_added t.log.max told bytes)
 
 -- the log and the lines of one more piece
 module _ (t : TapView) (h : List Event) (p : Piece) where
   abbrev lines : List ℕ
-  lines = lines_of t p.side p.stamp (said p.side (pieces_of t.log.timed h)) p.bytes
+  lines = lines_of t p.side p.stamp (said p.side (pieces_of t.log h)) p.bytes
 
-  log-more : pieces_text t.log.notation t.log.max (p ∷ pieces_of t.log.timed h)
+  log-more : pieces_text t.log.notation t.log.max (p ∷ pieces_of t.log h)
       ≡ log_of t.log h ++ lines
-  log-more = text-more t.log.notation t.log.max p (pieces_of t.log.timed h)
+  log-more = text-more t.log.notation t.log.max p (pieces_of t.log h)
 
   longer : t.written ≤ length (log_of t.log h)
-      → t.written ≤ length (pieces_text t.log.notation t.log.max (p ∷ pieces_of t.log.timed h))
+      → t.written ≤ length (pieces_text t.log.notation t.log.max (p ∷ pieces_of t.log h))
   longer fits =
       let more = ap (λ x. length x) log-more ∙ length-append (log_of t.log h) lines in
       omega arith
 
   rest-more : t.written ≤ length (log_of t.log h)
-      → drop t.written (pieces_text t.log.notation t.log.max (p ∷ pieces_of t.log.timed h))
+      → drop t.written (pieces_text t.log.notation t.log.max (p ∷ pieces_of t.log h))
       ≡ drop t.written (log_of t.log h) ++ lines
   rest-more fits =
       ap (λ x. drop t.written x) log-more ∙ drop-append-le t.written (log_of t.log h) lines fits
@@ -68,18 +70,18 @@ none-rest fault rest text none is = subst (λ f. IsRest f rest text) (sym none) 
 pub gave-first : (t : TapView) (up : DirectionView) (text bytes : List ℕ) (h : List Event)
     → t.fault ≡ None → IsOf Caller t.log.notation t.log.max t.up.log
     → Takes t.up up bytes → up.ended ≡ false
-    → (stamp : Option ℕ) → stamp ≡ stamp_of t
+    → (stamp : Option Stamp) → stamp ≡ stamp_of t
     → ((came : List ℕ) → HasTold t.up.log.frames t.up.log.items came
     → text ≡ t.text ++ logged_lines t.up.log.notation stamp t.up.log.side
     (items_added t.up.log.frames.max came bytes))
     → Taps t h → Taps (record t { up = up; text = text }) (Gave First bytes ∷ h)
 gave-first t up text bytes h none is takes going stamp stamped lines k =
-    let p = piece_of Caller t.log.timed (moment_of h) bytes in
-    let is-moment = stamped ∙ ap (λ m. if t.log.timed then Some m else None) k.moment in
+    let p = piece_of Caller t.log (moment_of h) bytes in
+    let is-moment = stamped ∙ ap (λ m. stamp_at t.log m) k.moment in
     record {
       moment = k.moment;
-      caller = said-more Caller p.stamp bytes (pieces_of t.log.timed h) ∙ ap (λ x. x ++ bytes) k.caller;
-      called = said-called p.stamp bytes (pieces_of t.log.timed h) ∙ k.called;
+      caller = said-more Caller p.stamp bytes (pieces_of t.log h) ∙ ap (λ x. x ++ bytes) k.caller;
+      called = said-called p.stamp bytes (pieces_of t.log h) ∙ k.called;
       up = takes (used First h) (taken Second h) (used_whole First h) k.up;
       down = k.down;
       caller_ended = λ e. true-false up.ended going e;
@@ -91,7 +93,7 @@ gave-first t up text bytes h none is takes going stamp stamped lines k =
           (lines-as Caller t.log.notation t.log.max _ t.up.log (used First h) bytes is
           ∙ ap (λ s. lines_of t Caller s (used First h) bytes) is-moment
           ∙ ap (λ x. lines_of t Caller p.stamp x bytes) (sym k.caller))
-          ∙ ap (λ x. x ++ lines_of t Caller p.stamp (said Caller (pieces_of t.log.timed h)) bytes)
+          ∙ ap (λ x. x ++ lines_of t Caller p.stamp (said Caller (pieces_of t.log h)) bytes)
           (rest-none t.fault _ t.text none k.rest)
           ∙ sym (rest-more t h p k.written));
     }
@@ -99,18 +101,18 @@ gave-first t up text bytes h none is takes going stamp stamped lines k =
 pub gave-second : (t : TapView) (down : DirectionView) (text bytes : List ℕ) (h : List Event)
     → t.fault ≡ None → IsOf Called t.log.notation t.log.max t.down.log
     → Takes t.down down bytes → down.ended ≡ false
-    → (stamp : Option ℕ) → stamp ≡ stamp_of t
+    → (stamp : Option Stamp) → stamp ≡ stamp_of t
     → ((came : List ℕ) → HasTold t.down.log.frames t.down.log.items came
     → text ≡ t.text ++ logged_lines t.down.log.notation stamp t.down.log.side
     (items_added t.down.log.frames.max came bytes))
     → Taps t h → Taps (record t { down = down; text = text }) (Gave Second bytes ∷ h)
 gave-second t down text bytes h none is takes going stamp stamped lines k =
-    let p = piece_of Called t.log.timed (moment_of h) bytes in
-    let is-moment = stamped ∙ ap (λ m. if t.log.timed then Some m else None) k.moment in
+    let p = piece_of Called t.log (moment_of h) bytes in
+    let is-moment = stamped ∙ ap (λ m. stamp_at t.log m) k.moment in
     record {
       moment = k.moment;
-      caller = said-caller p.stamp bytes (pieces_of t.log.timed h) ∙ k.caller;
-      called = said-more Called p.stamp bytes (pieces_of t.log.timed h) ∙ ap (λ x. x ++ bytes) k.called;
+      caller = said-caller p.stamp bytes (pieces_of t.log h) ∙ k.caller;
+      called = said-more Called p.stamp bytes (pieces_of t.log h) ∙ ap (λ x. x ++ bytes) k.called;
       up = k.up;
       down = takes (used Second h) (taken First h) (used_whole Second h) k.down;
       caller_ended = k.caller_ended;
@@ -122,7 +124,7 @@ gave-second t down text bytes h none is takes going stamp stamped lines k =
           (lines-as Called t.log.notation t.log.max _ t.down.log (used Second h) bytes is
           ∙ ap (λ s. lines_of t Called s (used Second h) bytes) is-moment
           ∙ ap (λ x. lines_of t Called p.stamp x bytes) (sym k.called))
-          ∙ ap (λ x. x ++ lines_of t Called p.stamp (said Called (pieces_of t.log.timed h)) bytes)
+          ∙ ap (λ x. x ++ lines_of t Called p.stamp (said Called (pieces_of t.log h)) bytes)
           (rest-none t.fault _ t.text none k.rest)
           ∙ sym (rest-more t h p k.written));
     }
@@ -132,11 +134,11 @@ pub lost-first : (t : TapView) (up : DirectionView) (text bytes : List ℕ) (h :
     → text ≡ [] → Takes t.up up bytes → up.ended ≡ false → Taps t h
     → Taps (record t { up = up; text = text; fault = Some Memory }) (Gave First bytes ∷ h)
 lost-first t up text bytes h none takes going k =
-    let p = piece_of Caller t.log.timed (moment_of h) bytes in
+    let p = piece_of Caller t.log (moment_of h) bytes in
     record {
       moment = k.moment;
-      caller = said-more Caller p.stamp bytes (pieces_of t.log.timed h) ∙ ap (λ x. x ++ bytes) k.caller;
-      called = said-called p.stamp bytes (pieces_of t.log.timed h) ∙ k.called;
+      caller = said-more Caller p.stamp bytes (pieces_of t.log h) ∙ ap (λ x. x ++ bytes) k.caller;
+      called = said-called p.stamp bytes (pieces_of t.log h) ∙ k.called;
       up = takes (used First h) (taken Second h) (used_whole First h) k.up;
       down = k.down;
       caller_ended = λ e. true-false up.ended going e;
@@ -149,11 +151,11 @@ pub lost-second : (t : TapView) (down : DirectionView) (text bytes : List ℕ) (
     → text ≡ [] → Takes t.down down bytes → down.ended ≡ false → Taps t h
     → Taps (record t { down = down; text = text; fault = Some Memory }) (Gave Second bytes ∷ h)
 lost-second t down text bytes h none takes going k =
-    let p = piece_of Called t.log.timed (moment_of h) bytes in
+    let p = piece_of Called t.log (moment_of h) bytes in
     record {
       moment = k.moment;
-      caller = said-caller p.stamp bytes (pieces_of t.log.timed h) ∙ k.caller;
-      called = said-more Called p.stamp bytes (pieces_of t.log.timed h) ∙ ap (λ x. x ++ bytes) k.called;
+      caller = said-caller p.stamp bytes (pieces_of t.log h) ∙ k.caller;
+      called = said-more Called p.stamp bytes (pieces_of t.log h) ∙ ap (λ x. x ++ bytes) k.called;
       up = k.up;
       down = takes (used Second h) (taken First h) (used_whole Second h) k.down;
       caller_ended = k.caller_ended;

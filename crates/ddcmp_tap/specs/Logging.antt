@@ -1,6 +1,6 @@
 -- What a tap writes.
-use Rattle.std.specs.Prelude.{◌≡◌, ◌⊎◌, ℕ, Bool, List, [], ◌∷◌, ◌++◌, All}
-use Rattle.std.specs.Prelude.{is_some, codes, ⊤, Option, Result, Ok, Err}
+use Rattle.std.specs.Prelude.{◌≡◌, ◌⊎◌, ℕ, List, [], ◌∷◌, ◌++◌, All}
+use Rattle.std.specs.Prelude.{codes, ⊤, Option, Result, Ok, Err}
 use Rattle.std.specs.Io.KnownBytes.{Appends, Keeps}
 use Rattle.ddcmp_io.specs.Written.{AppendsPart, Known}
 use Rattle.ddcmp_log.specs.declared.notation.LogNotation.{LogNotation}
@@ -8,15 +8,17 @@ use Rattle.ddcmp_log.specs.declared.notation.LogNotation.TheVariants.{Plain, Jso
 use Rattle.ddcmp_log.specs.Logged.{items_added, logged_last, logged_lines}
 use Rattle.ddcmp_log.specs.declared.side.Side.{Side}
 use Rattle.ddcmp_log.specs.declared.side.Side.TheVariants.{Caller, Called}
+use Rattle.ddcmp_log.specs.declared.side.Stamp.{Stamp}
+use Rattle.ddcmp_tap.specs.Stamping.{IsStamp}
+use Rattle.ddcmp_tap.specs.declared.tap_log.LogTimes.{LogTimes}
 use Rattle.ddcmp_tap.specs.declared.tap_fault.TapFault.{TapFault}
 use Rattle.ddcmp_tap.specs.declared.tap_fault.TapFault.TheVariants.{Carrier, Read, Write, Report}
 use Rattle.ddcmp_tap.specs.declared.tap_fault.TapFault.TheVariants.{Memory}
-use Rattle.ddcmp_tap.specs.declared.tap_log.TapLog.{TapLog}
 
 -- bytes of a side that were logged together, and their time stamp, if there is one
 pub record Piece : Type 0 where
   pub side : Side
-  pub stamp : Option ℕ
+  pub stamp : Option Stamp
   pub bytes : List ℕ
 
 -- the bytes of a piece, if it is of this side
@@ -39,15 +41,15 @@ pieces_text notation max (p ∷ before) =
     ++ logged_lines notation p.stamp p.side (items_added max (said p.side before) p.bytes)
 
 -- all that a tap writes: those lines, and a last line for each side
-abbrev pub tap_text : LogNotation → ℕ → Option ℕ → List Piece → List ℕ
+abbrev pub tap_text : LogNotation → ℕ → Option Stamp → List Piece → List ℕ
 tap_text notation max stamp pieces =
     pieces_text notation max pieces
     ++ (logged_last notation stamp Caller max (said Caller pieces)
     ++ logged_last notation stamp Called max (said Called pieces))
 
--- Each piece has a time stamp exactly if these are requested.
-abbrev pub AreStamped : Bool → List Piece → Type 0
-AreStamped timed pieces = All (λ (p : Piece). is_some p.stamp ≡ timed) pieces
+-- Each piece has a time stamp as requested.
+abbrev pub AreStamped : LogTimes → List Piece → Type 0
+AreStamped times pieces = All (λ (p : Piece). IsStamp times p.stamp) pieces
 
 -- the tap ran until both sides had ended or one had failed
 abbrev pub HasReported : Result (Unit {0}) TapFault → Type 0
@@ -76,9 +78,9 @@ head_of Ladder =
     "> who connected to the tap                         whom the tap connected to <\n"
 
 -- A tap wrote a heading and its log, for some pieces of what both sides sent.
-pub record Says (head : List ℕ) (notation : LogNotation) (timed : Bool) (max : ℕ) (old new : Known)
+pub record Says (head : List ℕ) (notation : LogNotation) (times : LogTimes) (max : ℕ) (old new : Known)
     (result : Result (Unit {0}) TapFault) : Type 0 where
   pub pieces : List Piece
-  pub stamp : Option ℕ
-  pub stamped : AreStamped timed pieces × (is_some stamp ≡ timed)
+  pub stamp : Option Stamp
+  pub stamped : AreStamped times pieces × IsStamp times stamp
   pub wrote : WritesText old new result (head ++ tap_text notation max stamp pieces)

@@ -1,6 +1,6 @@
 -- A tap as a machine: what it needs and has pending, its history, and what passes through it.
 use Rattle.std.specs.Prelude.{◌≡◌, ◌≤◌, ℕ, Bool, if◌then◌else◌, ◌&&◌, ◌==◌, List, [], ◌∷◌, ◌++◌}
-use Rattle.std.specs.Prelude.{⊤, true, Option, Some, None, Result, Ok, Err, drop, is_some, length}
+use Rattle.std.specs.Prelude.{⊤, true, Option, Some, None, Result, Ok, Err, drop, is_some, length, MatchBool, ◌⊎◌}
 use Rattle.ddcmp_ports.specs.declared.port.Port.{Port}
 use Rattle.ddcmp_ports.specs.declared.port.Port.TheVariants.{Input, Output, Errors, First, Second}
 use Rattle.ddcmp_ports.specs.declared.port.Need.{Need}
@@ -9,10 +9,15 @@ use Rattle.ddcmp_ports.specs.Running.{Event, Gave, Left, Passage, Passed, Rested
 use Rattle.ddcmp_ports.specs.Running.{Took, Trace, taken, told, used, used_whole}
 use Rattle.ddcmp_ports.specs.declared.port.News.{News}
 use Rattle.ddcmp_ports.specs.declared.port.News.TheVariants as news
-use Rattle.ddcmp_log.specs.Items.{ItemLogView}
-use Rattle.ddcmp_log.specs.Logged.{logged_last}
+use Rattle.ddcmp_log.specs.Items.{HasTold, ItemLogView}
+use Rattle.ddcmp_log.specs.Logged.{logged_last, reported_line}
+use Rattle.ddcmp_log.specs.Scheduling.{is_due, next_due_after}
+use Rattle.ddcmp_log.specs.declared.side.Added.{Added}
+use Rattle.ddcmp_log.specs.declared.schedule.Schedule.{Schedule}
 use Rattle.ddcmp_log.specs.declared.side.Side.{Side}
 use Rattle.ddcmp_log.specs.declared.side.Side.TheVariants.{Caller, Called}
+use Rattle.ddcmp_log.specs.declared.side.Stamp.{Stamp}
+use Rattle.ddcmp_tap.specs.Stamping.{stamp_at}
 use Rattle.ddcmp_tap.specs.Forwarding.{DirectionView, Forwards, IsOf, need_of}
 use Rattle.ddcmp_tap.specs.Logging.{Piece, Says, pieces_text, said}
 use Rattle.ddcmp_tap.specs.declared.machine.TapPause.{TapPause}
@@ -22,7 +27,8 @@ use Rattle.ddcmp_tap.specs.declared.tap_fault.TapFault.TheVariants as fault
 use Rattle.ddcmp_tap.specs.declared.tap_log.TapLog.{TapLog}
 
 -- A tap: how it logs; the directions from the caller and to it; the lines that weren't written yet,
--- and how many bytes of lines were; the moment; and why it ends, if it does.
+-- and how many bytes of lines were; the moment; why it ends, if it does; the reports that weren't
+-- printed yet, when the next is due, and what had come from each side at the last one.
 pub record TapView : Type 0 where
   pub log : TapLog
   pub up : DirectionView
@@ -31,6 +37,10 @@ pub record TapView : Type 0 where
   pub written : ℕ
   pub moment : ℕ
   pub fault : Option TapFault
+  pub report : List ℕ
+  pub schedule : Schedule
+  pub caller_reported : Added
+  pub called_reported : Added
 
 -- why it may end: the log and the connections are others' concern
 abbrev pub IsOwn : Option TapFault → Type 0
@@ -49,9 +59,9 @@ abbrev pub log_at : Side → TapView → ItemLogView
 log_at Caller t = t.up.log
 log_at Called t = t.down.log
 
--- the milliseconds, if requested
-abbrev pub stamp_of : TapView → Option ℕ
-stamp_of t = if t.log.timed then Some t.moment else None
+-- what lines of now begin with, if with a time
+abbrev pub stamp_of : TapView → Option Stamp
+stamp_of t = stamp_at t.log t.moment
 
 -- what no call changes, but the writing of the log
 abbrev pub asked_of : TapView → TapLog × ℕ
@@ -70,7 +80,7 @@ pending_of t First = if is_some t.fault then [] else t.down.waiting
 pending_of t Second = if is_some t.fault then [] else t.up.waiting
 pending_of t Input = []
 pending_of t Output = []
-pending_of t Errors = []
+pending_of t Errors = if is_some t.fault then [] else t.report
 
 abbrev pub end_of : Option TapFault → Bool → Option TapPause
 end_of (Some why) is_over = Some (Ended (Err why))
@@ -87,6 +97,37 @@ last_lines t up down =
     logged_last t.log.notation (stamp_of t) Caller t.log.max up
     ++ logged_last t.log.notation (stamp_of t) Called t.log.max down
 
+-- ---- its reports
+
+-- what came from a side
+abbrev pub added_of : ItemLogView → Added
+added_of l = record { items = l.items; bytes = l.frames.offset }
+
+-- a report on both sides, of which these bytes came
+abbrev pub report_lines : TapView → List ℕ → List ℕ → List ℕ
+report_lines t up down =
+    reported_line t.log.notation (stamp_of t) Caller t.log.max t.caller_reported up
+    ++ reported_line t.log.notation (stamp_of t) Called t.log.max t.called_reported down
+
+-- when the next report is due
+abbrev pub schedule_after : TapView → Schedule
+schedule_after t =
+    if is_due t.schedule t.moment
+    then record t.schedule { due_at = next_due_after t.schedule t.moment }
+    else t.schedule
+
+-- A report was queued, or an allocation failed and none is.
+abbrev pub HasReport : TapView → TapView → Type 0
+HasReport old new =
+    (((up down : List ℕ) → HasTold old.up.log.frames old.up.log.items up
+    → HasTold old.down.log.frames old.down.log.items down
+    → new.report ≡ old.report ++ report_lines old up down) ⊎ (new.report ≡ []))
+    × (new.caller_reported ≡ added_of old.up.log) × (new.called_reported ≡ added_of old.down.log)
+
+-- if one is due
+abbrev pub ReportsIfDue : TapView → TapView → Type 0
+ReportsIfDue old new = MatchBool (is_due old.schedule old.moment) (HasReport old new) (new ≡ old)
+
 -- ---- its history
 
 abbrev pub moment_of : List Event → ℕ
@@ -100,32 +141,31 @@ moment_of (Passed now ∷ h) = now
 moment_of (Rested ∷ h) = moment_of h
 moment_of (Stopped ∷ h) = moment_of h
 
-abbrev pub piece_of : Side → Bool → ℕ → List ℕ → Piece
-piece_of side timed now bytes =
-    record { side = side; stamp = if timed then Some now else None; bytes = bytes }
+abbrev pub piece_of : Side → TapLog → ℕ → List ℕ → Piece
+piece_of side log now bytes = record { side = side; stamp = stamp_at log now; bytes = bytes }
 
-abbrev pub pieces_at : Port → Bool → ℕ → List ℕ → List Piece → List Piece
-pieces_at First timed now bytes before = piece_of Caller timed now bytes ∷ before
-pieces_at Second timed now bytes before = piece_of Called timed now bytes ∷ before
-pieces_at Input timed now bytes before = before
-pieces_at Output timed now bytes before = before
-pieces_at Errors timed now bytes before = before
+abbrev pub pieces_at : Port → TapLog → ℕ → List ℕ → List Piece → List Piece
+pieces_at First log now bytes before = piece_of Caller log now bytes ∷ before
+pieces_at Second log now bytes before = piece_of Called log now bytes ∷ before
+pieces_at Input log now bytes before = before
+pieces_at Output log now bytes before = before
+pieces_at Errors log now bytes before = before
 
 -- the pieces in which it took what both sides sent
-abbrev pub pieces_of : Bool → List Event → List Piece
-pieces_of timed [] = []
-pieces_of timed (Gave q bytes ∷ h) = pieces_at q timed (moment_of h) bytes (pieces_of timed h)
-pieces_of timed (Took q bytes ∷ h) = pieces_of timed h
-pieces_of timed (Told q what ∷ h) = pieces_of timed h
-pieces_of timed (Shut q ∷ h) = pieces_of timed h
-pieces_of timed (Left q ∷ h) = pieces_of timed h
-pieces_of timed (Passed now ∷ h) = pieces_of timed h
-pieces_of timed (Rested ∷ h) = pieces_of timed h
-pieces_of timed (Stopped ∷ h) = pieces_of timed h
+abbrev pub pieces_of : TapLog → List Event → List Piece
+pieces_of log [] = []
+pieces_of log (Gave q bytes ∷ h) = pieces_at q log (moment_of h) bytes (pieces_of log h)
+pieces_of log (Took q bytes ∷ h) = pieces_of log h
+pieces_of log (Told q what ∷ h) = pieces_of log h
+pieces_of log (Shut q ∷ h) = pieces_of log h
+pieces_of log (Left q ∷ h) = pieces_of log h
+pieces_of log (Passed now ∷ h) = pieces_of log h
+pieces_of log (Rested ∷ h) = pieces_of log h
+pieces_of log (Stopped ∷ h) = pieces_of log h
 
 -- all that is to be logged
 abbrev pub log_of : TapLog → List Event → List ℕ
-log_of log h = pieces_text log.notation log.max (pieces_of log.timed h)
+log_of log h = pieces_text log.notation log.max (pieces_of log h)
 
 -- The lines that weren't written yet, of all that is to be logged; none after a failed allocation.
 abbrev pub IsRest : Option TapFault → List ℕ → List ℕ → Type 0
@@ -148,8 +188,8 @@ HasEnded (news.Broken why ∷ before) = HasEnded before
 -- This may be the history of a tap, latest event first.
 pub record Taps (t : TapView) (h : List Event) : Type 0 where
   pub moment : t.moment ≡ moment_of h
-  pub caller : said Caller (pieces_of t.log.timed h) ≡ used First h
-  pub called : said Called (pieces_of t.log.timed h) ≡ used Second h
+  pub caller : said Caller (pieces_of t.log h) ≡ used First h
+  pub called : said Called (pieces_of t.log h) ≡ used Second h
   pub up : Forwards t.up (used First h) (taken Second h) (used_whole First h)
   pub down : Forwards t.down (used Second h) (taken First h) (used_whole Second h)
   pub caller_ended : t.up.ended ≡ true → HasEnded (told First h)

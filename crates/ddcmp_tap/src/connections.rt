@@ -142,7 +142,7 @@ pub fn tap<S: Net<Stream = net::TcpStream> + Eprint + time::Clock, W: Sink>(
     requires whole { W.broken writer.old ≡ false }
     requires low { 0 < log.max }
     requires high { log.max ≤ MAX_COUNT }
-    ensures says { Says (head_of log.notation) log.notation log.timed log.max
+    ensures says { Says (head_of log.notation) log.notation log.times log.max
         (W.contents writer.old) (W.contents writer.new) result }
     ensures carrier { (why : CarrierFault) → result ≡ Err (TapFault.Carrier why)
         → writer.new ≡ writer.old }
@@ -166,7 +166,7 @@ fn carry<S: Net<Stream = net::TcpStream> + Eprint + time::Clock, W: Sink>(
     requires whole { W.broken writer.old ≡ false }
     requires low { 0 < log.max }
     requires high { log.max ≤ MAX_COUNT }
-    ensures says { Says (head_of log.notation) log.notation log.timed log.max
+    ensures says { Says (head_of log.notation) log.notation log.times log.max
         (W.contents writer.old) (W.contents writer.new) result }
     ensures carrier { (why : CarrierFault) → result ≡ Err (TapFault.Carrier why)
         → writer.new ≡ writer.old }
@@ -183,6 +183,13 @@ fn carry<S: Net<Stream = net::TcpStream> + Eprint + time::Clock, W: Sink>(
     let mut sides = match Sides::new(system, alloc, stream, called) {
         Ok(sides) => sides,
         Err(error) => return Err(no_waiting(&error)),
+    };
+    let log = TapLog {
+        notation: log.notation,
+        times: log.times,
+        began: sides.began(),
+        report: log.report,
+        max: log.max,
     };
     let ended = between(alloc, &mut sides, log, writer);
     sides.report(system, &peer, &connect);
@@ -223,7 +230,7 @@ pub fn tap_again<S: Net<Stream = net::TcpStream> + Eprint + time::Clock, W: Sink
     requires whole { W.broken writer.old ≡ false }
     requires low { 0 < log.max }
     requires high { log.max ≤ MAX_COUNT }
-    ensures says { SaysInTurn log.notation log.timed log.max
+    ensures says { SaysInTurn log.notation log.times log.max
         (W.contents writer.old) (W.contents writer.new) result }
     ensures lasts { Lasts result }
     ensures broken { (result ≡ TapFault.Report) ↔ IsTrue (W.broken writer.new) }
@@ -257,7 +264,7 @@ pub fn tap_again<S: Net<Stream = net::TcpStream> + Eprint + time::Clock, W: Sink
 }
 
 /// Forwards between two sides, below the heading of the log.
-fn between<S: Net + time::Clock, W: Sink>(
+fn between<S: Net + Eprint + time::Clock, W: Sink>(
     alloc: Global,
     sides: &mut Sides<'_, S>,
     log: TapLog,
@@ -266,7 +273,7 @@ fn between<S: Net + time::Clock, W: Sink>(
     requires whole { W.broken writer.old ≡ false }
     requires low { 0 < log.max }
     requires high { log.max ≤ MAX_COUNT }
-    ensures says { Says (head_of log.notation) log.notation log.timed log.max
+    ensures says { Says (head_of log.notation) log.notation log.times log.max
         (W.contents writer.old) (W.contents writer.new) result }
     ensures met { (why : CarrierFault) → result ≢ Err (TapFault.Carrier why) }
     ensures broken { (result ≡ Err TapFault.Report) ↔ IsTrue (W.broken writer.new) }

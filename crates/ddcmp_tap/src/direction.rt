@@ -8,7 +8,7 @@ ghost use Rattle.ddcmp_log.specs.Logged.{items_added, logged_lines};
 ghost use Rattle.ddcmp_tap.specs.Forwarding.{Forwards, IsOf, ends, is_counted_out, need_of, room_of};
 
 use ddcmp_io::{ByteQueue, MemorySink};
-use ddcmp_log::{ItemLog, LogNotation, NoMemory, Side};
+use ddcmp_log::{ItemLog, LogNotation, NoMemory, Side, Stamp};
 use ddcmp_ports::Need;
 use std::alloc::Global;
 use std::marker::Model;
@@ -133,7 +133,7 @@ impl Direction {
 
     /// Takes received bytes, as many as there is room for, and appends the lines of the items that
     /// they complete to a text.
-    pub fn push(&mut self, text: &mut MemorySink, stamp: Option<u64>, bytes: &[u8]) -> Taken
+    pub fn push(&mut self, text: &mut MemorySink, stamp: Option<Stamp>, bytes: &[u8]) -> Taken
         requires some { 0 < length bytes.now }
         requires room { 0 < room_of self.old }
         requires going { self.old.ended ≡ false }

@@ -23,4 +23,4 @@ pub use order::{ItemSummary, Order, SideSummary};
 pub use running::run_tap;
 pub use socket_options::{keep_alive, set_option};
 pub use tap_fault::{CarrierFault, Stage, TapFault};
-pub use tap_log::TapLog;
+pub use tap_log::{LogTimes, TapLog};

@@ -33,7 +33,7 @@ pub fn run_tap<S: System, W: Sink>(
     requires fresh { (p : PortValue) (t : Passage) → S.trace system.old p ≡ Some t
         → t ≡ no_passage }
     requires whole { W.broken writer.old ≡ false }
-    ensures taps { (says : Says [] tap.old.log.notation tap.old.log.timed tap.old.log.max
+    ensures taps { (says : Says [] tap.old.log.notation tap.old.log.times tap.old.log.max
         (W.contents writer.old) (W.contents writer.new) result)
         × ((one two : Passage) → S.trace system.new First ≡ Some one
         → S.trace system.new Second ≡ Some two → PassesBetween says.pieces result one two) }

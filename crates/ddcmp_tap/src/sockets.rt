@@ -11,7 +11,8 @@ use std::alloc::Global;
 use std::fmt::Display;
 use std::io::{self, Eprint, ErrorKind, Read, Write};
 use std::net::{Net, Shutdown};
-use std::time;
+use std::str;
+use std::time::{self, Duration};
 
 /// The connection to a side, and why it failed, if it did.
 #[derive(Drop)]
@@ -77,7 +78,20 @@ impl Socket {
     }
 }
 
-/// Both sides of a tap, which are open, and a clock.
+/// The longest wait, in milliseconds.
+const HOUR_MS: u64 = 3_600_000;
+
+/// Prints lines on standard error.
+fn print<E: Eprint>(system: &E, text: &[u8]) -> Transfer
+    ensures { count_moved result ≤ length text.now }
+{
+    match system.eprint(str::from_utf8(text).unwrap_or("")) {
+        Ok(()) => Transfer::Bytes(text.len()),
+        Err(error) => Transfer::Over(Down::Failed(error.kind())),
+    }
+}
+
+/// Both sides of a tap, which are open, standard error and a clock.
 #[derive(Drop)]
 pub(crate) struct Sides<'a, S> {
     caller: Socket,
@@ -85,6 +99,8 @@ pub(crate) struct Sides<'a, S> {
     poll: Poll,
     events: Events,
     clock: Elapsed<'a, S>,
+    system: &'a S,
+    errors: LastCalls,
     /// The moment that it returned last.
     moment: u64,
 }
@@ -106,8 +122,19 @@ impl<'a, S: Net + time::Clock> Sides<'a, S> {
             poll,
             events: Events::with_capacity(alloc, 2)?,
             clock: Elapsed::new(system),
+            system,
+            errors: LastCalls::NONE,
             moment: 0,
         })
+    }
+
+    /// Returns when its clock was at 0, in milliseconds after 1970; 0 if the time of day isn't known.
+    pub(crate) fn began(&mut self) -> u64 {
+        let since_1970 = match self.system.since_1970() {
+            Ok(since_1970) => u64::try_from(since_1970.as_millis()).unwrap_or(0),
+            Err(_unknown) => 0,
+        };
+        since_1970.saturating_sub(self.clock.now())
     }
 
     /// Prints why a side failed, if one did.
@@ -122,7 +149,7 @@ impl<'a, S: Net + time::Clock> Sides<'a, S> {
     }
 }
 
-impl<S: time::Clock> System for Sides<'_, S> {
+impl<S: Eprint + time::Clock> System for Sides<'_, S> {
     ghost use Rattle.std.specs.Prelude.{None};
     ghost use Rattle.ddcmp_tap.specs.Inside.Sides.{stuck_of};
 
@@ -143,7 +170,8 @@ impl<S: time::Clock> System for Sides<'_, S> {
                 let got = self.called.read(space);
                 self.called.last.read(got)
             }
-            Port::Input | Port::Output | Port::Errors => Transfer::Nothing,
+            Port::Errors => self.errors.read(Transfer::Nothing),
+            Port::Input | Port::Output => Transfer::Nothing,
         }
     }
 
@@ -157,7 +185,11 @@ impl<S: time::Clock> System for Sides<'_, S> {
                 let took = self.called.write(bytes);
                 self.called.last.write(took)
             }
-            Port::Input | Port::Output | Port::Errors => Transfer::Nothing,
+            Port::Errors => {
+                let took = print(self.system, bytes);
+                self.errors.write(took)
+            }
+            Port::Input | Port::Output => Transfer::Nothing,
         }
     }
 
@@ -166,7 +198,8 @@ impl<S: time::Clock> System for Sides<'_, S> {
         match port {
             Port::First => self.caller.last.opening(Opening::Later),
             Port::Second => self.called.last.opening(Opening::Later),
-            Port::Input | Port::Output | Port::Errors => Opening::Later,
+            Port::Errors => self.errors.opening(Opening::Later),
+            Port::Input | Port::Output => Opening::Later,
         }
     }
 
@@ -189,8 +222,9 @@ impl<S: time::Clock> System for Sides<'_, S> {
     /// Each call asks for itself.
     fn poll(&mut self) {}
 
-    fn wait<M: Machine>(&mut self, _machine: &M, _held: &Buffers, _most_ms: u64) -> bool {
-        self.poll.poll(&mut self.events, None).is_ok()
+    fn wait<M: Machine>(&mut self, _machine: &M, _held: &Buffers, most_ms: u64) -> bool {
+        let most = Duration::from_millis(most_ms.min(HOUR_MS));
+        self.poll.poll(&mut self.events, Some(most)).is_ok()
     }
 
     fn now(&mut self) -> u64 {

@@ -4,13 +4,15 @@ ghost use Rattle.std.specs.Prelude.{◌<◌, length};
 
 use ddcmp_log::LogNotation;
 use ddcmp_ports::{Machine, Need, Port};
-use ddcmp_tap::{ROOM, Tap, TapLog};
+use ddcmp_tap::{LogTimes, ROOM, Tap, TapLog};
 use std::process::Abort;
 
 fn tap(rt: &(impl Abort + AllocGlobal)) -> Tap {
     let log = TapLog {
         notation: LogNotation::Plain,
-        timed: false,
+        times: LogTimes::Absent,
+        began: 0,
+        report: 0,
         max: 16383,
     };
     match Tap::new(rt.alloc(), log) {

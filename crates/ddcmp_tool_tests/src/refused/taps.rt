@@ -6,7 +6,7 @@ ghost use Rattle.ddcmp_ports.specs.Moving.{count_moved};
 use ddcmp_io::failing::BoundedSink;
 use ddcmp_log::LogNotation;
 use ddcmp_ports::{Buffers, Down, LastCalls, Machine, Opening, Port, System, Transfer};
-use ddcmp_tap::{Tap, TapFault, TapLog, run_tap};
+use ddcmp_tap::{LogTimes, Tap, TapFault, TapLog, run_tap};
 use std::process::Abort;
 
 /// Three ACKs, each after bytes that aren't a frame.
@@ -141,7 +141,9 @@ fn tapped(
 {
     let asked = TapLog {
         notation,
-        timed: true,
+        times: LogTimes::Elapsed,
+        began: 0,
+        report: 0,
         max: 100,
     };
     let Ok(mut tap) = Tap::new(rt.alloc(), asked) else {

@@ -4,10 +4,10 @@ use Rattle.ddcmp_tap.proofs.connections.carry.Goals as goal
 
 pub returns-in-Err-clause-says : goal.returns-in-Err-clause-says
 returns-in-Err-clause-says g c =
-    no-carrier (head_of c.args.log.notation) c.args.log.notation c.args.log.timed c.args.log.max
+    no-carrier (head_of c.args.log.notation) c.args.log.notation c.args.log.times c.args.log.max
     (g.W.Sink.contents c.args.writer.now) c.carrier_fault-why.result
 
 pub returns-in-Err-new-clause-says : goal.returns-in-Err-new-clause-says
 returns-in-Err-new-clause-says g c =
-    not-begun (head_of c.args.log.notation) c.args.log.notation c.args.log.timed c.args.log.max
+    not-begun (head_of c.args.log.notation) c.args.log.notation c.args.log.times c.args.log.max
     (g.W.Sink.contents c.args.writer.now) _ c.no_waiting.ensures
