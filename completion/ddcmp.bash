@@ -24,13 +24,13 @@ _ddcmp() {
     station:--addr | station:--turns | station:--timer-ms | station:--send) ;;
     station:--role) words='connect listen' ;;
     station:*) words='--role --addr --turns --timer-ms --send --restart --counters -h --help' ;;
-    tap:--listen | tap:--connect | tap:--max) ;;
-    tap:*) words='--listen --connect --again --json --ladder --time --max -h --help' ;;
+    tap:--listen | tap:--connect | tap:--report | tap:--max) ;;
+    tap:*) words='--listen --connect --again --json --ladder --time --clock --report --max -h --help' ;;
     link:--only | link:--window | link:--inbox | link:--max | link:--syn | link:--timer-ms | link:--attempts | link:--linger-ms | link:--baud | link:--seconds | link:--report) ;;
     link:--line) words='connect: listen: udp: device:' ;;
     link:*) words='--line --only --window --inbox --max --syn --restart --timer-ms --attempts --linger-ms --baud --seconds --report --binary --events --maintenance --stay --again --counters --trace --clock --json -h --help' ;;
-    bridge:--seconds | bridge:--lose | bridge:--damage | bridge:--delay | bridge:--baud | bridge:--seed | bridge:--save-first | bridge:--save-second) ;;
-    bridge:*) words='--seconds --again --lose --damage --delay --baud --seed --trace --ladder --json --save-first --save-second -h --help' ;;
+    bridge:--seconds | bridge:--lose | bridge:--damage | bridge:--delay | bridge:--baud | bridge:--seed | bridge:--report | bridge:--save-first | bridge:--save-second) ;;
+    bridge:*) words='--seconds --again --lose --damage --delay --baud --seed --trace --ladder --json --report --clock --save-first --save-second -h --help' ;;
   esac
   mapfile -t COMPREPLY < <(compgen -W "$words" -- "$word")
   if [ -n "$files" ] && [[ $word != -* ]]; then

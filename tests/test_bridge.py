@@ -348,6 +348,32 @@ def test_saved(tmp_path):
         assert (fates.count("lost"), fates.count("altered")) == counts[3:]
 
 
+@times
+@pytest.mark.parametrize("options", [(), ("--json",), ("--clock",), ("--json", "--clock")])
+def test_reports(options):
+    """The counters each second: as at the end, or an object with those of the interval."""
+    bridge, *ends = bridged("--report", "1", *options)
+    text = data(b"abc", 1) + b"zz"
+    ends[0].sendall(text)
+    time.sleep(1.4)
+    ends[0].sendall(text)
+    ends[1].sendall(text)
+    time.sleep(1)
+    ends[0].shutdown(socket.SHUT_WR)
+    assert bridge.ended() == 0
+    told = [it.split("Z ")[-1] for it in bridge.errors() if " frames=" in it or '"report"' in it]
+    assert all((it[:4].isdecimal() or '"time":"' in it[:9]) == ("--clock" in options)
+               for it in bridge.errors())
+    if "--json" in options:
+        objects = [json.loads(it) for it in told]
+        assert [it["from"] for it in objects] == list("><><")
+        assert [(it["frames"], it["skipped"]) for it in objects] == [(1, 2), (0, 0), (2, 4), (1, 2)]
+        assert [it["interval"]["frames"] for it in objects] == [1, 0, 1, 1]
+    else:
+        assert told == [f"{mark} frames={n} skipped={2 * n} damaged=0 lost=0 altered=0"
+                        for mark, n in ((">", 1), ("<", 0), (">", 2), ("<", 1))]
+
+
 def test_not_saved(tmp_path):
     """A file that is there is left as it is, one that can't be made is reported, with nothing left
     behind, and one that can't be written ends the bridge."""

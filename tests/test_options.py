@@ -171,6 +171,7 @@ TAP = {"--again": (["--again"], lambda it: it.count("items=") + it.count('"items
        "--ladder": (["--ladder"], lambda it: "> who connected" in it.split("\n")[0]),
        "--time": (["--time"],
                   lambda it: re.search(r'(?m)^\d+ |^[<>] \d+ \d+ |^ *\d+ \||"ms":\d', it)),
+       "--clock": (["--clock"], lambda it: re.search(r"\d\d:\d\d:\d\d\.\d{3}Z", it)),
        "--max": (["--max", "2"], lambda it: "too long" in it)}
 
 
@@ -195,7 +196,8 @@ def tap(chosen):
             far.accept()  # then the logs of those before are whole
             status = run.kill()
     assert not run.err and status == (-9 if is_again else 0)
-    compare("tap", chosen, TAP, run.out.decode())
+    unseen = ["--time"] if "--clock" in chosen else []  # the time of day is in its place
+    compare("tap", chosen, TAP, run.out.decode(), unseen)
 
 
 # ---- station
@@ -446,10 +448,15 @@ BRIDGE = {
     "--delay": (["--delay", "250"], lambda it: it["after"] >= 0.24),
     "--baud": (["--baud", "3600"], lambda it: it["took"] >= 0.6),
     "--seed": (["--seed", "7"], lambda it: it["got"] == it["by"][7] and it["got"] != it["by"][1]),
-    "--trace": (["--trace"], lambda it: re.search(r"(?m)^\d+ > \d+ DATA ", it["told"])),
-    "--ladder": (["--ladder"], lambda it: re.search(r"(?m)^\d+ \|-- DATA .*->\|$", it["told"])),
+    "--trace": (["--trace"], lambda it: re.search(r"(?m)^(.*Z )?\d+ > \d+ DATA ", it["told"])),
+    "--ladder": (["--ladder"],
+                 lambda it: re.search(r"(?m)^(.*Z )?\d+ \|-- DATA .*->\|$", it["told"])),
     "--json": (["--json"], lambda it: re.search(
-        r'(?m)^{"from":">","ms":\d+,"offset":0,"item":"DATA",', it["told"])),
+        r'(?m)^{("time":"[^"]*Z",)?"from":">","ms":\d+,"offset":0,"item":"DATA",', it["told"])),
+    "--report": (["--report", "1"],
+                 lambda it: re.search(r'> frames=40 |"event":"report","from":">"', it["told"])),
+    "--clock": (["--clock"],
+                lambda it: re.search(r"(?m)^\d{4}-\d\d-\d\dT[\d:.]{12}Z ", it["told"])),
     "--save-first": (["--save-first", "FOLDER/first"],
                      lambda it: it["saved"].get("first") == b"".join(SENT)),
     "--save-second": (["--save-second", "FOLDER/second"],
@@ -512,8 +519,8 @@ def received(peer):
 
 COMMANDS = {  # the options of each: those that are in its table, and those that aren't
     "explain": (EXPLAIN, set()), "simulate": (SIMULATE, set()), "pair": (SIMULATE, set()),
-    "station": (STATION, {"--addr"}), "tap": (TAP, {"--listen", "--connect"}),
-    # --only is for a line with callers, --baud for a device, --events for --binary:
+    "station": (STATION, {"--addr"}), "tap": (TAP, {"--listen", "--connect", "--report"}),
+    # --report of tap needs a second: test_tap.py; --only is for a line with callers, --baud for a device, --events for --binary:
     # test_callers.py, test_slow_lines.py, test_link_messages.py.
     "link": (LINK, {"--line", "--only", "--baud", "--events"}), "bridge": (BRIDGE, set()),
 }

@@ -1,6 +1,7 @@
 """What `ddcmp tap` passes on, and what it prints of each direction: between peers that aren't ours,
 sockets of Python and socat, with ends, resets and peers that are slow."""
 import contextlib
+import datetime
 import json
 import os
 import re
@@ -290,6 +291,55 @@ def test_moments():
     assert tap.ends() == (0, "")
     told = [int(it.split()[0]) for it in tap.out.decode().splitlines() if " ACK " in it]
     assert len(told) == 4 and told[0] <= 800 and not any(b - a < 25 for a, b in zip(told, told[1:]))
+
+
+def time_of(line):
+    """The time of day with which a line begins, in seconds after 1970."""
+    stamp = json.loads(line)["time"] if line[0] == "{" else line.split()[0]
+    assert re.fullmatch(r"\d{4}-\d\d-\d\dT\d\d:\d\d:\d\d\.\d{3}Z", stamp)
+    return datetime.datetime.fromisoformat(stamp.replace("Z", "+00:00")).timestamp()
+
+
+@times
+@pytest.mark.parametrize("options", [(), ("--time",), ("--json",), ("--ladder",)])
+def test_times_of_day(options):
+    """Each line, and each report, begins with the time of day, that of this machine's clock."""
+    began = time.time()
+    tap = Tap("--clock", "--report", "1", *options)
+    for _ in range(3):
+        tap.caller.sendall(ack(0))
+        tap.called.recv(100)
+        time.sleep(0.5)
+    assert tap.ends()[0] == 0
+    lines = [it for it in tap.lines() if it != LADDER.rstrip("\n")]
+    told = [time_of(it) for it in lines]
+    assert len(told) == 5 and told == sorted(told) and told[2] - told[1] >= 0.45
+    both = [*told, *map(time_of, tap.errors())]
+    assert began - 0.1 <= min(both) and max(both) <= time.time() + 0.1 and len(both) == 7
+
+
+@times
+@pytest.mark.parametrize("is_json", [False, True])
+def test_reports(is_json):
+    """The totals each second, if nothing comes, too; as an object with those of the interval."""
+    tap = Tap("--report", "1", *["--json"] * is_json)
+    time.sleep(1.5)
+    for peer, other in ((tap.caller, tap.called), (tap.called, tap.caller)):
+        peer.sendall(ack(0) * 3 + ack(0)[:5])
+        other.recv(100)
+    time.sleep(2)
+    assert tap.ends()[0] == 0
+    told = tap.errors()[:6]
+    if is_json:
+        objects = [json.loads(it) for it in told]
+        assert [(it["from"], it["event"]) for it in objects] == [(it, "report") for it in "><><><"]
+        assert [(it["items"], it["bytes"], it["open"]) for it in objects] == (
+            [(0, 0, 0)] * 2 + [(3, 29, 5)] * 4)
+        assert [tuple(it["interval"].values()) for it in objects] == (
+            [(0, 0)] * 2 + [(3, 29)] * 2 + [(0, 0)] * 2)
+    else:
+        assert told == [f"{mark} items={it} bytes={n} open={o}"
+                        for it, n, o in ((0, 0, 0), (3, 29, 5), (3, 29, 5)) for mark in "><"]
 
 
 def label(line):

@@ -7,12 +7,11 @@ use Rattle.std.proofs.Math.Seq.{take-append-add}
 use Rattle.std.proofs.lemmas.List.{append-nil}
 use Rattle.ddcmp_io.specs.Written.{AppendsPart, Known}
 use Rattle.ddcmp_log.specs.declared.notation.LogNotation.{LogNotation}
-use Rattle.ddcmp_log.specs.declared.side.Added.{Added}
 use Rattle.ddcmp_log.specs.declared.side.Side.{Side}
 use Rattle.ddcmp_log.specs.declared.side.Stamp.{Stamp}
 use Rattle.ddcmp_log.specs.declared.side.Side.TheVariants.{Caller, Called}
 use Rattle.ddcmp_log.specs.Items.{ItemLogView}
-use Rattle.ddcmp_log.specs.Logged.{items_added, logged_last, logged_lines, reported_line}
+use Rattle.ddcmp_log.specs.Logged.{items_added, logged_last, logged_lines}
 use Rattle.ddcmp_ports.specs.declared.port.Port.TheVariants.{Input, Output, Errors, First, Second}
 use Rattle.ddcmp_ports.specs.Running.{Event, Gave, Left, Passed, Rested, Shut, Stopped, Told, Took}
 use Rattle.ddcmp_tap.specs.Forwarding.{IsOf}
@@ -81,15 +80,6 @@ last-as side notation max stamp log told is =
     ap (λ x. logged_last x stamp log.side log.frames.max told) is.1
     ∙ ap (λ x. logged_last notation stamp x log.frames.max told) is.0
     ∙ ap (λ x. logged_last notation stamp side x told) is.2
-
-pub reported-as : (side : Side) (notation : LogNotation) (max : ℕ) (stamp : Option Stamp)
-    (since : Added) (log : ItemLogView) (told : List ℕ) → IsOf side notation max log
-    → reported_line log.notation stamp log.side log.frames.max since told
-    ≡ reported_line notation stamp side max since told
-reported-as side notation max stamp since log told is =
-    ap (λ x. reported_line x stamp log.side log.frames.max since told) is.1
-    ∙ ap (λ x. reported_line notation stamp x log.frames.max since told) is.0
-    ∙ ap (λ x. reported_line notation stamp side x since told) is.2
 
 -- a text that begins with another
 abbrev pub Begins : List ℕ → List ℕ → Type 0

@@ -1,6 +1,6 @@
 -- A tap as a machine: what it needs and has pending, its history, and what passes through it.
 use Rattle.std.specs.Prelude.{◌≡◌, ◌≤◌, ℕ, Bool, if◌then◌else◌, ◌&&◌, ◌==◌, List, [], ◌∷◌, ◌++◌}
-use Rattle.std.specs.Prelude.{⊤, true, Option, Some, None, Result, Ok, Err, drop, is_some, length, MatchBool, ◌⊎◌}
+use Rattle.std.specs.Prelude.{⊤, true, Option, Some, None, Result, Ok, Err, drop, is_some, length}
 use Rattle.ddcmp_ports.specs.declared.port.Port.{Port}
 use Rattle.ddcmp_ports.specs.declared.port.Port.TheVariants.{Input, Output, Errors, First, Second}
 use Rattle.ddcmp_ports.specs.declared.port.Need.{Need}
@@ -9,14 +9,12 @@ use Rattle.ddcmp_ports.specs.Running.{Event, Gave, Left, Passage, Passed, Rested
 use Rattle.ddcmp_ports.specs.Running.{Took, Trace, taken, told, used, used_whole}
 use Rattle.ddcmp_ports.specs.declared.port.News.{News}
 use Rattle.ddcmp_ports.specs.declared.port.News.TheVariants as news
-use Rattle.ddcmp_log.specs.Items.{HasTold, ItemLogView}
-use Rattle.ddcmp_log.specs.Logged.{logged_last, reported_line}
-use Rattle.ddcmp_log.specs.Scheduling.{is_due, next_due_after}
-use Rattle.ddcmp_log.specs.declared.side.Added.{Added}
-use Rattle.ddcmp_log.specs.declared.schedule.Schedule.{Schedule}
+use Rattle.ddcmp_log.specs.Items.{ItemLogView}
+use Rattle.ddcmp_log.specs.Logged.{logged_last}
 use Rattle.ddcmp_log.specs.declared.side.Side.{Side}
 use Rattle.ddcmp_log.specs.declared.side.Side.TheVariants.{Caller, Called}
 use Rattle.ddcmp_log.specs.declared.side.Stamp.{Stamp}
+use Rattle.ddcmp_tap.specs.Reporting.{TapReportsView}
 use Rattle.ddcmp_tap.specs.Stamping.{stamp_at}
 use Rattle.ddcmp_tap.specs.Forwarding.{DirectionView, Forwards, IsOf, need_of}
 use Rattle.ddcmp_tap.specs.Logging.{Piece, Says, pieces_text, said}
@@ -27,8 +25,7 @@ use Rattle.ddcmp_tap.specs.declared.tap_fault.TapFault.TheVariants as fault
 use Rattle.ddcmp_tap.specs.declared.tap_log.TapLog.{TapLog}
 
 -- A tap: how it logs; the directions from the caller and to it; the lines that weren't written yet,
--- and how many bytes of lines were; the moment; why it ends, if it does; the reports that weren't
--- printed yet, when the next is due, and what had come from each side at the last one.
+-- and how many bytes of lines were; the moment; why it ends, if it does; and its reports.
 pub record TapView : Type 0 where
   pub log : TapLog
   pub up : DirectionView
@@ -37,10 +34,7 @@ pub record TapView : Type 0 where
   pub written : ℕ
   pub moment : ℕ
   pub fault : Option TapFault
-  pub report : List ℕ
-  pub schedule : Schedule
-  pub caller_reported : Added
-  pub called_reported : Added
+  pub reports : TapReportsView
 
 -- why it may end: the log and the connections are others' concern
 abbrev pub IsOwn : Option TapFault → Type 0
@@ -80,7 +74,7 @@ pending_of t First = if is_some t.fault then [] else t.down.waiting
 pending_of t Second = if is_some t.fault then [] else t.up.waiting
 pending_of t Input = []
 pending_of t Output = []
-pending_of t Errors = if is_some t.fault then [] else t.report
+pending_of t Errors = if is_some t.fault then [] else t.reports.text
 
 abbrev pub end_of : Option TapFault → Bool → Option TapPause
 end_of (Some why) is_over = Some (Ended (Err why))
@@ -96,37 +90,6 @@ abbrev pub last_lines : TapView → List ℕ → List ℕ → List ℕ
 last_lines t up down =
     logged_last t.log.notation (stamp_of t) Caller t.log.max up
     ++ logged_last t.log.notation (stamp_of t) Called t.log.max down
-
--- ---- its reports
-
--- what came from a side
-abbrev pub added_of : ItemLogView → Added
-added_of l = record { items = l.items; bytes = l.frames.offset }
-
--- a report on both sides, of which these bytes came
-abbrev pub report_lines : TapView → List ℕ → List ℕ → List ℕ
-report_lines t up down =
-    reported_line t.log.notation (stamp_of t) Caller t.log.max t.caller_reported up
-    ++ reported_line t.log.notation (stamp_of t) Called t.log.max t.called_reported down
-
--- when the next report is due
-abbrev pub schedule_after : TapView → Schedule
-schedule_after t =
-    if is_due t.schedule t.moment
-    then record t.schedule { due_at = next_due_after t.schedule t.moment }
-    else t.schedule
-
--- A report was queued, or an allocation failed and none is.
-abbrev pub HasReport : TapView → TapView → Type 0
-HasReport old new =
-    (((up down : List ℕ) → HasTold old.up.log.frames old.up.log.items up
-    → HasTold old.down.log.frames old.down.log.items down
-    → new.report ≡ old.report ++ report_lines old up down) ⊎ (new.report ≡ []))
-    × (new.caller_reported ≡ added_of old.up.log) × (new.called_reported ≡ added_of old.down.log)
-
--- if one is due
-abbrev pub ReportsIfDue : TapView → TapView → Type 0
-ReportsIfDue old new = MatchBool (is_due old.schedule old.moment) (HasReport old new) (new ≡ old)
 
 -- ---- its history
 

@@ -9,6 +9,7 @@ mod connections;
 pub mod direction;
 mod machine;
 pub mod order;
+mod reports;
 mod running;
 mod socket_options;
 mod sockets;

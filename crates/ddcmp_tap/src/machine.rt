@@ -1,20 +1,19 @@
 //! A tap between two lines, as a machine.
 ghost use Rattle.std.specs.Prelude.{◌≡◌, ◌+◌, ◌<◌, ◌≤◌, ◌⊎◌, [], IfOk, None, Some, ℕ, false, length};
-ghost use Rattle.std.specs.Prelude.{if◌then◌else◌, is_some, List, IsOk, drop, true};
+ghost use Rattle.std.specs.Prelude.{if◌then◌else◌, is_some, List, IsOk, true};
 ghost use Rattle.ddcmp_frame.specs.Limits.{MAX_COUNT};
 ghost use Rattle.ddcmp_log.specs.Logged.{logged_last};
-ghost use Rattle.ddcmp_log.specs.Scheduling.{schedule_of};
 ghost use Rattle.ddcmp_log.specs.Items.{HasTold};
 ghost use Rattle.ddcmp_log.specs.declared.side.Side.TheVariants.{Caller, Called};
 ghost use Rattle.ddcmp_ports.specs.Running.{Event};
-ghost use Rattle.ddcmp_tap.specs.Tapping.{ReportsIfDue, Taps, added_of, log_at, report_lines};
-ghost use Rattle.ddcmp_tap.specs.Tapping.{schedule_after, stamp_of};
+ghost use Rattle.ddcmp_tap.specs.Tapping.{Taps, log_at, stamp_of};
 
 use crate::direction::Direction;
+use crate::reports::TapReports;
 use crate::tap_fault::TapFault;
 use crate::tap_log::TapLog;
 use ddcmp_io::MemorySink;
-use ddcmp_log::{Added, NoMemory, Schedule, Side, Stamp};
+use ddcmp_log::{NoMemory, Side, Stamp};
 use ddcmp_ports::{Down, Machine, Need, News, Port};
 use std::alloc::Global;
 use std::marker::Model;
@@ -44,14 +43,7 @@ pub struct Tap {
     /// The moment that was passed last.
     moment: u64,
     fault: Option<TapFault>,
-    /// Reports, and how many bytes of them were printed.
-    report: MemorySink,
-    printed: usize,
-    /// When reports are due.
-    schedule: Schedule,
-    /// What had come from each side at the last report.
-    caller_reported: Added,
-    called_reported: Added,
+    reports: TapReports,
 }
 
 // Manual, since a derived `Drop` would be expanded wherever a value is dropped.
@@ -65,17 +57,13 @@ impl Drop for Tap {
             written: _,
             moment: _,
             fault: _,
-            report: _report,
-            printed: _,
-            schedule: _,
-            caller_reported: _,
-            called_reported: _,
+            reports: _reports,
         } = self;
     }
 }
 
 impl Model for Tap {
-    ghost use Rattle.std.specs.Prelude.{◌≡◌, ◌≤◌, drop, false, vec_len};
+    ghost use Rattle.std.specs.Prelude.{◌≡◌, false};
     ghost use Rattle.ddcmp_log.specs.declared.side.Side.TheVariants.{Caller, Called};
     ghost use Rattle.ddcmp_tap.specs.Forwarding.{IsOf};
     ghost use Rattle.ddcmp_tap.specs.Tapping.{IsOwn, TapView};
@@ -90,14 +78,10 @@ impl Model for Tap {
       written = t.written;
       moment = t.moment;
       fault = t.fault;
-      report = drop t.printed t.report.bytes.items;
-      schedule = t.schedule;
-      caller_reported = t.caller_reported;
-      called_reported = t.called_reported;
+      reports = t.reports;
     } };
 
-    ghost invariant = { λ t. (t.text.refused ≡ false) × (t.report.refused ≡ false)
-        × (t.printed ≤ vec_len t.report.bytes)
+    ghost invariant = { λ t. (t.text.refused ≡ false)
         × IsOf Caller t.log.notation t.log.max t.up.log
         × IsOf Called t.log.notation t.log.max t.down.log × IsOwn t.fault };
 }
@@ -120,11 +104,7 @@ impl Tap {
             written: 0,
             moment: 0,
             fault: None,
-            report: MemorySink::new(alloc),
-            printed: 0,
-            schedule: Schedule::new(log.report),
-            caller_reported: Added { items: 0, bytes: 0 },
-            called_reported: Added { items: 0, bytes: 0 },
+            reports: TapReports::new(alloc, log.report),
         })
     }
 
@@ -133,91 +113,6 @@ impl Tap {
         ensures { result ≡ stamp_of self.now }
     {
         self.log.stamp_at(self.moment)
-    }
-
-    /// Queues a report of the totals of both sides; none after a failed allocation. Returns whether
-    /// there is one.
-    fn report(&mut self) -> bool
-        ensures stays { self.new ≡ record self.old {
-          report = self.new.report;
-          caller_reported = added_of self.old.up.log;
-          called_reported = added_of self.old.down.log;
-        } }
-        ensures lines { result ≡ true → (up down : List ℕ)
-            → HasTold self.old.up.log.frames self.old.up.log.items up
-            → HasTold self.old.down.log.frames self.old.down.log.items down
-            → self.new.report ≡ self.old.report ++ report_lines self.old up down }
-        ensures none { result ≡ false → self.new.report ≡ [] }
-    {
-        let stamp = self.stamp();
-        let caller = self.caller_reported;
-        let called = self.called_reported;
-        self.caller_reported = self.up.log().added();
-        self.called_reported = self.down.log().added();
-        let first = self.up.log().report(&mut self.report, stamp, caller);
-        if first.is_err() || self.report.refused {
-            self.drop_reports();
-            return false;
-        }
-        let second = self.down.log().report(&mut self.report, stamp, called);
-        if second.is_err() || self.report.refused {
-            self.drop_reports();
-            return false;
-        }
-        true
-    }
-
-    /// Queues a report, if one is due.
-    fn report_if_due(&mut self)
-        ensures stays { self.new ≡ record self.old {
-          report = self.new.report;
-          schedule = schedule_after self.old;
-          caller_reported = self.new.caller_reported;
-          called_reported = self.new.called_reported;
-        } }
-        ensures lines { ReportsIfDue self.old self.new }
-    {
-        if self.schedule.is_due(self.moment) {
-            if self.unprinted().is_empty() {
-                self.drop_reports();
-            }
-            let _is_queued = self.report();
-            self.schedule.pass(self.moment);
-        }
-    }
-
-    /// Notes that the first `n` bytes of the reports were printed.
-    fn printed(&mut self, n: usize)
-        requires { n ≤ length self.old.report }
-        ensures { self.new ≡ record self.old { report = drop n self.old.report } }
-    {
-        self.printed += n;
-    }
-
-    /// Returns the reports that weren't printed yet.
-    fn unprinted(&self) -> &[u8]
-        ensures { result.now ≡ self.now.report }
-    {
-        &self.report.bytes.as_slice()[self.printed..]
-    }
-
-    /// Drops the reports.
-    fn drop_reports(&mut self)
-        ensures { self.new ≡ record self.old { report = [] } }
-    {
-        self.report.clear();
-        self.printed = 0;
-    }
-
-    /// Notes that reports can't be printed any more.
-    fn mute(&mut self)
-        ensures { self.new ≡ record self.old {
-          report = [];
-          schedule = schedule_of 0;
-        } }
-    {
-        self.drop_reports();
-        self.schedule = Schedule::new(0);
     }
 
     /// Ends it with this fault, unless it had one; returns that with which it ends.
@@ -296,7 +191,7 @@ impl Machine for Tap {
 
     ghost moment = { λ t. t.moment };
 
-    ghost wakes_at = { λ t. t.schedule.due_at };
+    ghost wakes_at = { λ t. t.reports.schedule.due_at };
 
     ghost outcome = { outcome_of };
 
@@ -341,7 +236,7 @@ impl Machine for Tap {
         match port {
             Port::First => self.down.waiting(),
             Port::Second => self.up.waiting(),
-            Port::Errors => self.unprinted(),
+            Port::Errors => self.reports.unprinted(),
             Port::Input | Port::Output => &[],
         }
     }
@@ -353,7 +248,7 @@ impl Machine for Tap {
         match port {
             Port::First => self.down.took(n),
             Port::Second => self.up.took(n),
-            Port::Errors => self.printed(n),
+            Port::Errors => self.reports.printed(n),
             Port::Input | Port::Output => {}
         }
     }
@@ -369,7 +264,7 @@ impl Machine for Tap {
                 let _kept = self.fail(TapFault::Read);
             }
             News::Broken(_) => match port {
-                Port::Errors => self.mute(),
+                Port::Errors => self.reports.mute(),
                 _ => {
                     let _kept = self.fail(TapFault::Write);
                 }
@@ -392,7 +287,9 @@ impl Machine for Tap {
 
     fn pass_time(&mut self, now: u64) {
         self.moment = now;
-        self.report_if_due();
+        let stamp = self.stamp();
+        self.reports
+            .report_if_due(now, stamp, self.up.log(), self.down.log());
         if self.up.is_counted_out() || self.down.is_counted_out() {
             let _kept = self.fail(TapFault::Read);
         }
@@ -403,7 +300,7 @@ impl Machine for Tap {
     }
 
     fn wakes_at(&self) -> u64 {
-        self.schedule.due_at
+        self.reports.due_at()
     }
 
     fn outcome(&self) -> Option<TapPause> {
