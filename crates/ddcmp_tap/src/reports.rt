@@ -114,6 +114,13 @@ impl TapReports {
         }
     }
 
+    /// Returns whether no report is queued.
+    fn is_idle(&self) -> bool
+        ensures { result ≡ true → self.now.text ≡ [] }
+    {
+        self.unprinted().is_empty()
+    }
+
     /// Queues a report on both sides, if none is queued. Returns false if one is, or an allocation
     /// failed.
     fn queue(&mut self, stamp: Option<Stamp>, caller: &ItemLog, called: &ItemLog) -> bool
@@ -124,7 +131,7 @@ impl TapReports {
             → self.new.text ≡ report_lines stamp self.old caller.now called.now up down }
         ensures none { result ≡ false → self.new.text ≡ self.old.text }
     {
-        if !self.unprinted().is_empty() {
+        if !self.is_idle() {
             return false;
         }
         self.text.clear();
