@@ -7,8 +7,7 @@ ghost use Rattle.ddcmp_bridge.specs.Reporting.{ReportsCounts};
 
 use ddcmp_io::Page;
 use crate::counts::Counts;
-use crate::report::{write_direction, write_object};
-use ddcmp_streams::errors::SHORT_LINE;
+use crate::reports::{report_line, report_object};
 use ddcmp_streams::{EVENT_ROOM, Errors};
 use std::alloc::Global;
 use std::fmt::{Display, InlineText};
@@ -96,15 +95,9 @@ impl BridgeErrors {
         ensures { ReportsCounts is_json mark.now counts more self.old self.new }
     {
         if is_json {
-            if self.lines.begin_object(SHORT_LINE) {
-                let mut page = Page::new();
-                write_object(&mut page, &mut self.lines.queue, mark, &counts, &more);
-                let _is_whole = page.flush(&mut self.lines.queue);
-            }
-        } else if self.lines.begin_line(SHORT_LINE) {
-            let mut page = Page::new();
-            write_direction(&mut page, &mut self.lines.queue, mark, &counts);
-            let _is_whole = page.flush(&mut self.lines.queue);
+            report_object(&mut self.lines, mark, &counts, &more);
+        } else {
+            report_line(&mut self.lines, mark, &counts);
         }
     }
 

@@ -1,8 +1,7 @@
 //! The last lines of a bridge.
 ghost use Rattle.std.specs.Prelude.{◌≡◌, is_err, false};
 ghost use Rattle.ddcmp_io.specs.Written.{HandsOver, Writes, output_of};
-ghost use Rattle.ddcmp_bridge.specs.Report.{bridge_report, counts_members, direction_line};
-ghost use Rattle.ddcmp_bridge.specs.Report.{report_object};
+ghost use Rattle.ddcmp_bridge.specs.Report.{bridge_report, direction_line};
 
 use crate::counts::Counts;
 use ddcmp_io::text::write_number;
@@ -30,45 +29,6 @@ pub(crate) fn write_direction<W: Sink>(
     page.write(writer, b" altered=");
     write_number(page, writer, counts.altered);
     page.write(writer, b"\n");
-}
-
-/// Writes the counters as members of a JSON object.
-fn write_members<W: Sink>(page: &mut Page, writer: &mut W, counts: &Counts)
-    ensures { HandsOver (output_of W.broken W.contents writer.old page.old)
-        (output_of W.broken W.contents writer.new page.new) (counts_members counts.now) }
-{
-    page.write(writer, b"\"frames\":");
-    write_number(page, writer, counts.frames);
-    page.write(writer, b",\"skipped\":");
-    write_number(page, writer, counts.skipped);
-    page.write(writer, b",\"damaged\":");
-    write_number(page, writer, counts.damaged);
-    page.write(writer, b",\"lost\":");
-    write_number(page, writer, counts.lost);
-    page.write(writer, b",\"altered\":");
-    write_number(page, writer, counts.altered);
-}
-
-/// Writes the report of one direction as a JSON object, of which the brace is there already: its
-/// counters, and those of the interval.
-pub(crate) fn write_object<W: Sink>(
-    page: &mut Page,
-    writer: &mut W,
-    mark: &[u8],
-    counts: &Counts,
-    more: &Counts,
-)
-    ensures { HandsOver (output_of W.broken W.contents writer.old page.old)
-        (output_of W.broken W.contents writer.new page.new)
-        (report_object mark.now counts.now more.now) }
-{
-    page.write(writer, b"\"event\":\"report\",\"from\":\"");
-    page.write(writer, mark);
-    page.write(writer, b"\",");
-    write_members(page, writer, counts);
-    page.write(writer, b",\"interval\":{");
-    write_members(page, writer, more);
-    page.write(writer, b"}}\n");
 }
 
 /// Writes the counters of the direction from the first line to the second, and back.
