@@ -5,9 +5,9 @@ ghost use Rattle.ddcmp_streams.specs.Errors.{LeftOut, has_room};
 ghost use Rattle.std.specs.Prelude.{◌≡◌, Some};
 ghost use Rattle.ddcmp_bridge.specs.Reporting.{ReportsCounts};
 
-use ddcmp_io::Page;
 use crate::counts::Counts;
 use crate::reports::{report_line, report_object};
+use ddcmp_io::Page;
 use ddcmp_streams::{EVENT_ROOM, Errors};
 use std::alloc::Global;
 use std::fmt::{Display, InlineText};
@@ -85,13 +85,7 @@ impl BridgeErrors {
 
     /// Queues the counters of a direction: as a line, or as a JSON object with those of an
     /// interval.
-    pub(crate) fn report_counts(
-        &mut self,
-        mark: &[u8],
-        counts: Counts,
-        more: Counts,
-        is_json: bool,
-    )
+    pub(crate) fn report_counts(&mut self, mark: &[u8], counts: Counts, more: Counts, is_json: bool)
         ensures { ReportsCounts is_json mark.now counts more self.old self.new }
     {
         if is_json {

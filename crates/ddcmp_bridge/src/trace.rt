@@ -58,7 +58,11 @@ impl BridgeTrace {
             return;
         }
         self.text.clear();
-        if self.log.log(&mut self.text, Some(Stamp::Elapsed(now)), bytes).is_ok() {
+        if self
+            .log
+            .log(&mut self.text, Some(Stamp::Elapsed(now)), bytes)
+            .is_ok()
+        {
             errors.write_lines(str::from_utf8(self.text()).unwrap_or(""));
         }
         match fate {
