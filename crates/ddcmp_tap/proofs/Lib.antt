@@ -3,3 +3,4 @@ pub mod HeadLaws
 pub mod InTurnLaws
 pub mod TapLaws
 pub mod LogLaws
+pub mod ReportLaws

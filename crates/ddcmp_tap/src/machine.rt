@@ -174,7 +174,7 @@ impl Tap {
 }
 
 impl Machine for Tap {
-    ghost use Rattle.std.specs.Prelude.{⊤};
+    ghost use Rattle.ddcmp_tap.specs.Reporting.{NoneIsDue};
     ghost use Rattle.ddcmp_tap.specs.Tapping.{Taps, asked_of, needs_of, outcome_of, pending_of};
 
     type Asked = (TapLog, u64);
@@ -187,7 +187,7 @@ impl Machine for Tap {
 
     ghost pending = { pending_of };
 
-    ghost settled = { λ _. ⊤ };
+    ghost settled = { λ t. NoneIsDue t.moment t.reports.schedule };
 
     ghost moment = { λ t. t.moment };
 
