@@ -110,9 +110,9 @@ pub(crate) fn write_reported<W: Sink>(
     page.write(writer, b",\"bytes\":");
     write_number(page, writer, added.bytes);
     page.write(writer, b"},");
-    let part = LinePart {
+    let rest = LinePart {
         notation: Notation::Json,
         from: 1,
     };
-    write_last(page, writer, part, totals);
+    write_last(page, writer, rest, totals);
 }
