@@ -139,8 +139,8 @@ joined false bytes = []
 
 -- What its history says something of: both ways, how far each line is open, why nothing more is
 -- read from it and written to it, what was asked for, the phase, whether both lines were open at
--- once, whether it had other lines before, why and when it left these, when its time is over, how it
--- ended, and the counters of the lines before.
+-- once, whether it had other lines before, why and when it left these, when its time is over, how
+-- it ended, and the counters of the lines before.
 pub record CrossView : Type 0 where
   pub there : DirectionView
   pub back : DirectionView

@@ -35,7 +35,8 @@ report_lines stamp r caller called up down =
     reported_line caller.notation stamp caller.side caller.frames.max r.caller up
     ++ reported_line called.notation stamp called.side called.frames.max r.called down
 
--- A report was queued; or it was left out, as the last one isn't printed yet or an allocation failed.
+-- A report was queued; or it was left out, as the last one isn't printed yet or an allocation
+-- failed.
 pub record HasReport (now : ℕ) (stamp : Option Stamp) (caller called : ItemLogView)
     (old new : TapReportsView) : Type 0 where
   pub lines : ((up down : List ℕ) → HasTold caller.frames caller.items up

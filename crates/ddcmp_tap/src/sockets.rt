@@ -128,7 +128,8 @@ impl<'a, S: Net + time::Clock> Sides<'a, S> {
         })
     }
 
-    /// Returns when its clock was at 0, in milliseconds after 1970; 0 if the time of day isn't known.
+    /// Returns when its clock was at 0, in milliseconds after 1970; 0 if the time of day isn't
+    /// known.
     pub(crate) fn began(&mut self) -> u64 {
         let since_1970 = match self.system.since_1970() {
             Ok(since_1970) => u64::try_from(since_1970.as_millis()).unwrap_or(0),

@@ -1,4 +1,5 @@
-//! Messages of an input, in lines, in binary, and with commands among them, pushed in chunks and byte by byte.
+//! Messages of an input, in lines, in binary, and with commands among them, pushed in chunks and
+//! byte by byte.
 use ddcmp_input::{Entry, HexLines, Lengths, PushedEntry, Records};
 use std::process::Abort;
 

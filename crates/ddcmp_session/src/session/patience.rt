@@ -169,27 +169,27 @@ impl Session {
         self.course.tell_refusals(&naks);
     }
 
-    /// Reports that the peer refuses messages as too long, if `tells`.
-    fn report_refused_long(&mut self, tells: bool)
+    /// Reports that the peer refuses messages as too long, if that is due.
+    fn report_refused_long(&mut self, is_due: bool)
         ensures state { self.new.state ≡ self.old.state }
-        ensures errors { MatchBool tells (HasLine SHORT_LINE (given_up_text (Some Nak.TooLong))
+        ensures errors { MatchBool is_due (HasLine SHORT_LINE (given_up_text (Some Nak.TooLong))
             self.old.log.errors self.new.log.errors) (self.new.log.errors ≡ self.old.log.errors) }
         ensures log { self.new.log ≡ record self.old.log { errors = self.new.log.errors } }
     {
-        if tells {
+        if is_due {
             let (before, why) = given_up_words(Some(Nak::TooLong));
             self.errors.write_line(before, why, b"\n");
         }
     }
 
-    /// Reports that the peer has no buffer, if `tells`.
-    fn report_no_buffer(&mut self, tells: bool)
+    /// Reports that the peer has no buffer, if that is due.
+    fn report_no_buffer(&mut self, is_due: bool)
         ensures state { self.new.state ≡ self.old.state }
-        ensures errors { MatchBool tells (HasLine SHORT_LINE no_buffer_text self.old.log.errors
+        ensures errors { MatchBool is_due (HasLine SHORT_LINE no_buffer_text self.old.log.errors
             self.new.log.errors) (self.new.log.errors ≡ self.old.log.errors) }
         ensures log { self.new.log ≡ record self.old.log { errors = self.new.log.errors } }
     {
-        if tells {
+        if is_due {
             self.errors
                 .write_line(b"ddcmp: ", b"peer has no buffer", b"\n");
         }
