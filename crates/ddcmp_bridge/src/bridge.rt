@@ -261,7 +261,7 @@ fn push(way: &mut Direction, now: u64, bytes: &[u8]) -> RelayStep
 }
 
 impl<'a> Machine for Bridge<'a> {
-    ghost use Rattle.std.specs.Prelude.{⊤};
+    ghost use Rattle.ddcmp_log.specs.Scheduling.{NoneIsDue};
     ghost use Rattle.ddcmp_bridge.specs.Crossing.{Crosses, needs_of, pending_of, wakes_of};
 
     type Asked = (LineName<'a>, LineName<'a>, BridgeOptions<'a>);
@@ -274,7 +274,7 @@ impl<'a> Machine for Bridge<'a> {
 
     ghost pending = { pending_of };
 
-    ghost settled = { λ _. ⊤ };
+    ghost settled = { λ b. NoneIsDue b.moment b.reports.schedule };
 
     ghost moment = { λ b. b.moment };
 

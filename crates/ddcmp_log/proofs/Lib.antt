@@ -1,3 +1,4 @@
 pub mod DayLaws
+pub mod ScheduleLaws
 pub mod TellLaws
 pub mod TextLaws

@@ -1,6 +1,5 @@
 -- The reports of a tap while it runs.
-use Rattle.std.specs.Prelude.{◌≡◌, ◌⊎◌, ◌++◌, ◌-◌, ◌^◌, ◌&&◌, ℕ, List, [], Option, MatchBool}
-use Rattle.std.specs.Prelude.{false, nat_lt}
+use Rattle.std.specs.Prelude.{◌≡◌, ◌⊎◌, ◌++◌, ℕ, List, [], Option, MatchBool}
 use Rattle.ddcmp_log.specs.Items.{HasTold, ItemLogView}
 use Rattle.ddcmp_log.specs.Logged.{reported_line}
 use Rattle.ddcmp_log.specs.Scheduling.{is_due, next_due_after, schedule_of}
@@ -49,10 +48,6 @@ pub record HasReport (now : ℕ) (stamp : Option Stamp) (caller called : ItemLog
     caller = added_of caller;
     called = added_of called;
   }
-
--- No report is due. None is at the last moment that there is.
-abbrev pub NoneIsDue : ℕ → Schedule → Type 0
-NoneIsDue now s = (is_due s now && nat_lt now (2 ^ 64 - 1)) ≡ false
 
 -- if one is due
 abbrev pub ReportsIfDue : ℕ → Option Stamp → ItemLogView → ItemLogView

@@ -174,7 +174,7 @@ impl Tap {
 }
 
 impl Machine for Tap {
-    ghost use Rattle.ddcmp_tap.specs.Reporting.{NoneIsDue};
+    ghost use Rattle.ddcmp_log.specs.Scheduling.{NoneIsDue};
     ghost use Rattle.ddcmp_tap.specs.Tapping.{Taps, asked_of, needs_of, outcome_of, pending_of};
 
     type Asked = (TapLog, u64);

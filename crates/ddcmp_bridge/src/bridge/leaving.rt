@@ -19,6 +19,7 @@ impl Bridge<'_> {
     pub(super) fn settle(&mut self)
         ensures keeps { Keeps self.old self.new }
         ensures moment { self.new.moment ≡ self.old.moment }
+        ensures reports { self.new.reports ≡ self.old.reports }
     {
         match self.phase {
             Phase::ListenFirst | Phase::ListenSecond | Phase::OpenFirst | Phase::OpenSecond => {
@@ -42,6 +43,7 @@ impl Bridge<'_> {
         requires joined { is_joined self.old.phase ≡ true }
         ensures keeps { Keeps self.old self.new }
         ensures moment { self.new.moment ≡ self.old.moment }
+        ensures reports { self.new.reports ≡ self.old.reports }
     {
         if self.first.is_unsaved() || self.second.is_unsaved() {
             self.leave(BridgeStop::Stopped);
@@ -74,6 +76,7 @@ impl Bridge<'_> {
             → is_printing self.old.phase ≡ false → Crosses self.new h }
         ensures asked { asked_of self.new ≡ asked_of self.old }
         ensures moment { self.new.moment ≡ self.old.moment }
+        ensures reports { self.new.reports ≡ self.old.reports }
     {
         self.stop = stop;
         self.left_at = self.moment;
@@ -88,6 +91,7 @@ impl Bridge<'_> {
     pub(super) fn leave_if_closed(&mut self)
         ensures keeps { Keeps self.old self.new }
         ensures moment { self.new.moment ≡ self.old.moment }
+        ensures reports { self.new.reports ≡ self.old.reports }
     {
         match (self.phase, self.first.stage, self.second.stage) {
             (Phase::Leaving, Stage::Closed, Stage::Closed) => self.left(),
@@ -101,6 +105,7 @@ impl Bridge<'_> {
         requires second { self.old.second.stage ≡ Stage.Closed }
         ensures keeps { Keeps self.old self.new }
         ensures moment { self.new.moment ≡ self.old.moment }
+        ensures reports { self.new.reports ≡ self.old.reports }
     {
         if self.reopens() {
             self.restart();
@@ -142,7 +147,7 @@ impl Bridge<'_> {
         ensures asked { asked_of self.new ≡ asked_of self.old }
         ensures stays { (self.new.options ≡ self.old.options)
             × (self.new.moment ≡ self.old.moment) × (self.new.ends_at ≡ self.old.ends_at)
-            × (self.new.ended ≡ self.old.ended) }
+            × (self.new.ended ≡ self.old.ended) × (self.new.reports ≡ self.old.reports) }
     {
         let there = self.there.counts();
         let back = self.back.counts();

@@ -1,6 +1,6 @@
 use Rattle.std.proofs.Common.{◌∷◌, ap, refl, subst, sym}
 use Rattle.ddcmp_ports.specs.Running.{Passed}
-use Rattle.ddcmp_tap.specs.Reporting.{NoneIsDue}
+use Rattle.ddcmp_log.specs.Scheduling.{NoneIsDue}
 use Rattle.ddcmp_tap.specs.Tapping.{TapView}
 use Rattle.ddcmp_tap.proofs.ReportLaws.{none-due}
 use Rattle.ddcmp_tap.proofs.machine.TapMachine.pass_time.Goals as goal
