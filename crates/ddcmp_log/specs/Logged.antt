@@ -24,10 +24,13 @@ plain_front None side = mark_of side ++ codes " "
 plain_front (Some stamp) side = stamp_text stamp ++ codes " " ++ mark_of side ++ codes " "
 
 -- the first members of an object
+abbrev pub json_members : Option Stamp → Side → List ℕ
+json_members None side = codes "\"from\":\"" ++ mark_of side ++ codes "\","
+json_members (Some stamp) side =
+    codes "\"from\":\"" ++ mark_of side ++ codes "\"" ++ stamp_member stamp
+
 abbrev pub json_front : Option Stamp → Side → List ℕ
-json_front None side = codes "{\"from\":\"" ++ mark_of side ++ codes "\","
-json_front (Some stamp) side =
-    codes "{\"from\":\"" ++ mark_of side ++ codes "\"" ++ stamp_member stamp
+json_front stamp side = codes "{" ++ json_members stamp side
 
 abbrev pub front_in : Notation → Option Stamp → Side → List ℕ
 front_in wording.Plain stamp side = plain_front stamp side

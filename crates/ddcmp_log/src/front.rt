@@ -1,7 +1,7 @@
 //! The beginning of a line.
 ghost use Rattle.std.specs.Prelude.{◌≡◌, ◌≤◌};
 ghost use Rattle.ddcmp_io.specs.Written.{HandsOver, output_of};
-ghost use Rattle.ddcmp_log.specs.Logged.{front_in, json_front, plain_front, replaced};
+ghost use Rattle.ddcmp_log.specs.Logged.{front_in, json_front, json_members, plain_front, replaced};
 ghost use Rattle.ddcmp_log.specs.Stamps.{stamp_member, stamp_text};
 
 use crate::day::write_time;
@@ -61,12 +61,12 @@ fn write_member<W: Sink>(page: &mut Page, writer: &mut W, stamp: Stamp)
 }
 
 /// Writes the first members of an object.
-pub(crate) fn write_json_front<W: Sink>(page: &mut Page, writer: &mut W, origin: Origin)
+pub(crate) fn write_json_members<W: Sink>(page: &mut Page, writer: &mut W, origin: Origin)
     ensures { HandsOver (output_of W.broken W.contents writer.old page.old)
         (output_of W.broken W.contents writer.new page.new)
-        (json_front origin.stamp origin.side) }
+        (json_members origin.stamp origin.side) }
 {
-    page.write(writer, b"{\"from\":\"");
+    page.write(writer, b"\"from\":\"");
     page.write(writer, origin.side.mark());
     match origin.stamp {
         Some(stamp) => {
@@ -75,6 +75,16 @@ pub(crate) fn write_json_front<W: Sink>(page: &mut Page, writer: &mut W, origin:
         }
         None => page.write(writer, b"\","),
     }
+}
+
+/// Begins an object, and writes its first members.
+pub(crate) fn write_json_front<W: Sink>(page: &mut Page, writer: &mut W, origin: Origin)
+    ensures { HandsOver (output_of W.broken W.contents writer.old page.old)
+        (output_of W.broken W.contents writer.new page.new)
+        (json_front origin.stamp origin.side) }
+{
+    page.write(writer, b"{");
+    write_json_members(page, writer, origin);
 }
 
 /// Writes what precedes a line; returns the part of the line that follows: all but what was

@@ -15,7 +15,9 @@ mod schedule;
 pub mod side;
 
 pub use item_log::ItemLog;
-pub use line::{write_line, write_skipped, write_totals};
+pub use line::{
+    write_item_members, write_line, write_skipped, write_skipped_members, write_totals,
+};
 pub use no_memory::NoMemory;
 pub use notation::LogNotation;
 pub use reason::write_reasoned;

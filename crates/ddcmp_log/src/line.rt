@@ -4,8 +4,9 @@ ghost use Rattle.ddcmp_explain.specs.Output.{line_in, totals_in};
 ghost use Rattle.ddcmp_io.specs.Written.{HandsOver, output_of};
 ghost use Rattle.ddcmp_log.specs.Logged.{fronted, json_front, logged_line, wording_of};
 ghost use Rattle.std.specs.Prelude.{◌++◌, ◌-◌, codes, decimal, drop};
+ghost use Rattle.ddcmp_explain.specs.declared.notation.Notation.TheVariants.{Json};
 
-use crate::front::{write_front, write_json_front};
+use crate::front::{write_front, write_json_front, write_json_members};
 use crate::notation::LogNotation;
 use crate::rung::write_rung;
 use crate::side::{Added, Origin};
@@ -72,6 +73,38 @@ pub fn write_skipped<W: Sink>(
     write_discarded(page, writer, part, it);
 }
 
+/// What is left of the line of an object after its brace.
+const MEMBERS: LinePart = LinePart {
+    notation: Notation::Json,
+    from: 1,
+};
+
+/// Writes the line of an item with its data as an object, but for its brace.
+pub fn write_item_members<W: Sink>(
+    page: &mut Page,
+    writer: &mut W,
+    origin: Origin,
+    item: &Item,
+    data: &[u8],
+)
+    ensures { HandsOver (output_of W.broken W.contents writer.old page.old)
+        (output_of W.broken W.contents writer.new page.new)
+        (drop 1 (fronted Json origin.stamp origin.side (line_in Json (item.now, «data».now)))) }
+{
+    write_json_members(page, writer, origin);
+    write_item(page, writer, MEMBERS, item, data);
+}
+
+/// Writes the line of skipped bytes as an object, but for its brace.
+pub fn write_skipped_members<W: Sink>(page: &mut Page, writer: &mut W, origin: Origin, it: Skipped)
+    ensures { HandsOver (output_of W.broken W.contents writer.old page.old)
+        (output_of W.broken W.contents writer.new page.new)
+        (drop 1 (fronted Json origin.stamp origin.side (passed_text Json it.from it.count))) }
+{
+    write_json_members(page, writer, origin);
+    write_discarded(page, writer, MEMBERS, it);
+}
+
 /// Writes the last line.
 pub fn write_totals<W: Sink>(
     page: &mut Page,
@@ -110,9 +143,5 @@ pub(crate) fn write_reported<W: Sink>(
     page.write(writer, b",\"bytes\":");
     write_number(page, writer, added.bytes);
     page.write(writer, b"},");
-    let rest = LinePart {
-        notation: Notation::Json,
-        from: 1,
-    };
-    write_last(page, writer, rest, totals);
+    write_last(page, writer, MEMBERS, totals);
 }
