@@ -1,5 +1,6 @@
 """What --trace prints of the frames of both ways."""
 import contextlib
+import json
 import os
 import re
 import socket
@@ -40,6 +41,36 @@ def test_traced():
     assert not missing and not odd
 
 
+def test_traced_as_objects():
+    """With --json each line of a trace is an object, with --clock the time of day in it."""
+    one, peer = linked("--trace", "--json", "--clock", "--timer-ms", "150")
+    with peer:
+        one.waits(lambda it: it.err.count(b"STRT") >= 2, 10)
+        peer.sendall(STACK + bytes.fromhex("8103000000010000"))
+        one.waits(lambda it: b"NAK" in it.err, 10)
+    one.ended()
+    told = [json.loads(it) for it in one.err.decode().split("\n") if it.startswith("{")]
+    assert all(re.fullmatch(r"\d{4}-\d\d-\d\dT[\d:.]{12}Z", it["time"]) for it in told)
+    assert all(it["ms"] < 10_000 for it in told)
+    named = [(it.get("from"), it["item"], it.get("reason")) for it in told]
+    for it in ((">", "STRT", None), (None, "timer", None), ("<", "STACK", None),
+               ("<", "header check", None), (">", "NAK", "header check")):
+        assert it in named, named
+
+
+def test_traced_as_a_ladder():
+    """With --ladder each frame is an arrow, from this end on the left or to it."""
+    one, peer = linked("--ladder", "--timer-ms", "60000")
+    with peer:
+        peer.sendall(STACK + data(b"abc", 1))
+        one.waits(lambda it: b"ACK" in it.err.split(b"DATA")[-1], 10)
+    one.ended()
+    arrows = [it.split(" ", 1)[1] for it in one.err.decode().split("\n") if "|" in it]
+    assert {len(it) for it in arrows} == {78}
+    assert [re.sub("[ -]+", " ", it) for it in arrows] == [
+        "| STRT >|", "|< STACK |", "|< DATA num=1 resp=0 3 bytes |", "| ACK resp=1 >|"]
+
+
 def drawn_line():
     """Frames of a peer that runs, good and damaged, with fill and junk between them."""
     line = STACK
@@ -54,22 +85,26 @@ def drawn_line():
     return line
 
 
-def test_trace_discarded():
+@pytest.mark.parametrize("form", [(), ("--json",)])
+def test_trace_discarded(form):
     """What --trace tells of a line is what `explain --discarded` tells of its bytes, but for SYN
-    bytes alone."""
-    one, peer = linked("--trace", "--timer-ms", "60000")
+    bytes alone; also as JSON."""
+    one, peer = linked("--trace", *form, "--timer-ms", "60000")
     line = drawn_line()
     with peer:
         sends(peer, line, 300)
         one.waits(lambda it: it.err.count(b"<") > 300, 1)
     one.ended()
-    told = [it.split(" < ")[1] for it in one.err.decode().split("\n") if " < " in it]
-    items = explained(line, "--discarded", "--max", "1500")[:-1]
-    discarded = re.compile(r"(\d+) discarded (\d+)")
+    front = r'{"from":"<","ms":\d+,' if form else r"\d+ < "
+    told = [re.sub(front, "{" * len(form), it) for it in one.err.decode().split("\n")
+            if re.match(front, it)]
+    items = explained(line, "--discarded", "--max", "1500", *form)[:-1]
+    discarded = re.compile(r'{"offset":(\d+),"discarded":(\d+)}' if form
+                           else r"(\d+) discarded (\d+)")
     fill = {it for it in items if (found := discarded.fullmatch(it))
             and not line[int(found[1]):int(found[1]) + int(found[2])].strip(b"\x96")}
-    wanted = [it for it in items if it not in fill and " unfinished " not in it]
-    assert len(fill) >= 5 and sum(" discarded " in it for it in wanted) >= 20
+    wanted = [it for it in items if it not in fill and "unfinished" not in it]
+    assert len(fill) >= 5 and sum("discarded" in it for it in wanted) >= 20
     assert told == wanted
 
 

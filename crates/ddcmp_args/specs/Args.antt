@@ -10,6 +10,8 @@ use Rattle.ddcmp_explain.specs.declared.form.Form.{Form}
 use Rattle.ddcmp_explain.specs.declared.form.Form.TheVariants.{Hex, Raw}
 use Rattle.ddcmp_explain.specs.declared.notation.Notation.{Notation}
 use Rattle.ddcmp_explain.specs.declared.notation.Notation.TheVariants.{Plain, Json}
+use Rattle.ddcmp_log.specs.declared.notation.LogNotation.{LogNotation}
+use Rattle.ddcmp_log.specs.declared.notation.LogNotation.TheVariants as log
 use Rattle.ddcmp_explain.specs.declared.style.Style.{Style}
 use Rattle.ddcmp_args.specs.declared.command.Command.{Command}
 use Rattle.ddcmp_args.specs.declared.command.Command.TheVariants.{Explain, Simulate, Pair, Station}
@@ -146,7 +148,7 @@ line_app =
 
 abbrev pub link_app : App
 link_app =
-    with_rule (with_rule (with_rule (with_rule (with_rule (with_rule (with_rule (with_rule
+    with_rule (with_rule (with_rule (with_rule (with_rule (with_rule (with_rule (with_rule (with_rule
     (with_rule (with_rule (with_rule (with_rule (with_rule (with_rule (with_rule
     (with_sizes line_app)
     (number_rule (codes "timer-ms") 1 MOST))
@@ -162,6 +164,7 @@ link_app =
     (flag_rule (codes "again")))
     (flag_rule (codes "counters")))
     (flag_rule (codes "trace")))
+    (flag_rule (codes "ladder")))
     (flag_rule (codes "clock")))
     (flag_rule (codes "json"))
 
@@ -366,6 +369,22 @@ pub record HasMessages (binary events : Option Text) (form : MessageForm) : Type
   pub left_out : binary ≡ Some (codes "false") → form ≡ Digits
   pub absent : binary ≡ None → form ≡ Digits
 
+-- how frames are logged: as a ladder, or as lines if a trace is asked for, which may be JSON
+abbrev pub trace_by : (ladder trace json : Bool) → Option LogNotation
+trace_by true trace json = Some log.Ladder
+trace_by false true true = Some log.Json
+trace_by false true false = Some log.Plain
+trace_by false false json = None
+
+pub record HasTrace (option : Text → Option Text) (notation : Option LogNotation) : Type 0 where
+  pub ladder : Bool
+  pub is_drawn : HasFlag (option (codes "ladder")) ladder
+  pub trace : Bool
+  pub is_traced : HasFlag (option (codes "trace")) trace
+  pub json : Bool
+  pub is_json : HasFlag (option (codes "json")) json
+  pub is : notation ≡ trace_by ladder trace json
+
 -- the options of a link over a line of this name
 pub record HasLinkOptions (line : Text) (option : Text → Option Text) (options : Options)
     : Type 0 where
@@ -384,7 +403,7 @@ pub record HasLinkOptions (line : Text) (option : Text → Option Text) (options
   pub awaits_end : options.awaits_end ≡ true
   pub again : HasFlag (option (codes "again")) options.again
   pub counters : HasFlag (option (codes "counters")) options.counters
-  pub trace : HasFlag (option (codes "trace")) options.trace
+  pub trace : HasTrace option options.trace
   pub clock : HasFlag (option (codes "clock")) options.clock
   pub json : HasFlag (option (codes "json")) options.json
 

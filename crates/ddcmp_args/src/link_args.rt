@@ -2,7 +2,7 @@
 ghost use Rattle.std.specs.Prelude.{◌≡◌, ◌≤◌, codes};
 ghost use Rattle.clap.specs.Words.{first_value, found_of, one_text};
 ghost use Rattle.ddcmp_args.specs.Inside.Making.{Makes};
-ghost use Rattle.ddcmp_args.specs.Args.{HasLink, HasMessages, link_app};
+ghost use Rattle.ddcmp_args.specs.Args.{HasLink, HasMessages, HasTrace, link_app};
 ghost use Rattle.ddcmp_args.specs.Args.{default_linger_of, default_syn_of, default_timer_of};
 ghost use Rattle.ddcmp_args.specs.Args.{timers_lingered};
 ghost use Rattle.ddcmp_proto.specs.declared.config.TheConstants.{MAX_SYN};
@@ -13,6 +13,7 @@ use crate::options::{CommandOption, CommandText, table};
 use crate::parser::{Made, begun, with_options};
 use crate::size_args::{SIZE_OPTIONS, sizes_given};
 use clap::ArgMatches;
+use ddcmp_log::LogNotation;
 use ddcmp_streams::{MessageForm, Options};
 use std::alloc::Global;
 
@@ -66,7 +67,7 @@ static LINE_OPTIONS: [CommandOption; 2] = table! {
 };
 
 /// The options of a link apart from its line and its sizes.
-static LINK_OPTIONS: [CommandOption; 15] = table! {
+static LINK_OPTIONS: [CommandOption; 16] = table! {
     "timer-ms": Number(1, u32::MAX),
         "Reply timer in milliseconds, from 1 [default: 3000, over UDP 500]";
     "attempts": Number(0, u32::MAX),
@@ -84,8 +85,9 @@ static LINK_OPTIONS: [CommandOption; 15] = table! {
     "again": Nothing, "Open the line again if it ends or can't be opened";
     "counters": Nothing, "Print the station's counters before the last line";
     "trace": Nothing, "Log each frame both ways on standard error";
+    "ladder": Nothing, "Draw each frame as an arrow of a ladder there";
     "clock": Nothing, "Begin each line on standard error with the time of day (UTC)";
-    "json": Nothing, "Write reports as JSON objects";
+    "json": Nothing, "Write reports and the lines of --trace as JSON objects";
 };
 
 /// Returns the parser of `link` with its options.
@@ -152,6 +154,21 @@ fn messages_given(options: &ArgMatches<'_>) -> MessageForm
     }
 }
 
+/// Returns how frames are logged, if they are.
+fn trace_given(options: &ArgMatches<'_>) -> Option<LogNotation>
+    ensures { HasTrace (one_text (found_of options.now)) result }
+{
+    let ladder = flag_given(options, "ladder");
+    let trace = flag_given(options, "trace");
+    let json = flag_given(options, "json");
+    match (ladder, trace, json) {
+        (true, _, _) => Some(LogNotation::Ladder),
+        (false, true, true) => Some(LogNotation::Json),
+        (false, true, false) => Some(LogNotation::Plain),
+        (false, false, _) => None,
+    }
+}
+
 /// Returns the arguments of `link`.
 pub(crate) fn link_given<'a>(options: &ArgMatches<'a>) -> LinkArgs<'a>
     ensures { HasLink (one_text (found_of options.now)) (first_value (found_of options.now))
@@ -174,7 +191,7 @@ pub(crate) fn link_given<'a>(options: &ArgMatches<'a>) -> LinkArgs<'a>
         awaits_end: true,
         again: flag_given(options, "again"),
         counters: flag_given(options, "counters"),
-        trace: flag_given(options, "trace"),
+        trace: trace_given(options),
         clock: flag_given(options, "clock"),
         json: flag_given(options, "json"),
     };

@@ -5,6 +5,8 @@ use Rattle.std.specs.Borrow.{Bor}
 use Rattle.ddcmp_streams.specs.declared.messages.MessageForm.{MessageForm}
 use Rattle.ddcmp_streams.specs.declared.messages.MessageForm.TheVariants.{Digits}
 use Rattle.ddcmp_streams.specs.declared.options.Options.{Options}
+use Rattle.ddcmp_log.specs.declared.notation.LogNotation.{LogNotation}
+use Rattle.ddcmp_log.specs.declared.notation.LogNotation.TheVariants.{Ladder}
 use Rattle.ddcmp_ports.specs.LineNames.{word_of}
 use Rattle.ddcmp_ports.specs.Events.{open_fault_text}
 use Rattle.ddcmp_link.specs.declared.fault.LinkFailure.{LinkFailure}
@@ -61,6 +63,14 @@ is_in_lines _ = false
 abbrev pub has_no_binary : LinkArgs → Bool
 has_no_binary linked = is_in_lines linked.options.form && linked.events
 
+abbrev pub is_drawn : Option LogNotation → Bool
+is_drawn (Some Ladder) = true
+is_drawn _ = false
+
+-- A ladder is asked for, and JSON.
+abbrev pub has_two_notations : LinkArgs → Bool
+has_two_notations linked = linked.options.json && is_drawn linked.options.trace
+
 -- The result of `link`. A LINE that isn't one is a usage error, and so are options that can't be
 -- used; else a link was run over the line of that name, with the callers of that host and with
 -- these options, and the program ends as the link did.
@@ -73,9 +83,11 @@ Links lines linked ending =
     × (has_no_speed line linked.options ≡ true) × (is_refusal ending ≡ true))
     ⊎ ((has_no_binary linked ≡ true) × (is_refusal ending ≡ true))
     ⊎ ((means_nothing linked ≡ true) × (is_refusal ending ≡ true))
+    ⊎ ((has_two_notations linked ≡ true) × (is_refusal ending ≡ true))
     ⊎ ((line : LineName) × (word_of line ≡ linked.line.now)
     × (has_no_callers line linked.only ≡ false) × (has_no_speed line linked.options ≡ false)
     × (has_no_binary linked ≡ false) × (means_nothing linked ≡ false)
+    × (has_two_notations linked ≡ false)
     × (ended : Result LinkOutcome LinkFailure)
     × ((known : Result LinkOutcome LinkFailure)
     → lines.links (word_of line) (text_of linked.only) linked.options ≡ Some known → ended ≡ known)

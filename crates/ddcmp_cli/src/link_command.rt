@@ -1,15 +1,16 @@
 //! `link`: messages between a line and the program's streams.
 ghost use Rattle.std.specs.Prelude.{◌≡◌, ◌↔◌, Err, IsTrue, false};
 ghost use Rattle.ddcmp_cli.specs.LinkEndings.{LinkEnds, Links, has_no_callers, has_no_speed};
-ghost use Rattle.ddcmp_cli.specs.LinkEndings.{has_no_binary, means_nothing};
+ghost use Rattle.ddcmp_cli.specs.LinkEndings.{has_no_binary, has_two_notations, means_nothing};
 
 use ddcmp_args::link_args::{DEFAULT_ATTEMPTS, LinkArgs, default_timer};
 use ddcmp_bridge::{BridgeEnd, BridgeOptions};
 use ddcmp_commands::usage::{no_line, usage};
-use ddcmp_commands::{Ending, Fault};
+use ddcmp_commands::{Ending, Fault, TWO_NOTATIONS};
 use ddcmp_device::{BridgeFault, bridge_lines};
 use ddcmp_io::{LineKind, Sink, Source};
 use ddcmp_link::{LinkFailure, LinkLine, LinkOutcome, Options, link_line};
+use ddcmp_log::LogNotation;
 use ddcmp_ports::LineName;
 use ddcmp_proto::Config;
 use ddcmp_streams::MessageForm;
@@ -64,6 +65,13 @@ fn has_no_binary(args: &LinkArgs<'_>) -> bool
         MessageForm::Digits => args.events,
         MessageForm::Binary | MessageForm::Events => false,
     }
+}
+
+/// Returns whether a ladder is asked for, and JSON.
+fn has_two_notations(args: &LinkArgs<'_>) -> bool
+    ensures { result ≡ has_two_notations args.now }
+{
+    args.options.json && matches!(args.options.trace, Some(LogNotation::Ladder))
 }
 
 /// Returns whether options are given that can't be used in maintenance mode.
@@ -191,6 +199,9 @@ pub(crate) fn link<S: LineSystem, R: Source, W: Sink>(
     }
     if means_nothing(args) {
         return usage(alloc, NOT_IN_MAINTENANCE);
+    }
+    if has_two_notations(args) {
+        return usage(alloc, TWO_NOTATIONS);
     }
     let line = LinkLine {
         name,

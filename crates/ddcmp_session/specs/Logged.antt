@@ -98,7 +98,7 @@ Traces goes (Some before) old new =
 abbrev pub Wakes : ℕ → Bool → TraceView → TraceView → ErrorsView → ErrorsView → Type 0
 Wakes now has_expired before after old new =
     (after ≡ record before { now = now })
-    × HasLines before.spared (timer_lines now has_expired) old new
+    × HasLines before.notation before.spared (timer_lines before.notation now has_expired) old new
 
 -- all counters of a link, as a line or as a JSON object
 abbrev pub HasReport : Bool → ℕ → LinkView → ErrorsView → ErrorsView → Type 0

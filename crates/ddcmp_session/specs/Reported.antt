@@ -1,6 +1,6 @@
 -- The log of a new session, and what it writes to standard error about its input.
 use Rattle.std.specs.Prelude.{◌≡◌, ℕ, ◌+◌, ◌*◌, Bool, true, false, MatchBool, if◌then◌else◌}
-use Rattle.std.specs.Prelude.{Option, None, Some, List, [], ◌∷◌, codes, max, min}
+use Rattle.std.specs.Prelude.{Option, None, Some, is_some, List, [], ◌∷◌, codes, max, min}
 use Rattle.std.specs.Prelude.{option_to_list}
 use Rattle.ddcmp_input.specs.declared.entry.Entry.{Entry}
 use Rattle.ddcmp_input.specs.declared.entry.Entry.TheVariants.{Message, NotHexadecimal}
@@ -31,7 +31,7 @@ use Rattle.ddcmp_streams.specs.Trace.{TraceView, IsNew}
 
 -- how many bytes of lines are queued at most
 abbrev pub errors_room : Options → ℕ
-errors_room o = if o.trace then 8 * ERRORS_ROOM else ERRORS_ROOM
+errors_room o = if is_some o.trace then 8 * ERRORS_ROOM else ERRORS_ROOM
 
 abbrev pub log_made : Options → Option TraceView → LogView
 log_made o trace = record {
@@ -52,10 +52,10 @@ pub record IsNewTrace (o : Options) (t : TraceView) : Type 0 where
   pub spared : t.spared ≡ 2 * o.config.max + LINE_ROOM
   pub now : t.now ≡ 0
 
--- There is a trace if one is asked for.
+-- There is a trace if one is asked for, in that notation.
 abbrev pub TracesIfAsked : Options → Option TraceView → Type 0
-TracesIfAsked o None = o.trace ≡ false
-TracesIfAsked o (Some t) = (o.trace ≡ true) × IsNewTrace o t
+TracesIfAsked o None = o.trace ≡ None
+TracesIfAsked o (Some t) = (o.trace ≡ Some t.notation) × IsNewTrace o t
 
 -- ---- a part of the input that is no message
 

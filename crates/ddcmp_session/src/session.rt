@@ -126,11 +126,12 @@ fn trace_of(alloc: Global, options: &Options) -> Result<Option<Trace>, ConfigRef
     ensures made { IfOk result (λ trace. TracesIfAsked options.now trace) }
     ensures only { IsOk result ⊎ (result ≡ Err ConfigRefusal.Memory) }
 {
-    if !options.trace {
+    let Some(notation) = options.trace else {
         return Ok(None);
-    }
+    };
     match Trace::new(
         alloc,
+        notation,
         options.config.max,
         text::text_room(options.config.max),
     ) {
@@ -171,7 +172,7 @@ impl Session {
             Ok(trace) => trace,
             Err(refusal) => return Err(refusal),
         };
-        let errors_room = if options.trace {
+        let errors_room = if options.trace.is_some() {
             8 * ERRORS_ROOM
         } else {
             ERRORS_ROOM

@@ -1,3 +1,4 @@
 pub mod ErrorsLaws
 pub mod HeardLaws
 pub mod JunkLaws
+pub mod TraceLaws

@@ -11,11 +11,12 @@ use Rattle.ddcmp_frame.specs.Reading.{ReadItem, ending, items}
 use Rattle.ddcmp_frame.specs.Step.{item_offset}
 use Rattle.ddcmp_explain.specs.declared.skipped.Reached.{Reached}
 use Rattle.ddcmp_explain.specs.declared.skipped.Skipped.{Skipped}
-use Rattle.ddcmp_explain.specs.declared.notation.Notation.TheVariants as wording
 use Rattle.ddcmp_explain.specs.Discarded.{behind, passed_text, taken_by}
 use Rattle.ddcmp_log.specs.declared.side.Side.{Side}
 use Rattle.ddcmp_log.specs.declared.side.Side.TheVariants.{Caller, Called}
-use Rattle.ddcmp_log.specs.Logged.{fronted}
+use Rattle.ddcmp_log.specs.Logged.{fronted, logged_line, wording_of}
+use Rattle.ddcmp_log.specs.declared.notation.LogNotation.{LogNotation}
+use Rattle.ddcmp_log.specs.declared.notation.LogNotation.TheVariants.{Plain, Json, Ladder}
 use Rattle.ddcmp_log.specs.Reasons.{reasoned_line}
 use Rattle.ddcmp_log.specs.declared.side.Stamp.TheVariants.{Elapsed}
 use Rattle.ddcmp_streams.specs.declared.errors.TheConstants.{LAST_ROOM}
@@ -24,7 +25,7 @@ use Rattle.ddcmp_streams.specs.declared.skipped.TheConstants.{DEL}
 use Rattle.ddcmp_streams.specs.declared.trace.TheConstants.{NOTE}
 use Rattle.ddcmp_streams.specs.declared.trace.Way.{Way}
 use Rattle.ddcmp_streams.specs.declared.trace.Way.TheVariants.{ToLine, FromLine}
-use Rattle.ddcmp_streams.specs.Errors.{ErrorsView, HasLine}
+use Rattle.ddcmp_streams.specs.Errors.{ErrorsView, HasLine, HasObject}
 
 -- What was traced in one direction: the state of its reader; the last item, or the end of the bytes
 -- reported since; and the offset of the first byte after that which is no fill.
@@ -33,8 +34,10 @@ pub record WayReaderView : Type 0 where
   pub reached : Reached
   pub junk : Option ℕ
 
--- How much room is left to other lines, what was traced in each direction, and the moment.
+-- How its lines are written, how much room is left to other lines, what was traced in each
+-- direction, and the moment.
 pub record TraceView : Type 0 where
+  pub notation : LogNotation
   pub spared : ℕ
   pub sent : WayReaderView
   pub came : WayReaderView
@@ -125,46 +128,66 @@ abbrev pub side_of : Way → Side
 side_of ToLine = Caller
 side_of FromLine = Called
 
--- an item with its data
-abbrev pub item_line : ℕ → Way → ReadItem → List ℕ
-item_line now way given = reasoned_line (Some (Elapsed now)) (side_of way) given
+-- an item with its data; in words a NAK, which has none, with its reason
+abbrev pub item_line : LogNotation → ℕ → Way → ReadItem → List ℕ
+item_line Plain now way given = reasoned_line (Some (Elapsed now)) (side_of way) given
+item_line Json now way given = logged_line Json (Some (Elapsed now)) (side_of way) given
+item_line Ladder now way given = logged_line Ladder (Some (Elapsed now)) (side_of way) given
 
 -- discarded bytes
-abbrev pub skipped_line : ℕ → Way → Skipped → List ℕ
-skipped_line now way it =
-    fronted wording.Plain (Some (Elapsed now)) (side_of way) (passed_text wording.Plain it.from it.count)
+abbrev pub skipped_line : LogNotation → ℕ → Way → Skipped → List ℕ
+skipped_line notation now way it = fronted (wording_of notation) (Some (Elapsed now)) (side_of way)
+    (passed_text (wording_of notation) it.from it.count)
 
-abbrev pub timer_line : ℕ → List ℕ
-timer_line now = decimal now ++ codes " timer\n"
+abbrev pub timer_line : LogNotation → ℕ → List ℕ
+timer_line Plain now = decimal now ++ codes " timer\n"
+timer_line Json now = codes "{\"ms\":" ++ decimal now ++ codes ",\"item\":\"timer\"}\n"
+timer_line Ladder now = decimal now ++ codes " timer\n"
 
 -- at most the largest number of 64 bits
 abbrev pub capped : ℕ → ℕ
 capped n = min n (2 ^ 64 - 1)
 
 -- each with the room that it needs
-abbrev pub skipped_lines : ℕ → Way → Option Skipped → List (ℕ × List ℕ)
-skipped_lines now way None = []
-skipped_lines now way (Some it) = (NOTE, skipped_line now way it) ∷ []
+abbrev pub skipped_lines : LogNotation → ℕ → Way → Option Skipped → List (ℕ × List ℕ)
+skipped_lines notation now way None = []
+skipped_lines notation now way (Some it) = (NOTE, skipped_line notation now way it) ∷ []
 
-abbrev pub completed_lines : ℕ → Way → Option Completed → List ℕ → List (ℕ × List ℕ)
-completed_lines now way None lent = []
-completed_lines now way (Some it) lent =
-    skipped_lines now way it.discarded
-    ++ (capped (2 * length lent + NOTE), item_line now way (it.item, lent)) ∷ []
+abbrev pub completed_lines : LogNotation → ℕ → Way → Option Completed → List ℕ
+    → List (ℕ × List ℕ)
+completed_lines notation now way None lent = []
+completed_lines notation now way (Some it) lent =
+    skipped_lines notation now way it.discarded
+    ++ (capped (2 * length lent + NOTE), item_line notation now way (it.item, lent)) ∷ []
 
-abbrev pub timer_lines : ℕ → Bool → List (ℕ × List ℕ)
-timer_lines now has_expired = if has_expired then (NOTE, timer_line now) ∷ [] else []
+abbrev pub timer_lines : LogNotation → ℕ → Bool → List (ℕ × List ℕ)
+timer_lines notation now has_expired =
+    if has_expired then (NOTE, timer_line notation now) ∷ [] else []
 
 -- the room that a line needs, with the room left for other lines
 abbrev pub room_beside : ℕ → ℕ → ℕ
 room_beside spared needed = capped (capped (spared + needed) + LAST_ROOM)
 
+-- what is written of a line once it is begun: of an object all but its brace
+abbrev pub after_begun : LogNotation → List ℕ → List ℕ
+after_begun Plain line = line
+after_begun Json line = drop 1 line
+after_begun Ladder line = line
+
+-- A text was queued behind what begins a line, if there was room for it. An object has the time of
+-- day as a member.
+abbrev pub HasTraced : LogNotation → ℕ → List ℕ → ErrorsView → ErrorsView → Type 0
+HasTraced Plain needed text old new = HasLine needed text old new
+HasTraced Json needed text old new = HasObject needed text old new
+HasTraced Ladder needed text old new = HasLine needed text old new
+
 -- Lines were queued one after another, each if there was room for it.
-abbrev pub HasLines : ℕ → List (ℕ × List ℕ) → ErrorsView → ErrorsView → Type 0
-HasLines spared [] old new = new ≡ old
-HasLines spared (line ∷ later) old new =
-    (mid : ErrorsView) × HasLine (room_beside spared line.0) line.1 old mid
-    × HasLines spared later mid new
+abbrev pub HasLines : LogNotation → ℕ → List (ℕ × List ℕ) → ErrorsView → ErrorsView → Type 0
+HasLines notation spared [] old new = new ≡ old
+HasLines notation spared (line ∷ later) old new =
+    (mid : ErrorsView)
+    × HasTraced notation (room_beside spared line.0) (after_begun notation line.1) old mid
+    × HasLines notation spared later mid new
 
 -- ---- a trace
 
@@ -181,8 +204,8 @@ pub record LogsByte (way : Way) (byte : ℕ) (old new : TraceView) (before after
     : Type 0 where
   pub given : Option Completed
   pub takes : TakesByte (heard_of way old) byte given (heard_of way new)
-  pub lines : HasLines old.spared
-      (completed_lines old.now way given (heard_of way new).frames.lent) before after
+  pub lines : HasLines old.notation old.spared
+      (completed_lines old.notation old.now way given (heard_of way new).frames.lent) before after
   pub stays : new ≡ with_heard way (heard_of way new) old
 
 -- The bytes discarded after the last item were reported, if they are at least this many.
@@ -190,7 +213,8 @@ pub record LogsDiscarded (way : Way) (least : ℕ) (old new : TraceView) (before
     : Type 0 where
   pub given : Option Skipped
   pub discards : Discards (heard_of way old) least given (heard_of way new)
-  pub lines : HasLines old.spared (skipped_lines old.now way given) before after
+  pub lines : HasLines old.notation old.spared (skipped_lines old.notation old.now way given)
+      before after
   pub stays : new ≡ with_heard way (heard_of way new) old
 
 -- Bytes went in this direction, one after another; then 256 or more discarded bytes are reported

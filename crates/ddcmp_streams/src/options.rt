@@ -3,6 +3,7 @@ ghost use Rattle.std.specs.Prelude.{◌≡◌, ◌<◌};
 ghost use Rattle.ddcmp_streams.specs.Options.{report_ms, speed_of};
 
 use crate::messages::MessageForm;
+use ddcmp_log::LogNotation;
 use ddcmp_proto::Config;
 
 /// The options of a session.
@@ -38,8 +39,8 @@ pub struct Options {
     pub again: bool,
     /// Whether counters are written before the last line.
     pub counters: bool,
-    /// Whether the frames of both directions are logged on standard error.
-    pub trace: bool,
+    /// How the frames of both directions are logged on standard error, if they are.
+    pub trace: Option<LogNotation>,
     /// Whether lines on standard error begin with the time of day.
     pub clock: bool,
     /// Whether reports are JSON objects.

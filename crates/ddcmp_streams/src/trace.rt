@@ -3,10 +3,11 @@
 ghost use Rattle.std.specs.Prelude.{◌≡◌, ◌+◌, ◌*◌, [], IfErr, IfOk, Some, length, max, min};
 ghost use Rattle.ddcmp_io.specs.Written.{HandsOver};
 ghost use Rattle.ddcmp_streams.specs.Queued.{queued};
-ghost use Rattle.ddcmp_streams.specs.Errors.{HasLine, has_room};
-ghost use Rattle.ddcmp_streams.specs.Trace.{BeginsAnew, Discards, HasLines, IsNew, TakesByte};
-ghost use Rattle.ddcmp_streams.specs.Trace.{Logs, LogsByte, LogsDiscarded, LogsEnd};
-ghost use Rattle.ddcmp_streams.specs.Trace.{capped, heard_of, item_line, room_beside, side_of};
+ghost use Rattle.ddcmp_streams.specs.Errors.{has_room};
+ghost use Rattle.ddcmp_streams.specs.Trace.{BeginsAnew, Discards, HasLines, HasTraced, IsNew};
+ghost use Rattle.ddcmp_streams.specs.Trace.{Logs, LogsByte, LogsDiscarded, LogsEnd, TakesByte};
+ghost use Rattle.ddcmp_streams.specs.Trace.{after_begun, capped, heard_of, item_line};
+ghost use Rattle.ddcmp_streams.specs.Trace.{room_beside, side_of};
 ghost use Rattle.ddcmp_streams.specs.Trace.{skipped_line, skipped_lines};
 ghost use Rattle.ddcmp_streams.specs.Trace.{timer_line, timer_lines, with_heard};
 
@@ -16,7 +17,10 @@ use ddcmp_explain::Skipped;
 use ddcmp_frame::{Item, MAX_COUNT, ReaderRefusal};
 use ddcmp_io::text::write_number;
 use ddcmp_io::{ByteQueue, Page};
-use ddcmp_log::{LogNotation, Origin, Side, Stamp, write_reasoned, write_skipped};
+use ddcmp_log::{
+    LogNotation, Origin, Side, Stamp, write_item_members, write_line, write_reasoned,
+    write_skipped, write_skipped_members,
+};
 use std::alloc::Global;
 use std::marker::Model;
 
@@ -46,14 +50,21 @@ impl Way {
     }
 }
 
-/// A trace of a line. Lines without room are left out, so that a trace never blocks a link.
-pub struct Trace {
+/// How the lines of a trace are written.
+#[derive(Clone, Copy)]
+struct TraceForm {
+    notation: LogNotation,
     /// How much room is left for other reports.
     spared: usize,
-    sent: WayReader,
-    came: WayReader,
     /// The moment, in milliseconds.
     now: u64,
+}
+
+/// A trace of a line. Lines without room are left out, so that a trace never blocks a link.
+pub struct Trace {
+    form: TraceForm,
+    sent: WayReader,
+    came: WayReader,
 }
 
 impl Model for Trace {
@@ -61,26 +72,38 @@ impl Model for Trace {
 
     ghost Value = { TraceView };
 
-    ghost view = { λ t. record { spared = t.spared; sent = t.sent; came = t.came; now = t.now } };
+    ghost view = { λ t. record {
+      notation = t.form.notation;
+      spared = t.form.spared;
+      sent = t.sent;
+      came = t.came;
+      now = t.form.now;
+    } };
 }
 
 // Manual, since a derived `Drop` is expanded wherever a trace is dropped.
 impl Drop for Trace {
     fn drop(self) {
         let Trace {
-            spared: _,
+            form: _,
             sent: _sent,
             came: _came,
-            now: _,
         } = self;
     }
 }
 
 impl Trace {
-    /// Makes a trace of a line whose messages have at most this many bytes.
-    pub fn new(alloc: Global, most: u16, spared: usize) -> Result<Trace, ReaderRefusal>
+    /// Makes a trace in this notation of a line whose messages have at most `most` bytes, which
+    /// leaves `spared` bytes of room to other lines.
+    pub fn new(
+        alloc: Global,
+        notation: LogNotation,
+        most: u16,
+        spared: usize,
+    ) -> Result<Trace, ReaderRefusal>
         ensures sent { IfOk result (λ t. IsNew (min (max most 1) 16383) t.sent) }
         ensures came { IfOk result (λ t. IsNew (min (max most 1) 16383) t.came) }
+        ensures notation { IfOk result (λ t. t.notation ≡ notation) }
         ensures spared { IfOk result (λ t. t.spared ≡ spared) }
         ensures now { IfOk result (λ t. t.now ≡ 0) }
         ensures refused { IfErr result (λ refusal. refusal ≡ ReaderRefusal.Memory) }
@@ -88,12 +111,14 @@ impl Trace {
         let most = most.max(1).min(MAX_COUNT);
         match WayReader::new(alloc, most) {
             Ok(sent) => match WayReader::new(alloc, most) {
-                Ok(came) => Ok(Trace {
-                    spared,
-                    sent,
-                    came,
-                    now: 0,
-                }),
+                Ok(came) => {
+                    let form = TraceForm {
+                        notation,
+                        spared,
+                        now: 0,
+                    };
+                    Ok(Trace { form, sent, came })
+                }
                 Err(refusal) => Err(refusal),
             },
             Err(refusal) => Err(refusal),
@@ -137,9 +162,9 @@ impl Trace {
         match self.push(way, byte) {
             None => {}
             Some(completed) => {
-                put_skipped(self.spared, self.now, way, completed.discarded, errors);
+                self.form.put_skipped(way, completed.discarded, errors);
                 let data = self.data(way);
-                put_item(self.spared, self.now, way, &completed.item, data, errors);
+                self.form.put_item(way, &completed.item, data, errors);
             }
         }
     }
@@ -170,7 +195,7 @@ impl Trace {
         ensures { LogsDiscarded way least self.old self.new errors.old errors.new }
     {
         let discarded = self.discard(way, least);
-        put_skipped(self.spared, self.now, way, discarded, errors);
+        self.form.put_skipped(way, discarded, errors);
     }
 
     /// Returns the bytes discarded after the last frame in this direction, if there are at least
@@ -188,92 +213,131 @@ impl Trace {
     /// Notes the moment, and writes a line if the station's timer has expired.
     pub fn wake(&mut self, now: u64, has_expired: bool, errors: &mut Errors)
         ensures now { self.new ≡ record self.old { now = now } }
-        ensures lines { HasLines self.old.spared (timer_lines now has_expired)
-            errors.old errors.new }
+        ensures lines { HasLines self.old.notation self.old.spared
+            (timer_lines self.old.notation now has_expired) errors.old errors.new }
     {
-        self.now = now;
+        self.form.now = now;
         if has_expired {
-            put_timer(self.spared, now, errors);
+            self.form.put_timer(errors);
         }
     }
 }
 
-/// Begins a line of at most `needed` bytes, if there is room for it and the room left to other
-/// reports.
-fn begin_line(spared: usize, needed: usize, errors: &mut Errors) -> bool
-    ensures room { result ≡ has_room (room_beside spared needed) errors.old }
-    ensures line { HasLine (room_beside spared needed) [] errors.old errors.new }
-{
-    errors.begin_line(spared.saturating_add(needed).saturating_add(LAST_ROOM))
-}
-
-/// Writes the line of an expiry of the timer.
-fn put_timer(spared: usize, now: u64, errors: &mut Errors)
-    ensures { HasLine (room_beside spared NOTE) (timer_line now) errors.old errors.new }
-{
-    if begin_line(spared, NOTE, errors) {
-        write_timer(now, &mut errors.queue);
+impl TraceForm {
+    /// Begins a line of at most `needed` bytes, if there is room for it and the room left to other
+    /// lines.
+    fn begin(self, needed: usize, errors: &mut Errors) -> bool
+        ensures room { result ≡ has_room (room_beside self.spared needed) errors.old }
+        ensures begun { HasTraced self.notation (room_beside self.spared needed) []
+            errors.old errors.new }
+    {
+        let room = self.room_beside(needed);
+        match self.notation {
+            LogNotation::Json => errors.begin_object(room),
+            LogNotation::Plain | LogNotation::Ladder => errors.begin_line(room),
+        }
     }
-}
 
-fn write_timer(now: u64, text: &mut ByteQueue)
-    ensures { HandsOver (queued text.old) (queued text.new) (timer_line now) }
-{
-    let mut page = Page::new();
-    write_number(&mut page, text, now);
-    page.write(text, b" timer\n");
-    let _is_whole = page.flush(text);
-}
-
-/// Writes the line of discarded bytes, if there are any.
-fn put_skipped(spared: usize, now: u64, way: Way, skipped: Option<Skipped>, errors: &mut Errors)
-    ensures { HasLines spared (skipped_lines now way skipped) errors.old errors.new }
-{
-    match skipped {
-        None => {}
-        Some(skipped) => put_discarded(spared, now, way, skipped, errors),
+    /// Returns the room that a line of at most `needed` bytes needs, with the room left to others.
+    fn room_beside(self, needed: usize) -> usize
+        ensures { result ≡ room_beside self.spared needed }
+    {
+        self.spared.saturating_add(needed).saturating_add(LAST_ROOM)
     }
-}
 
-fn put_discarded(spared: usize, now: u64, way: Way, skipped: Skipped, errors: &mut Errors)
-    ensures { HasLine (room_beside spared NOTE) (skipped_line now way skipped)
-        errors.old errors.new }
-{
-    if begin_line(spared, NOTE, errors) {
-        write_discarded(now, way, skipped, &mut errors.queue);
+    /// Writes the line of an expiry of the timer.
+    fn put_timer(self, errors: &mut Errors)
+        ensures { HasTraced self.notation (room_beside self.spared NOTE)
+            (after_begun self.notation (timer_line self.notation self.now)) errors.old errors.new }
+    {
+        if self.begin(NOTE, errors) {
+            self.write_timer(&mut errors.queue);
+        }
     }
-}
 
-fn write_discarded(now: u64, way: Way, skipped: Skipped, text: &mut ByteQueue)
-    ensures { HandsOver (queued text.old) (queued text.new) (skipped_line now way skipped) }
-{
-    let mut page = Page::new();
-    write_skipped(
-        &mut page,
-        text,
-        LogNotation::Plain,
-        way.origin(now),
-        skipped,
-    );
-    let _is_whole = page.flush(text);
-}
-
-/// Writes the line of an item with its data.
-fn put_item(spared: usize, now: u64, way: Way, item: &Item, data: &[u8], errors: &mut Errors)
-    ensures { HasLine (room_beside spared (capped (2 * length «data».now + NOTE)))
-        (item_line now way (item.now, «data».now)) errors.old errors.new }
-{
-    if begin_line(spared, (2 * data.len()).saturating_add(NOTE), errors) {
-        write_line(now, way, item, data, &mut errors.queue);
+    fn write_timer(self, text: &mut ByteQueue)
+        ensures { HandsOver (queued text.old) (queued text.new)
+            (after_begun self.notation (timer_line self.notation self.now)) }
+    {
+        let mut page = Page::new();
+        match self.notation {
+            LogNotation::Json => {
+                page.write(text, b"\"ms\":");
+                write_number(&mut page, text, self.now);
+                page.write(text, b",\"item\":\"timer\"}\n");
+            }
+            LogNotation::Plain | LogNotation::Ladder => {
+                write_number(&mut page, text, self.now);
+                page.write(text, b" timer\n");
+            }
+        }
+        let _is_whole = page.flush(text);
     }
-}
 
-/// Writes the line of an item; that of a NAK has its reason in words.
-fn write_line(now: u64, way: Way, item: &Item, data: &[u8], text: &mut ByteQueue)
-    ensures { HandsOver (queued text.old) (queued text.new)
-        (item_line now way (item.now, «data».now)) }
-{
-    let mut page = Page::new();
-    write_reasoned(&mut page, text, way.origin(now), item, data);
-    let _is_whole = page.flush(text);
+    /// Writes the line of discarded bytes, if there are any.
+    fn put_skipped(self, way: Way, skipped: Option<Skipped>, errors: &mut Errors)
+        ensures { HasLines self.notation self.spared
+            (skipped_lines self.notation self.now way skipped) errors.old errors.new }
+    {
+        match skipped {
+            None => {}
+            Some(skipped) => self.put_discarded(way, skipped, errors),
+        }
+    }
+
+    fn put_discarded(self, way: Way, skipped: Skipped, errors: &mut Errors)
+        ensures { HasTraced self.notation (room_beside self.spared NOTE)
+            (after_begun self.notation (skipped_line self.notation self.now way skipped))
+            errors.old errors.new }
+    {
+        if self.begin(NOTE, errors) {
+            self.write_discarded(way, skipped, &mut errors.queue);
+        }
+    }
+
+    fn write_discarded(self, way: Way, skipped: Skipped, text: &mut ByteQueue)
+        ensures { HandsOver (queued text.old) (queued text.new)
+            (after_begun self.notation (skipped_line self.notation self.now way skipped)) }
+    {
+        let mut page = Page::new();
+        let origin = way.origin(self.now);
+        match self.notation {
+            LogNotation::Json => write_skipped_members(&mut page, text, origin, skipped),
+            LogNotation::Plain | LogNotation::Ladder => {
+                write_skipped(&mut page, text, self.notation, origin, skipped);
+            }
+        }
+        let _is_whole = page.flush(text);
+    }
+
+    /// Writes the line of an item with its data.
+    fn put_item(self, way: Way, item: &Item, data: &[u8], errors: &mut Errors)
+        ensures { HasTraced self.notation
+            (room_beside self.spared (capped (2 * length «data».now + NOTE)))
+            (after_begun self.notation
+            (item_line self.notation self.now way (item.now, «data».now)))
+            errors.old errors.new }
+    {
+        if self.begin((2 * data.len()).saturating_add(NOTE), errors) {
+            self.write_item(way, item, data, &mut errors.queue);
+        }
+    }
+
+    /// Writes the line of an item; in words that of a NAK has its reason.
+    fn write_item(self, way: Way, item: &Item, data: &[u8], text: &mut ByteQueue)
+        ensures { HandsOver (queued text.old) (queued text.new)
+            (after_begun self.notation
+            (item_line self.notation self.now way (item.now, «data».now))) }
+    {
+        let mut page = Page::new();
+        let origin = way.origin(self.now);
+        match self.notation {
+            LogNotation::Plain => write_reasoned(&mut page, text, origin, item, data),
+            LogNotation::Json => write_item_members(&mut page, text, origin, item, data),
+            LogNotation::Ladder => {
+                write_line(&mut page, text, LogNotation::Ladder, origin, item, data);
+            }
+        }
+        let _is_whole = page.flush(text);
+    }
 }

@@ -2,6 +2,7 @@
 //! clock of the day is set.
 use crate::sessions::{append, options};
 use ddcmp_io::Got;
+use ddcmp_log::LogNotation;
 use ddcmp_session::{
     Buffers, Devices, Down, LineKind, MessageForm, Options, Session, Transfer, Wanted, run_link,
 };
@@ -319,7 +320,7 @@ fn lines_are_opened_again(rt: HostRuntime) {
 #[test]
 fn messages_follow_their_notices(rt: HostRuntime) {
     let options = Options {
-        trace: true,
+        trace: Some(LogNotation::Plain),
         ..options(500, 1)
     };
     let plan = Plan {
@@ -346,7 +347,7 @@ fn messages_follow_their_notices(rt: HostRuntime) {
 fn output_is_not_read(rt: HostRuntime) {
     let options = Options {
         again: true,
-        trace: true,
+        trace: Some(LogNotation::Plain),
         ..options(500, 1)
     };
     let plan = Plan {
@@ -375,7 +376,7 @@ fn output_is_not_read(rt: HostRuntime) {
 #[test]
 fn output_is_closed(rt: HostRuntime) {
     let options = Options {
-        trace: true,
+        trace: Some(LogNotation::Plain),
         ..options(500, 1)
     };
     let plan = Plan {

@@ -47,7 +47,7 @@ fn options(timer_ms: u32, seconds: u32, report: u32) -> Options {
         awaits_end: true,
         again: true,
         counters: false,
-        trace: false,
+        trace: None,
         clock: false,
         json: false,
     }

@@ -34,7 +34,7 @@ fn options(stay: bool) -> Options {
         awaits_end: true,
         again: true,
         counters: false,
-        trace: false,
+        trace: None,
         clock: true,
         json: false,
     }

@@ -28,7 +28,7 @@ pub(crate) fn options(linger_ms: u32, seconds: u32) -> Options {
         awaits_end: true,
         again: false,
         counters: false,
-        trace: false,
+        trace: None,
         clock: false,
         json: false,
     }

@@ -22,7 +22,7 @@ const OPTIONS: Options = Options {
     awaits_end: true,
     again: false,
     counters: false,
-    trace: false,
+    trace: None,
     clock: false,
     json: false,
 };

@@ -1,5 +1,6 @@
 //! A session allocates all its memory when it is made: that fails, or the session does everything.
 use crate::calls::{connects, delivers, drops_errors, end_of, ends_input, ends_line, reads, wake};
+use ddcmp_log::LogNotation;
 use ddcmp_session::{EndReason, LineKind, MessageForm, Options, Session};
 use ddcmp_station::{Config, ConfigRefusal};
 use std::process::Abort;
@@ -25,7 +26,7 @@ fn options(form: MessageForm) -> Options {
         awaits_end: true,
         again: true,
         counters: true,
-        trace: true,
+        trace: Some(LogNotation::Plain),
         clock: true,
         json: true,
     }
