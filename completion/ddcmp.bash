@@ -30,7 +30,7 @@ _ddcmp() {
     link:--line) words='connect: listen: udp: device:' ;;
     link:*) words='--line --only --window --inbox --max --syn --restart --timer-ms --attempts --linger-ms --baud --seconds --report --binary --events --maintenance --stay --again --counters --trace --ladder --clock --json -h --help' ;;
     bridge:--seconds | bridge:--lose | bridge:--damage | bridge:--delay | bridge:--baud | bridge:--seed | bridge:--report | bridge:--save-first | bridge:--save-second) ;;
-    bridge:*) words='--seconds --again --lose --damage --delay --baud --seed --trace --ladder --json --report --clock --save-first --save-second -h --help' ;;
+    bridge:*) words='--seconds --again --lose --damage --delay --baud --seed --trace --ladder --json --report --clock --save-first --save-second --append -h --help' ;;
   esac
   mapfile -t COMPREPLY < <(compgen -W "$words" -- "$word")
   if [ -n "$files" ] && [[ $word != -* ]]; then

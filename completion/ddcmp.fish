@@ -97,4 +97,5 @@ complete -c ddcmp -n '__fish_seen_subcommand_from bridge' -l report -x -d 'Repor
 complete -c ddcmp -n '__fish_seen_subcommand_from bridge' -l clock -d 'Begin each line on standard error with the time of day (UTC)'
 complete -c ddcmp -n '__fish_seen_subcommand_from bridge' -l save-first -x -d 'Save all bytes that come over the first line in a new FILE'
 complete -c ddcmp -n '__fish_seen_subcommand_from bridge' -l save-second -x -d 'Save those that come over the second line'
+complete -c ddcmp -n '__fish_seen_subcommand_from bridge' -l append -d 'Append to these files; open them again once moved or removed'
 complete -c ddcmp -n '__fish_seen_subcommand_from bridge' -s h -l help -d 'Print help'

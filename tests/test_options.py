@@ -461,6 +461,7 @@ BRIDGE = {
                      lambda it: it["saved"].get("first") == b"".join(SENT)),
     "--save-second": (["--save-second", "FOLDER/second"],
                       lambda it: it["saved"].get("second") == b""),
+    "--append": (["--append"], lambda it: it["appends"]),
 }
 
 
@@ -506,7 +507,19 @@ def bridge_in(folder, chosen):
     assert "--seed" in chosen or got == by[1], "not the faults of seed 1"
     compare("bridge", chosen, BRIDGE, {"ended": ended, "got": got, "after": after, "took": took,
                                        "by": by, "saved": saved, "told": run.err.decode(),
-                                       "again": again}, unseen)
+                                       "again": again, "appends": appends(folder, lines[0], words)},
+            unseen)
+
+
+def appends(folder, line, words):
+    """Whether a bridge with these options goes on with a file that is there."""
+    with open(f"{folder}/old", "wb") as old:
+        old.write(b"old")
+    kept = [it for it in words if not it.startswith(("--save", folder))]
+    run = Bridge(f"connect:127.0.0.1:{free_port()}", line, *kept, "--save-first", old.name)
+    run.waits(lambda it: re.search("connection refused|file exists", it.err.decode()), SECONDS)
+    run.kill()
+    return b"connection refused" in run.err
 
 
 def received(peer):

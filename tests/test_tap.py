@@ -388,6 +388,20 @@ def test_output_closed():
     assert tap.ends() == (3, "ddcmp: write\n")
 
 
+def test_output_of_head():
+    """A log into `head -1` has its first line; the next one ends the tap, and both connections."""
+    head = subprocess.Popen(["head", "-1"], stdin=subprocess.PIPE, stdout=subprocess.PIPE)
+    tap = Tap(stdout=head.stdin)
+    head.stdin.close()
+    tap.caller.sendall(ack(0))
+    assert receives(tap.called, 8) == ack(0)
+    assert head.stdout.read().decode()[2:-1] == explained(ack(0))[0] and head.wait(LONG) == 0
+    tap.caller.sendall(ack(0))
+    assert tap.ended(LONG) == 3 and tap.err == b"ddcmp: write\n"
+    takes(tap.called)
+    takes(tap.caller)
+
+
 class Again(Process):
     """A tap that carries one caller after another, to a peer that listens at this port."""
 

@@ -173,6 +173,7 @@ abbrev pub bridge_app : App
 bridge_app =
     with_rule (with_rule (with_rule (with_rule (with_rule (with_rule (with_rule (with_rule
     (with_rule (with_rule (with_rule (with_rule (with_rule (with_rule (with_rule (with_rule
+    (with_rule
     (new_app (codes "bridge"))
     (required (place_rule (codes "first"))))
     (required (place_rule (codes "second"))))
@@ -189,7 +190,8 @@ bridge_app =
     (number_rule (codes "report") 0 MOST))
     (flag_rule (codes "clock")))
     (text_rule (codes "save-first")))
-    (text_rule (codes "save-second"))
+    (text_rule (codes "save-second")))
+    (flag_rule (codes "append"))
 
 -- `ddcmp`, which requires a command
 abbrev pub bare_app : App
@@ -438,6 +440,7 @@ pub record HasBridge (option text : Text → Option Text) (bridged : BridgeArgs)
       option_map (λ name. name.now) bridged.save_first ≡ text (codes "save-first")
   pub save_second :
       option_map (λ name. name.now) bridged.save_second ≡ text (codes "save-second")
+  pub append : HasFlag (option (codes "append")) bridged.append
 
 -- a command with its options: `option` has their values as parsed, `text` as written
 abbrev pub HasOptions : (option text : Text → Option Text) → Command → Type 0

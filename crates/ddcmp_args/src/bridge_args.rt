@@ -40,6 +40,8 @@ pub struct BridgeArgs<'a> {
     /// The files to save the bytes received over each line in, if any.
     pub save_first: Option<&'a str>,
     pub save_second: Option<&'a str>,
+    /// Whether they are appended to, and opened again after they were moved or removed.
+    pub append: bool,
 }
 
 /// `bridge`, with its description and help.
@@ -63,7 +65,7 @@ Output, at the end:
 };
 
 /// The options of a bridge.
-static BRIDGE_OPTIONS: [CommandOption; 16] = table! {
+static BRIDGE_OPTIONS: [CommandOption; 17] = table! {
     "first" required: Place("LINE"), "First line to open, as listen:127.0.0.1:7000";
     "second" required: Place("LINE"),
         "Second line, opened after the first; both listen from the start";
@@ -82,6 +84,7 @@ static BRIDGE_OPTIONS: [CommandOption; 16] = table! {
     "clock": Nothing, "Begin each line on standard error with the time of day (UTC)";
     "save-first": Text("FILE"), "Save all bytes that come over the first line in a new FILE";
     "save-second": Text("FILE"), "Save those that come over the second line";
+    "append": Nothing, "Append to these files; open them again once moved or removed";
 };
 
 /// Returns the parser of `bridge` with its options.
@@ -115,5 +118,6 @@ pub(crate) fn bridge_given<'a>(options: &ArgMatches<'a>) -> BridgeArgs<'a>
         clock: flag_given(options, "clock"),
         save_first: options.get_str("save-first"),
         save_second: options.get_str("save-second"),
+        append: flag_given(options, "append"),
     }
 }

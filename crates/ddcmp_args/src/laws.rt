@@ -137,8 +137,8 @@ pub fn link_is_asked()
 
 /// The words `ddcmp bridge` with two lines ask for the command that passes frames on between them.
 /// The names of the lines are used as they were written, and `--seconds`, `--lose`, `--damage`,
-/// `--delay` and `--seed` as numbers; `--again`, `--trace`, `--ladder` and `--json` are accepted,
-/// and the names of `--save-first` and `--save-second`.
+/// `--delay` and `--seed` as numbers; `--again`, `--trace`, `--ladder`, `--json` and `--append` are
+/// accepted, and the names of `--save-first` and `--save-second`.
 pub fn bridge_is_asked()
     ensures plain { IsAsked (codes "ddcmp" ∷ codes "bridge" ∷ codes "listen:127.0.0.1:7000"
         ∷ codes "device:/dev/ttyS0" ∷ []) (codes "bridge") }
@@ -165,6 +165,7 @@ pub fn bridge_is_asked()
         (codes "save-first") ≡ Some (codes "a") }
     ensures save_second { text_in (codes "ddcmp" ∷ codes "bridge" ∷ codes "--save-second=b" ∷ [])
         (codes "save-second") ≡ Some (codes "b") }
+    ensures append { IsSwitch (codes "bridge") (codes "--append") (codes "append") }
     ensures incomplete { takes program (codes "ddcmp" ∷ codes "bridge"
         ∷ codes "listen:127.0.0.1:7000" ∷ []) ≡ false }
 {}

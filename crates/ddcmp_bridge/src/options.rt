@@ -21,7 +21,10 @@ pub struct BridgeOptions<'a> {
     pub report: u32,
     /// Whether lines on standard error begin with the time of day.
     pub clock: bool,
-    /// The files to save the bytes received over each line in, if any. They must not exist.
+    /// The files to save the bytes received over each line in, if any.
     pub save_first: Option<&'a str>,
     pub save_second: Option<&'a str>,
+    /// Whether these are appended to, and opened again once their names lead elsewhere; if not,
+    /// they must not exist.
+    pub append: bool,
 }

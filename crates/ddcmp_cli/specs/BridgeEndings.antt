@@ -61,6 +61,7 @@ options_of bridged = record {
   clock = bridged.clock;
   save_first = bridged.save_first;
   save_second = bridged.save_second;
+  append = bridged.append;
 }
 
 -- Frames can't be printed in two notations.

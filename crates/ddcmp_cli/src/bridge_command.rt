@@ -94,6 +94,7 @@ pub(crate) fn bridge<S: LineSystem, W: Sink>(
         clock: args.clock,
         save_first: args.save_first,
         save_second: args.save_second,
+        append: args.append,
     };
     let ended = system.bridge(alloc, first, second, options);
     ending_of(alloc, ended, writer)

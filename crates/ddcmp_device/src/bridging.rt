@@ -1,7 +1,7 @@
 //! A bridge over two lines, from their opening to its end.
 use crate::live::Live;
 use crate::live_line::LiveLine;
-use crate::save::{Save, remove};
+use crate::save::{Made, Save, remove};
 use crate::system::System;
 use ddcmp_bridge::{Bridge, BridgeEnd, BridgeOptions, run_bridge};
 use ddcmp_ports::{Attempt, Buffers, Cause, LineName, OpenFault};
@@ -27,7 +27,17 @@ pub enum BridgeFault<'a> {
 #[derive(Drop)]
 struct SavedLine<'a> {
     name: LineName<'a>,
-    save: Option<Save>,
+    save: Option<Save<'a>>,
+}
+
+impl<'a> SavedLine<'a> {
+    /// Returns the file that was made for it, if one was.
+    fn made(&self) -> Option<Made<'a>> {
+        match &self.save {
+            Some(save) => save.made(),
+            None => None,
+        }
+    }
 }
 
 /// Passes the good frames received over each line on to the other, with the faults that are set,
@@ -41,38 +51,37 @@ pub fn bridge_lines<'a, S: System>(
 ) -> Result<BridgeEnd, BridgeFault<'a>> {
     let first = SavedLine {
         name: first,
-        save: save_in(system, options.save_first)?,
+        save: save_in(system, options.save_first, options.append)?,
     };
-    let second = match save_in(system, options.save_second) {
+    let first_made = first.made();
+    let second = match save_in(system, options.save_second, options.append) {
         Ok(save) => SavedLine { name: second, save },
         Err(fault) => {
-            remove(system, options.save_first);
+            remove(system, first_made);
             return Err(fault);
         }
     };
+    let second_made = second.made();
     let ended = bridge(system, alloc, first, second, &options);
     if ended.is_err() {
-        remove(system, options.save_first);
-        remove(system, options.save_second);
+        remove(system, first_made);
+        remove(system, second_made);
     }
     ended
 }
 
-/// Creates the file of this name, if one is requested.
+/// Opens the file of this name, if one is requested.
 fn save_in<'a, S: Files<File = File>>(
     files: &S,
     name: Option<&'a str>,
-) -> Result<Option<Save>, BridgeFault<'a>> {
+    appends: bool,
+) -> Result<Option<Save<'a>>, BridgeFault<'a>> {
     let Some(name) = name else {
         return Ok(None);
     };
-    match Save::new(files, name) {
+    match Save::new(files, name, appends) {
         Ok(save) => Ok(Some(save)),
-        Err(cause) => Err(BridgeFault::Open(OpenFault {
-            attempt: Attempt::Create,
-            name,
-            cause,
-        })),
+        Err(fault) => Err(BridgeFault::Open(fault)),
     }
 }
 

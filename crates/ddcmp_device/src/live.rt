@@ -170,8 +170,14 @@ impl<S: System> ports::System for Live<'_, S> {
 
     fn read(&mut self, port: Port, space: &mut [u8]) -> Transfer {
         match port {
-            Port::First => self.first_last.read(self.first.read(space)),
-            Port::Second => self.second_last.read(self.second.read(space)),
+            Port::First => {
+                let got = self.first.read(self.system, self.moment, space);
+                self.first_last.read(got)
+            }
+            Port::Second => {
+                let got = self.second.read(self.system, self.moment, space);
+                self.second_last.read(got)
+            }
             Port::Input | Port::Output | Port::Errors => Transfer::Nothing,
         }
     }

@@ -66,7 +66,7 @@ pub(crate) struct LiveLine<'a> {
     /// How many bytes of such frames were dropped.
     cut: u64,
     /// The file that all received bytes are saved in, if there is one.
-    save: Option<Save>,
+    save: Option<Save<'a>>,
     /// What is to be reported of the first datagram that wasn't the peer's.
     pub(crate) event: Option<LineEvent>,
     /// Whether there was such a datagram.
@@ -99,7 +99,7 @@ impl<'a> LiveLine<'a> {
         alloc: Global,
         name: LineName<'a>,
         baud: u32,
-        save: Option<Save>,
+        save: Option<Save<'a>>,
         tokens: (Token, Token),
     ) -> Option<LiveLine<'a>>
         ensures { IfSome result (λ made. plan made ≡ plan_of name.entry baud) }
@@ -168,7 +168,7 @@ impl<'a> LiveLine<'a> {
     }
 
     /// Reads received bytes, and saves them.
-    pub(crate) fn read(&mut self, space: &mut [u8]) -> Transfer
+    pub(crate) fn read<S: System>(&mut self, system: &S, now: u64, space: &mut [u8]) -> Transfer
         ensures { count_moved result ≤ length space.new }
     {
         if let Some(cause) = self.unsaved() {
@@ -190,18 +190,18 @@ impl<'a> LiveLine<'a> {
         match got {
             Transfer::Bytes(n) => {
                 let n = n.min(space.len());
-                self.take(&space[..n])
+                self.take(system, now, &space[..n])
             }
             got => got,
         }
     }
 
     /// Saves received bytes, and leaves out an incomplete frame at the end of a datagram.
-    fn take(&mut self, bytes: &[u8]) -> Transfer
+    fn take<S: System>(&mut self, system: &S, now: u64, bytes: &[u8]) -> Transfer
         ensures { count_moved result ≤ length bytes.now }
     {
         if let Some(save) = &mut self.save {
-            save.write(bytes);
+            save.write(system, now, bytes);
         }
         if !self.has_datagrams() {
             return Transfer::Bytes(bytes.len());

@@ -195,6 +195,7 @@ const OPTIONS: BridgeOptions<'static> = BridgeOptions {
     clock: false,
     save_first: None,
     save_second: None,
+    append: false,
 };
 
 /// All good frames of each line arrive at the other, in chunks, before the time is over.

@@ -21,5 +21,6 @@ returns c = record {
   json = (refl, refl);
   save_first = refl;
   save_second = refl;
+  append = (refl, refl);
   incomplete = refl;
 }
