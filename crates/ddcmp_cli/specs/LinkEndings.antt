@@ -36,12 +36,12 @@ LinkEnds (Err failure.Read) ending = ending ≡ Faulted Read
 LinkEnds (Err failure.Write) ending = ending ≡ Faulted Write
 LinkEnds (Err failure.Memory) ending = ending ≡ Faulted Memory
 
--- In maintenance mode there is no window, no reply timer and no restart: their options can't be
--- used.
+-- In maintenance mode there is no window, no reply timer, no restart and no acknowledgement: their
+-- options can't be used.
 abbrev pub means_nothing : LinkArgs → Bool
 means_nothing linked =
     let o = linked.options in o.maintenance
-    && (not (o.config.window == 7) || o.config.restart
+    && (not (o.config.window == 7) || o.config.restart || o.acknowledge_early
     || not (o.timer_ms == default_timer_of linked.line.now)
     || not (o.attempts == 4294967295))
 

@@ -26,7 +26,7 @@ const NO_LINE: &str =
 
 /// The usage error for options that can't be used in maintenance mode.
 const NOT_IN_MAINTENANCE: &str = "'--maintenance' can't be used with \
-    '--window', '--restart', '--timer-ms' or '--attempts'";
+    '--window', '--restart', '--timer-ms', '--attempts' or '--acknowledge-early'";
 
 /// The usage error for `--only` with a line that has no callers.
 const NO_CALLERS: &str = "'--only' is for a line listen:HOST:PORT";
@@ -82,6 +82,7 @@ fn means_nothing(args: &LinkArgs<'_>) -> bool
     options.maintenance
         && (options.config.window != Config::DEFAULT.window
             || options.config.restart
+            || options.acknowledge_early
             || options.timer_ms != default_timer(args.line)
             || options.attempts != DEFAULT_ATTEMPTS)
 }
