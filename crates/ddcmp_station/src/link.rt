@@ -66,7 +66,7 @@ impl Model for Link {
 
 impl Link {
     ghost use Rattle.std.specs.Prelude.{◌≡◌, ◌⊎◌, ◌≤◌, [], length, take, IsOk, IfOk, Some, None};
-    ghost use Rattle.std.specs.Prelude.{Err, option_map};
+    ghost use Rattle.std.specs.Prelude.{◌<◌, Err, option_map, slice_index_or};
     ghost use Rattle.ddcmp_frame.specs.Reader.{StandsFor};
     ghost use Rattle.ddcmp_window.specs.Store.{first_message, with_front};
     ghost use Rattle.ddcmp_core.specs.Table.{after_halt, answer_to_start};
@@ -267,6 +267,25 @@ impl Link {
                 Some(length)
             }
         }
+    }
+
+    /// Returns the number of received messages that weren't taken.
+    pub fn waiting(&self) -> u8
+        ensures { result ≡ length self.now.station.core.station.inbox }
+    {
+        self.station.waiting()
+    }
+
+    /// Copies received message `i`, counted from 0, to the front of `out`, which has room for `max`
+    /// bytes, and returns its length. Nothing is taken.
+    pub fn waiting_at(&self, i: u8, out: &mut [u8]) -> usize
+        requires there { i < length self.now.station.core.station.inbox }
+        requires longest { self.now.station.core.limits.longest ≤ length out.old }
+        ensures length { result ≡ length (slice_index_or self.now.station.core.station.inbox i []) }
+        ensures out { out.new
+            ≡ with_front (Some (slice_index_or self.now.station.core.station.inbox i [])) out.old }
+    {
+        self.station.waiting_at(i, out)
     }
 
     /// Returns how many messages were accepted and aren't acknowledged.

@@ -1,6 +1,6 @@
 //! The options of a session.
 ghost use Rattle.std.specs.Prelude.{◌≡◌, ◌<◌};
-ghost use Rattle.ddcmp_streams.specs.Options.{report_ms, speed_of};
+ghost use Rattle.ddcmp_streams.specs.Options.{report_ms, speed_of, takes_at_once};
 
 use crate::messages::MessageForm;
 use ddcmp_proto::Config;
@@ -29,6 +29,9 @@ pub struct Options {
     /// Whether messages are sent as maintenance messages, each once: none is numbered, acknowledged
     /// or retransmitted.
     pub maintenance: bool,
+    /// Whether a message is acknowledged when it is received, and not only once it was written to
+    /// standard output.
+    pub acknowledge_early: bool,
     /// Whether it continues once nothing of the input is left.
     pub stay: bool,
     /// Whether a run ends well only if its input was read to its end. An input without an end that
@@ -60,5 +63,14 @@ impl Options {
         ensures some { 0 < result }
     {
         if self.baud == 0 { 9600 } else { self.baud }
+    }
+
+    /// Returns whether a received message is taken as soon as its text is queued, and not only once
+    /// that was written: if messages are acknowledged early, and in maintenance mode, in which none
+    /// is acknowledged.
+    pub fn takes_at_once(&self) -> bool
+        ensures { result ≡ takes_at_once self.now }
+    {
+        self.maintenance || self.acknowledge_early
     }
 }
