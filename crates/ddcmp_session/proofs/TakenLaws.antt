@@ -2,7 +2,8 @@
 use Rattle.std.proofs.Common.{◌≡◌, ◌∙◌, ◌⊎◌, inl, inr, ap, sym, subst, refl, ℕ, zero, suc, ◌+◌, ◌-◌}
 use Rattle.std.proofs.Common.{◌<◌, ◌≤◌, Bool, true, false, cond, List, [], ◌∷◌, length, drop, arith}
 use Rattle.std.proofs.Common.{Some, None}
-use Rattle.std.specs.Prelude.{◌&&◌, ◌==◌, slice_index_or}
+use Rattle.std.specs.Prelude.{◌&&◌, ◌==◌, min, nat_le, slice_index_or}
+use Rattle.ddcmp_io.specs.Queue.{QueueView, after_taken}
 use Rattle.ddcmp_station.specs.Linking.{LinkView, after_taking}
 use Rattle.ddcmp_window.specs.Store.{first_message}
 use Rattle.ddcmp_streams.specs.Options.{takes_at_once}
@@ -35,15 +36,18 @@ unfolding after_takes
 takes-none d = refl
 
 pub takes-one-more : (n : ℕ) (d : LinkView)
-    → after_takes (suc n) d ≡ after_taking (after_takes n d)
+    → after_takes (n + 1) d ≡ after_taking (after_takes n d)
 unfolding after_takes
-takes-one-more n d = refl
+takes-one-more n d = ap (λ k. after_takes k d) more
+  where
+    more : n + 1 ≡ suc n
+    more = omega arith
 
 -- ---- the next message
 
 pub at-front : (messages : List (List ℕ)) (i : ℕ) → i < length messages
     → first_message (drop i messages) ≡ Some (slice_index_or messages i [])
-at-front [] i lt = cc
+at-front [] i lt = absurd (omega (arith, lt))
 at-front (message ∷ rest) zero lt = refl
 at-front (message ∷ rest) (suc i) lt = at-front rest i (omega (arith, lt))
 
@@ -51,7 +55,7 @@ pub none-left : (messages : List (List ℕ)) (i : ℕ) → length messages ≤ i
     → first_message (drop i messages) ≡ None
 none-left [] zero le = refl
 none-left [] (suc i) le = refl
-none-left (message ∷ rest) zero le = cc
+none-left (message ∷ rest) zero le = absurd (omega (arith, le))
 none-left (message ∷ rest) (suc i) le = none-left rest i (omega (arith, le))
 
 -- ---- what a call only delivers
@@ -93,6 +97,50 @@ only-took n old new is =
     (takes-out (taken_when_written n old) old.link)
     (takes-outbox (taken_when_written n old) old.link)
 
+-- ---- written output
+
+module _ (n : ℕ) (old mid : SessionView) (o : QueueView)
+    (is : o ≡ after_taken (min n (length old.output.waiting)) mid.output) where
+  abbrev most : ℕ
+  most = min n (length old.output.waiting)
+
+  of-all : (b : Bool) → b ≡ true → mid ≡ with_taken old.unwritten old
+      → record mid { output = o } ≡ record (with_taken (cond b old.unwritten 0) old) {
+        output = after_taken most old.output;
+      }
+  of-all b e m = λ i. record (m i) {
+    link = (ap (λ (s : SessionView). s.link) m ∙ ap (λ (c : Bool).
+    after_takes (cond c old.unwritten 0) old.link) (sym e)) i;
+    unwritten = (ap (λ (s : SessionView). s.unwritten) m ∙ ap (λ (c : Bool).
+    old.unwritten - cond c old.unwritten 0) (sym e)) i;
+    output = (is ∙ ap (λ (s : SessionView). after_taken most s.output) m) i;
+  }
+
+  pub output-all : length old.output.waiting ≤ n → mid ≡ with_taken old.unwritten old
+      → record mid { output = o } ≡ after_output most old
+  output-all fits m = of-all (nat_le (length old.output.waiting) most) all m
+    where
+      all : nat_le (length old.output.waiting) most ≡ true
+      all = grind (arith, fits)
+
+  pub output-part : n < length old.output.waiting → mid ≡ old
+      → record mid { output = o } ≡ after_output most old
+  output-part small m = λ i. record (m i) {
+    link =
+        (ap (λ (s : SessionView). s.link) m ∙ sym (takes-none old.link)
+        ∙ ap (λ (c : Bool). after_takes (cond c old.unwritten 0) old.link) (sym part)) i;
+    unwritten =
+        (ap (λ (s : SessionView). s.unwritten) m ∙ left
+        ∙ ap (λ (c : Bool). old.unwritten - cond c old.unwritten 0) (sym part)) i;
+    output = (is ∙ ap (λ (s : SessionView). after_taken most s.output) m) i;
+  }
+    where
+      part : nat_le (length old.output.waiting) most ≡ false
+      part = grind (arith, small)
+
+      left : old.unwritten ≡ old.unwritten - 0
+      left = omega arith
+
 -- ---- a queued message
 
 pub after-queueing : (takes : Bool) (old mid new : SessionView)
@@ -131,17 +179,17 @@ after-queueing takes old mid new by queued is =
 
 -- ---- an output that was drained
 
+none-counted : (n : ℕ) → n == 0 ≡ true → n ≡ 0
+none-counted n e = grind (arith, e)
+
 written-none : (waiting : List ℕ) → length waiting == 0 ≡ true → waiting ≡ []
 written-none [] e = refl
-written-none (byte ∷ rest) e = cc
+written-none (byte ∷ rest) e =
+    absurd (let z = none-counted (suc (length rest)) e in omega (arith, z))
 
 both-hold : (a b : Bool) → a && b ≡ true → (a ≡ true) × (b ≡ true)
 both-hold true b e = (refl, e)
 both-hold false b e = cc
-
-none-counted : (n : ℕ) → n == 0 ≡ true → n ≡ 0
-none-counted zero e = refl
-none-counted (suc n) e = cc
 
 pub written-out : (s : SessionView) → is_written s ≡ true → s.output.waiting ≡ []
 written-out s is =

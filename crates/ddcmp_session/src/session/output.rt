@@ -51,7 +51,7 @@ impl Session {
         }
         self.queue_mail();
         if self.options.takes_at_once() {
-            self.take(self.unwritten);
+            self.take_mail(self.unwritten);
         }
         true
     }
@@ -60,6 +60,7 @@ impl Session {
     fn queue_mail(&mut self)
         requires there { self.old.state.unwritten
             < length self.old.state.link.station.core.station.inbox }
+        requires few { self.old.state.unwritten < 255 }
         requires room { room_for_mail self.old.state ≤ self.old.state.output.room }
         ensures wrote { (message : List ℕ) × (next_mail self.old.state ≡ Some message)
             × Wrote (mail_text (form_of self.old.state.messages) message) self.old.state.output
@@ -74,7 +75,7 @@ impl Session {
     }
 
     /// Takes the first `n` received messages from the link.
-    fn take(&mut self, n: u8)
+    fn take_mail(&mut self, n: u8)
         requires { n ≤ self.old.state.unwritten }
         ensures state { self.new.state ≡ with_taken n self.old.state }
         ensures log { self.new.log ≡ self.old.log }
@@ -110,7 +111,7 @@ impl Session {
     {
         let queued = self.output.waiting().len();
         if queued <= n {
-            self.take(self.unwritten);
+            self.take_mail(self.unwritten);
         }
         self.output.took(n.min(queued));
     }

@@ -52,7 +52,7 @@ returns-then-not-deliver c = record {
       c.deliver.ensures.stays);
   idle = λ e.
       not-delivered c.args.session.now.state c.loop-message.session.state c.deliver.new.self.state
-      c.deliver.ensures.stays (c.loop-message.invariant.idle e);
+      c.if-not-deliver.ensures.stays (c.loop-message.invariant.idle e);
   log = c.deliver.ensures.log ∙ c.loop-message.invariant.log;
   left = λ e. c.if-not-deliver.ensures.left refl;
   emptied = λ e. c.if-not-deliver.ensures.emptied refl;

@@ -1,4 +1,4 @@
-use Rattle.std.proofs.Common.{◌≡◌, ◌∙◌, refl, subst, Result, Err}
+use Rattle.std.proofs.Common.{◌≡◌, ◌∙◌, refl, subst, sym, Result, Err}
 use Rattle.ddcmp_session.specs.declared.devices.DeviceFault.{DeviceFault}
 use Rattle.ddcmp_session.specs.declared.devices.DeviceFault.TheVariants.{Input}
 use Rattle.ddcmp_session.specs.Devices.{Reports}

@@ -1,6 +1,6 @@
 use Rattle.std.proofs.Common.{◌≡◌}
 use Rattle.ddcmp_session.specs.Session.{after_takes}
-use Rattle.ddcmp_session.proofs.session.Session.take.Given as goal
+use Rattle.ddcmp_session.proofs.session.Session.take_mail.Given as goal
 
 abbrev pub invariant-loop-message : goal.invariant-loop-message
 invariant-loop-message l = record {
@@ -8,5 +8,4 @@ invariant-loop-message l = record {
     link = after_takes l._message l.initial.self.state.link;
   };
   log : l.self.log ≡ l.initial.self.log;
-  count : l._message-end ≡ l.n;
 }
