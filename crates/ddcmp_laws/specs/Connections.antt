@@ -5,7 +5,7 @@ use Rattle.ddcmp_proto.specs.Config.{first_refusal}
 use Rattle.ddcmp_io.specs.declared.carrier.End.{End}
 use Rattle.ddcmp_io.specs.declared.carrier.End.TheVariants.{A, B}
 use Rattle.ddcmp_pair.specs.Prefix.{IsPrefixOf}
-use Rattle.ddcmp_pair.specs.Run.{new_pair, is_clean}
+use Rattle.ddcmp_pair.specs.Run.{is_clean}
 use Rattle.ddcmp_input.specs.InBinary.{in_binary}
 use Rattle.ddcmp_streams.specs.declared.messages.MessageForm.TheVariants as form
 use Rattle.ddcmp_session.specs.Session.{SessionView, is_delivered, lost_among, lost_at_end}
@@ -102,9 +102,9 @@ IsKeptAnew Promise = (first second : Made) (steps : List (End × SessionStep))
     → AreCalls steps (first_connections first second)
     → (run_station_calls
     (calls_of_links (link_steps steps (first_connections first second)) (links_made first second))
-    (new_pair first.options.config second.options.config)).honest ≡ true
+    (pair_made first second)).honest ≡ true
     → is_clean
     (run_station_calls
     (calls_of_links (link_steps steps (first_connections first second)) (links_made first second))
-    (new_pair first.options.config second.options.config)) ≡ true
+    (pair_made first second)) ≡ true
     → Promise first second (after_steps steps (first_connections first second))

@@ -1,5 +1,6 @@
 -- Two sessions on a line, as pipes: the output of one is the input of the other.
-use Rattle.std.specs.Prelude.{◌≡◌, ℕ, ◌+◌, ◌≤◌, Bool, true, false, List, [], ◌∷◌, ◌++◌, map, None}
+use Rattle.std.specs.Prelude.{◌≡◌, ℕ, ◌+◌, ◌≤◌, Bool, true, false, not, List, [], ◌∷◌, ◌++◌, drop}
+use Rattle.std.specs.Prelude.{map, None}
 use Rattle.std.specs.List.{All}
 use Rattle.ddcmp_frame.specs.Reader.{ReaderView}
 use Rattle.ddcmp_input.specs.InBinary.{in_binary, Fits}
@@ -7,14 +8,17 @@ use Rattle.ddcmp_proto.specs.Config.{first_refusal}
 use Rattle.ddcmp_io.specs.declared.carrier.End.{End}
 use Rattle.ddcmp_io.specs.declared.carrier.End.TheVariants.{A, B}
 use Rattle.ddcmp_pair.specs.Prefix.{IsPrefixOf}
-use Rattle.ddcmp_pair.specs.Run.{new_pair}
+use Rattle.ddcmp_pair.specs.Choices.{after_choice}
+use Rattle.ddcmp_pair.specs.Run.{PairState, new_pair}
 use Rattle.ddcmp_laws.specs.Prefix.{Begins}
 use Rattle.ddcmp_streams.specs.declared.messages.MessageForm.TheVariants as form
 use Rattle.ddcmp_io.specs.declared.line_kind.LineKind.{LineKind}
+use Rattle.ddcmp_streams.specs.Options.{takes_at_once}
 use Rattle.ddcmp_streams.specs.declared.options.Options.{Options}
-use Rattle.ddcmp_session.specs.Session.{SessionView, is_delivered, lost_among, lost_at_end}
+use Rattle.ddcmp_session.specs.Session.{SessionView, is_delivered, link_begun, lost_among}
+use Rattle.ddcmp_session.specs.Session.{lost_at_end}
 use Rattle.ddcmp_laws.specs.PairCalls.{run_calls}
-use Rattle.ddcmp_laws.specs.Links.{LinkStep, Links, new_links, count_if}
+use Rattle.ddcmp_laws.specs.Links.{LinkHistory, LinkStep, Links, new_history, count_if}
 use Rattle.ddcmp_laws.specs.LinkLines.{calls_of_steps}
 use Rattle.ddcmp_session.specs.Calls.{HasClosed, SessionCall, Connected, SessionDoes}
 use Rattle.ddcmp_session.specs.Calls.{SessionHistory}
@@ -39,10 +43,21 @@ pub record Sessions : Type 0 where
 abbrev pub new_sessions : Made → Made → Sessions
 new_sessions first second = record { a = session_of first; b = session_of second }
 
+-- a new link that acknowledges messages when they are taken, unless they are taken at once
+abbrev pub link_made_of : Made → LinkHistory
+link_made_of made = record (new_history made.options.config made.options.timer_ms made.line) {
+  link = link_begun made.options made.line;
+}
+
 abbrev pub links_made : Made → Made → Links
-links_made first second =
-    new_links first.options.config first.options.timer_ms first.line second.options.config
-    second.options.timer_ms second.line
+links_made first second = record { a = link_made_of first; b = link_made_of second }
+
+-- the stations of both
+abbrev pub pair_made : Made → Made → PairState
+pair_made first second =
+    after_choice B (not (takes_at_once second.options))
+    (after_choice A (not (takes_at_once first.options))
+    (new_pair first.options.config second.options.config))
 
 abbrev pub session_at : End → Sessions → SessionHistory
 session_at A p = p.a
@@ -98,7 +113,7 @@ IsKeptByPipes Promise = (first second : Made) (steps : List (End × SessionStep)
     → AreSessionCalls steps (new_sessions first second)
     → (run_calls
     (calls_of_steps (link_steps_at steps (new_sessions first second)) (links_made first second))
-    (new_pair first.options.config second.options.config)).honest ≡ true
+    (pair_made first second)).honest ≡ true
     → AreConnectedOnce steps
     → Promise first second (after_sessions steps (new_sessions first second))
 
@@ -126,7 +141,7 @@ IsKeptOverConnections Promise = (first second : Made) (steps : List (End × Sess
 
 -- the received messages that aren't delivered yet
 abbrev pub undelivered : SessionHistory → List (List ℕ)
-undelivered h = h.session.link.station.core.station.inbox
+undelivered h = drop h.session.unwritten h.session.link.station.core.station.inbox
 
 -- The messages that one session delivered are a prefix of those read from the other's input, each
 -- once and unchanged.

@@ -8,7 +8,7 @@ use Rattle.ddcmp_proto.specs.Config.{first_refusal}
 use Rattle.ddcmp_io.specs.declared.carrier.End.{End}
 use Rattle.ddcmp_io.specs.declared.carrier.End.TheVariants.{A, B}
 use Rattle.ddcmp_pair.specs.Prefix.{IsPrefixOf}
-use Rattle.ddcmp_pair.specs.Run.{new_pair, is_clean}
+use Rattle.ddcmp_pair.specs.Run.{is_clean}
 use Rattle.ddcmp_laws.specs.Prefix.{Begins}
 use Rattle.ddcmp_laws.specs.LinkRestarts.{calls_of_links}
 use Rattle.ddcmp_laws.specs.StationRuns.{run_station_calls}
@@ -20,7 +20,7 @@ use Rattle.ddcmp_session.specs.Devices.{Agrees, BuffersView}
 use Rattle.ddcmp_session.specs.Traffic.{Traffic}
 use Rattle.ddcmp_session.specs.Lines.{AllKeepOpen, Closes}
 use Rattle.ddcmp_laws.specs.Sessions.{messages_of, mail_in}
-use Rattle.ddcmp_laws.specs.Pipe.{Made, links_made, undelivered}
+use Rattle.ddcmp_laws.specs.Pipe.{Made, links_made, pair_made, undelivered}
 use Rattle.ddcmp_laws.specs.Connections.{first_connection, first_connections, link_steps}
 use Rattle.ddcmp_laws.specs.Connections.{delivered_since}
 use Rattle.ddcmp_laws.specs.Loops.{messages_given}
@@ -53,12 +53,12 @@ pub record RanTogether (a b : Ran) : Type 0 where
   pub honest : (run_station_calls
       (calls_of_links (link_steps steps (first_connections a.made b.made))
       (links_made a.made b.made))
-      (new_pair a.made.options.config b.made.options.config)).honest ≡ true
+      (pair_made a.made b.made)).honest ≡ true
   pub clean : is_clean
       (run_station_calls
       (calls_of_links (link_steps steps (first_connections a.made b.made))
       (links_made a.made b.made))
-      (new_pair a.made.options.config b.made.options.config)) ≡ true
+      (pair_made a.made b.made)) ≡ true
 
 -- A promise about two runs is kept, for new sessions of any sizes in range, whatever their calls.
 abbrev pub IsKeptByRuns : (Ran → Ran → Type 0) → Type 0

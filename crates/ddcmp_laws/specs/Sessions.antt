@@ -4,13 +4,13 @@ use Rattle.std.specs.Prelude.{if◌then◌else◌, drop, length, map, nat_lt, op
 use Rattle.ddcmp_input.specs.declared.entry.Entry.{Entry}
 use Rattle.ddcmp_input.specs.declared.entry.Entry.TheVariants.{Message}
 use Rattle.ddcmp_input.specs.Told.{Told, Got, Refused}
-use Rattle.ddcmp_station.specs.Linking.{LinkView, after_frame}
+use Rattle.ddcmp_station.specs.Linking.{LinkView, after_frame, after_taking}
 use Rattle.ddcmp_streams.specs.declared.messages.MessageForm.{MessageForm}
 use Rattle.ddcmp_streams.specs.declared.options.Options.{Options}
 use Rattle.ddcmp_streams.specs.declared.messages.MessageForm.TheVariants.{Digits, Binary, Events}
 use Rattle.ddcmp_streams.specs.Messages.{message_in, after_input, entries_of_input, after_last}
 use Rattle.ddcmp_streams.specs.Messages.{entry_of_last}
-use Rattle.ddcmp_session.specs.Session.{SessionView, takes_end}
+use Rattle.ddcmp_session.specs.Session.{SessionView, takes_end, taken_at_once, taken_when_written}
 use Rattle.ddcmp_session.specs.Text.{mail_text, notice_text, lost_text, dropped_by, lost_words, notice_words}
 use Rattle.ddcmp_laws.specs.Links.{LinkCall, BeginsAnew, Halts, Wakes, Offers, FillsOne}
 use Rattle.ddcmp_laws.specs.Links.{IsSent, Feeds, Takes, LinkStep, LinkHistory}
@@ -101,6 +101,10 @@ unfoldable pub frames_put : ℕ → LinkView → List LinkStep
 frames_put zero d = []
 frames_put (suc n) d = link_step FillsOne (after_frame d) ∷ frames_put n (after_frame d)
 
+unfoldable pub takes_put : ℕ → LinkView → List LinkStep
+takes_put zero d = []
+takes_put (suc n) d = link_step Takes (after_taking d) ∷ takes_put n (after_taking d)
+
 -- the calls of the link that a call of a session makes; the link is `new` after them
 abbrev pub link_steps_of : SessionCall → SessionView → LinkView → List LinkStep
 link_steps_of (InputRead used) s new =
@@ -117,9 +121,9 @@ link_steps_of (Filled frames) s new = frames_put frames s.link
 link_steps_of (LineTook n) s new = link_step (IsSent n) new ∷ []
 link_steps_of (TimedOut now) s new = link_step (Wakes now) new ∷ []
 link_steps_of TimePassed s new = []
-link_steps_of (Delivered true) s new = link_step Takes new ∷ []
+link_steps_of (Delivered true) s new = takes_put (taken_at_once s) s.link
 link_steps_of (Delivered false) s new = []
-link_steps_of (OutputTook n) s new = []
+link_steps_of (OutputTook n) s new = takes_put (taken_when_written n s) s.link
 link_steps_of (Closed left is_at_end is_reported) s new = link_step Halts new ∷ []
 
 unfoldable pub link_steps_in : List SessionStep → SessionHistory → List LinkStep
@@ -129,12 +133,13 @@ link_steps_in (step ∷ rest) h =
     ++ link_steps_in rest (after_session_step step h)
 
 -- The history of a session and that of its link agree: the same bytes of the line were used and
--- written; the link accepted the messages of the input, and the messages taken from it were
--- delivered.
+-- written; the link accepted the messages of the input, and the messages that were delivered are
+-- those taken from it, and after them the first of its inbox, whose text isn't written yet.
 pub record IsOfLink (form : MessageForm) (max : ℕ) (h : SessionHistory)
     (l : LinkHistory) : Type 0 where
   pub link : l.link ≡ h.session.link
   pub used : l.used ≡ h.used
   pub gone : l.gone ≡ h.gone
   pub accepted : l.accepted ≡ messages_of form max h.input
-  pub taken : l.taken ≡ mail_in h.shown
+  pub taken : l.taken ++ take h.session.unwritten h.session.link.station.core.station.inbox
+      ≡ mail_in h.shown

@@ -1,7 +1,7 @@
 -- What draining an output leaves as it is.
 use Rattle.std.proofs.Common.{◌≡◌, ◌∙◌, ap, sym, refl, Bool, true, false, cond, length}
 use Rattle.std.specs.Prelude.{◌&&◌, ◌==◌}
-use Rattle.ddcmp_station.specs.Linking.{LinkView, OutboxView, after_taking}
+use Rattle.ddcmp_station.specs.Linking.{LinkView, OutboxView}
 use Rattle.ddcmp_session.specs.Course.{lost_more}
 use Rattle.ddcmp_session.specs.Devices.{OnlyDelivers}
 use Rattle.ddcmp_session.specs.Session.{SessionView, lost_by_end, lost_in}
@@ -16,33 +16,12 @@ only-then {a} {b} {c} p q = record {
   outbox = q.outbox ∙ p.outbox;
   stays =
       q.stays
-      ∙ ap {B = SessionView} (λ (x : SessionView). record x { link = c.link; output = c.output })
-      p.stays;
+      ∙ ap {B = SessionView} (λ (x : SessionView). record x {
+        link = c.link;
+        output = c.output;
+        unwritten = c.unwritten;
+      }) p.stays;
 }
-
-pub only-delivered : (has : Bool) (old new : SessionView)
-    → new.link ≡ cond has (after_taking old.link) old.link
-    → new ≡ record old { link = new.link; output = new.output } → OnlyDelivers old new
-only-delivered true old new link stays = record {
-  out = ap (λ (d : LinkView). d.station.core.station.out) link;
-  outbox = ap (λ (d : LinkView). d.outbox) link;
-  stays = stays;
-}
-only-delivered false old new link stays = record {
-  out = ap (λ (d : LinkView). d.station.core.station.out) link;
-  outbox = ap (λ (d : LinkView). d.outbox) link;
-  stays = stays;
-}
-
-pub only-wrote : (old new : SessionView) → new ≡ record old { output = new.output }
-    → OnlyDelivers old new
-only-wrote old new is =
-    let link = same-at (λ x. x.link) new (record old { output = new.output }) is in
-    record {
-      out = ap (λ (d : LinkView). d.station.core.station.out) link;
-      outbox = ap (λ (d : LinkView). d.outbox) link;
-      stays = is ∙ ap (λ d. record old { link = d; output = new.output }) (sym link);
-    }
 
 lost-same : (m : Bool) (d e : LinkView) → d.station.core.station.out ≡ e.station.core.station.out
     → d.outbox ≡ e.outbox → lost_in m d ≡ lost_in m e
@@ -57,7 +36,11 @@ pub counted-once : (s0 s1 s2 s3 : SessionView) → OnlyDelivers s0 s1
     → s2.course ≡ lost_more (lost_by_end s1) s1.course → OnlyDelivers s2 s3
     → s3.course ≡ lost_more (lost_by_end s0) s0.course
 counted-once s0 s1 s2 s3 p is q =
-    same-at (λ x. x.course) s3 (record s2 { link = s3.link; output = s3.output }) q.stays
+    same-at (λ x. x.course) s3 (record s2 {
+      link = s3.link;
+      output = s3.output;
+      unwritten = s3.unwritten;
+    }) q.stays
     ∙ is
     ∙ ap (λ b. lost_more (cond b (lost_in s1.options.maintenance s1.link) 0) s1.course)
     (same-at (λ x. x.has_line) s1 to p.stays)
@@ -69,4 +52,4 @@ counted-once s0 s1 s2 s3 p is q =
     (same-at (λ x. x.course) s1 to p.stays)
   where
     to : SessionView
-    to = record s0 { link = s1.link; output = s1.output }
+    to = record s0 { link = s1.link; output = s1.output; unwritten = s1.unwritten }

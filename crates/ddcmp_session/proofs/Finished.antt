@@ -7,13 +7,11 @@ use Rattle.std.proofs.Common.{length, take}
 use Rattle.ddcmp_frame.specs.Reader.{StandsFor}
 use Rattle.std.proofs.Common.{min}
 use Rattle.std.proofs.lemmas.List.{take_min}
-use Rattle.ddcmp_io.specs.Queue.{after_taken}
-use Rattle.ddcmp_station.specs.Linking.{after_taking}
-use Rattle.ddcmp_window.specs.Store.{first_message}
 use Rattle.ddcmp_session.specs.declared.devices.DeviceFault.{DeviceFault}
 use Rattle.ddcmp_session.specs.declared.devices.DeviceFault.TheVariants.{Input}
 use Rattle.ddcmp_io.specs.declared.transfer.Transfer.TheVariants.{Bytes}
-use Rattle.ddcmp_session.specs.Session.{SessionView, form_of}
+use Rattle.ddcmp_session.specs.Session.{SessionView, after_output, after_queued, form_of}
+use Rattle.ddcmp_session.specs.Session.{next_mail}
 use Rattle.ddcmp_session.specs.Calls.{Closed, Delivered, OutputTook, SessionStep, SessionHistory}
 use Rattle.ddcmp_session.specs.Calls.{after_session_step, after_session_steps, written_in}
 use Rattle.ddcmp_session.specs.Connections.{after_all}
@@ -78,35 +76,26 @@ none-taken t = λ i. record t {
 }
 
 pub drains-delivered : {known : Option Traffic} (has : Bool) (old new : SessionView)
-    → new.link ≡ cond has (after_taking old.link) old.link
-    → (has ≡ true → (message : List ℕ)
-    × (first_message old.link.station.core.station.inbox ≡ Some message)
+    → (has ≡ true → (message : List ℕ) × (next_mail old ≡ Some message)
     × Wrote (mail_text (form_of old.messages) message) old.output new.output)
     → (has ≡ false → Wrote [] old.output new.output)
-    → new ≡ record old { link = new.link; output = new.output }
+    → new ≡ record (cond has (after_queued old) old) { output = new.output }
     → Drains old known new known
 unfolding taken_in
-drains-delivered true old new link wrote waits stays = record {
+drains-delivered true old new wrote waits stays = record {
   steps = record { call = Delivered true; session = new } ∷ [];
-  calls = (tt, record { link = link; wrote = wrote refl; stays = stays }, refl);
+  calls = (tt, record { wrote = wrote refl; stays = stays }, refl);
   traffic = λ t is. ([], is ∙ ap (λ x. Some x) (none-taken t));
 }
-drains-delivered false old new link wrote waits stays = record {
+drains-delivered false old new wrote waits stays = record {
   steps = record { call = Delivered false; session = new } ∷ [];
-  calls = (
-    tt,
-    record {
-      wrote = waits refl;
-      stays = stays ∙ ap (λ d. record old { link = d; output = new.output }) link;
-    },
-    refl,
-  );
+  calls = (tt, record { wrote = waits refl; stays = stays }, refl);
   traffic = λ t is. ([], is ∙ ap (λ x. Some x) (none-taken t));
 }
 
 pub drains-took : {k k' : Option Traffic} (old new : SessionView) (n : ℕ) (bytes : List ℕ)
     → bytes ≡ old.output.waiting → Becomes k k' (after_written (Bytes n) bytes)
-    → new ≡ record old { output = after_taken (min n (length old.output.waiting)) old.output }
+    → new ≡ after_output (min n (length old.output.waiting)) old
     → Drains old k new k'
 unfolding taken_in
 drains-took {k} {k'} old new n bytes same becomes does =

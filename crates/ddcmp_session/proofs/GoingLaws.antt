@@ -8,8 +8,7 @@ use Rattle.ddcmp_session.specs.Devices.{HasReported, IsOfRun, AreOfRun, Reports}
 use Rattle.ddcmp_session.specs.Traffic.{Becomes, Traffic, after_fault, after_line_read, after_wait}
 use Rattle.std.specs.Prelude.{if◌then◌else◌, ◌||◌}
 use Rattle.ddcmp_frame.specs.Reader.{StandsFor}
-use Rattle.ddcmp_station.specs.Linking.{LinkView, after_taking, after_frames}
-use Rattle.ddcmp_window.specs.Store.{first_message}
+use Rattle.ddcmp_station.specs.Linking.{after_frames}
 use Rattle.ddcmp_session.specs.Text.{Wrote, mail_text}
 use Rattle.ddcmp_session.proofs.FrameLaws.{PutsFrames, frames-line}
 use Rattle.ddcmp_io.specs.declared.transfer.Down.{Down}
@@ -18,8 +17,8 @@ use Rattle.ddcmp_io.specs.declared.transfer.Transfer.{Transfer}
 use Rattle.ddcmp_io.specs.declared.transfer.Transfer.TheVariants.{Bytes, Nothing, Interrupted}
 use Rattle.ddcmp_io.specs.declared.transfer.Transfer.TheVariants.{Ended}
 use Rattle.ddcmp_session.specs.declared.devices.DeviceFault.TheVariants.{Line, Input}
-use Rattle.ddcmp_session.specs.Session.{SessionView, form_of}
-use Rattle.ddcmp_session.specs.Session.{IsFilled, after_timeout}
+use Rattle.ddcmp_session.specs.Session.{SessionView, after_queued, form_of, next_mail}
+use Rattle.ddcmp_session.specs.Session.{IsFilled, after_timeout, taken_at_once}
 use Rattle.ddcmp_session.specs.Calls.{SessionCall}
 use Rattle.ddcmp_session.specs.Calls.{Delivered, Filled, TimedOut}
 use Rattle.ddcmp_session.specs.Calls.{SessionDoes}
@@ -31,6 +30,7 @@ use Rattle.ddcmp_session.specs.Devices.{end_of}
 use Rattle.ddcmp_session.specs.Traffic.{LineLog}
 use Rattle.ddcmp_session.specs.Orders.{Follows, log_after, log_over}
 use Rattle.ddcmp_session.proofs.OrderLaws.{log-then}
+use Rattle.ddcmp_session.proofs.TakenLaws.{takes-line}
 
 -- ---- histories, one after another
 
@@ -215,37 +215,30 @@ same-at f a b e = ap f e
 
 -- ---- other calls
 
--- `deliver` took a message and wrote it, or did nothing
+-- `deliver` queued the text of a message, or did nothing
 pub delivered-goes : {held : BuffersView} {known : Option Traffic} (has : Bool)
-    (old new : SessionView) → new.link ≡ (if has then after_taking old.link else old.link)
-    → (has ≡ true → (message : List ℕ)
-    × (first_message old.link.station.core.station.inbox ≡ Some message)
+    (old new : SessionView)
+    → (has ≡ true → (message : List ℕ) × (next_mail old ≡ Some message)
     × Wrote (mail_text (form_of old.messages) message) old.output new.output)
     → (has ≡ false → Wrote [] old.output new.output)
-    → new ≡ record old { link = new.link; output = new.output }
+    → new ≡ record (cond has (after_queued old) old) { output = new.output }
     → GoesOn held old known held new known
-delivered-goes {held} {known} true old new link wrote waits stays =
+delivered-goes {held} {known} true old new wrote waits stays =
+    let now-is = record (after_queued old) { output = new.output } in
     quiet (Delivered true) held known old new tt
-    (λ text. record { link = link; wrote = wrote refl; stays = stays }) refl refl refl refl
-    refl
-    (same-at (λ x. form_of x.messages) new (record old { link = new.link; output = new.output })
-    stays)
-    (λ e. same-at (λ x. x.is_read) new (record old { link = new.link; output = new.output }) stays
-    ∙ e)
-    (ap (λ (d : LinkView). d.station.line) link)
+    (λ text. record { wrote = wrote refl; stays = stays }) refl refl refl refl
+    refl (same-at (λ x. form_of x.messages) new now-is stays)
+    (λ e. same-at (λ x. x.is_read) new now-is stays ∙ e)
+    (same-at (λ x. x.link.station.line) new now-is stays
+    ∙ takes-line (taken_at_once old) old.link)
     (λ s log. refl)
-delivered-goes {held} {known} false old new link wrote waits stays =
+delivered-goes {held} {known} false old new wrote waits stays =
+    let now-is = record old { output = new.output } in
     quiet (Delivered false) held known old new tt
-    (λ text. record {
-      wrote = waits refl;
-      stays = stays ∙ ap (λ d. record old { link = d; output = new.output }) link;
-    }) refl refl refl refl
-    refl
-    (same-at (λ x. form_of x.messages) new (record old { link = new.link; output = new.output })
-    stays)
-    (λ e. same-at (λ x. x.is_read) new (record old { link = new.link; output = new.output }) stays
-    ∙ e)
-    (ap (λ (d : LinkView). d.station.line) link)
+    (λ text. record { wrote = waits refl; stays = stays }) refl refl refl refl
+    refl (same-at (λ x. form_of x.messages) new now-is stays)
+    (λ e. same-at (λ x. x.is_read) new now-is stays ∙ e)
+    (same-at (λ x. x.link.station.line) new now-is stays)
     (λ s log. refl)
 
 -- frames were put after what waits for the line
@@ -381,13 +374,11 @@ reports-then p r = λ h t now is was a known.
 
 -- ---- nothing moved
 
-pub not-delivered : (first old new : SessionView) → new.link ≡ old.link
-    → new ≡ record old { link = new.link; output = new.output }
+pub not-delivered : (first old new : SessionView)
+    → new ≡ record old { output = new.output }
     → old ≡ record first { output = old.output } → new ≡ record first { output = new.output }
-not-delivered first old new link stays is =
-    stays
-    ∙ ap (λ d. record old { link = d; output = new.output }) link
-    ∙ ap (λ (s : SessionView). record s { output = new.output }) is
+not-delivered first old new stays is =
+    stays ∙ ap (λ (s : SessionView). record s { output = new.output }) is
 
 pub in-turn : (first old new : SessionView) → old ≡ record first { output = old.output }
     → new ≡ record old { output = new.output } → new ≡ record first { output = new.output }

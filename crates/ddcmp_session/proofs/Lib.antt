@@ -20,4 +20,5 @@ pub mod OrderLaws
 pub mod PauseLaws
 pub mod RestLaws
 pub mod StopLaws
+pub mod TakenLaws
 pub mod TextLaws

@@ -4,13 +4,12 @@ use Rattle.std.proofs.Common.{List, [], ◌++◌, length, take, drop, min, Optio
 use Rattle.std.proofs.Common.{append_assoc, append-nil}
 use Rattle.std.proofs.lemmas.List.{take-append-drop, take_min}
 use Rattle.ddcmp_frame.specs.Reader.{StandsFor}
-use Rattle.ddcmp_io.specs.Queue.{after_taken}
 use Rattle.ddcmp_station.specs.Linking.{after_sent}
 use Rattle.ddcmp_io.specs.declared.transfer.Transfer.{Transfer}
 use Rattle.ddcmp_io.specs.declared.transfer.Transfer.TheVariants.{Bytes, Nothing, Interrupted}
 use Rattle.ddcmp_io.specs.declared.transfer.Transfer.TheVariants.{Ended}
 use Rattle.ddcmp_session.specs.declared.devices.DeviceFault.TheVariants.{Line}
-use Rattle.ddcmp_session.specs.Session.{SessionView, form_of}
+use Rattle.ddcmp_session.specs.Session.{SessionView, after_output, form_of, taken_when_written}
 use Rattle.ddcmp_session.specs.Calls.{Received, LineTook}
 use Rattle.ddcmp_session.specs.Calls.{OutputTook, HasReceived}
 use Rattle.ddcmp_session.specs.Calls.{gone_in}
@@ -23,6 +22,7 @@ use Rattle.ddcmp_session.specs.Orders.{Follows}
 use Rattle.ddcmp_session.proofs.OrderLaws.{follows-came, follows-used, follows-wrote}
 use Rattle.ddcmp_session.proofs.OrderLaws.{received-none, received-one, sent-none, sent-one}
 use Rattle.ddcmp_session.proofs.GoingLaws.{end-is, faulted, idles, nothing-went, one-went, same-at}
+use Rattle.ddcmp_session.proofs.TakenLaws.{takes-line}
 
 -- the line returned bytes
 bytes-came : {held : BuffersView} {s : SessionView} {k k' : Option Traffic} (came : List ℕ)
@@ -187,17 +187,16 @@ line-took {held} {k} {k'} old new n bytes same becomes does =
 -- the output took bytes, and the session was told so
 output-told : {held : BuffersView} {k k' : Option Traffic} (old new : SessionView) (n : ℕ)
     → Becomes k k' (after_written (Bytes n) old.output.waiting)
-    → new ≡ record old { output = after_taken (min n (length old.output.waiting)) old.output }
+    → new ≡ after_output (min n (length old.output.waiting)) old
     → GoesOn held old k held new k'
 output-told {held} {k} {k'} old new n becomes does = λ h t is was a.
     let m = min n (length old.output.waiting) in
-    let now-is = record old { output = after_taken m old.output } in (
+    let now-is = after_output m old in (
       after_written (Bytes n) old.output.waiting t,
       becomes t was,
       one-went (OutputTook m) h new held (after_written (Bytes n) old.output.waiting t)
           held.received t.log tt
-          (subst (λ (x : SessionView). new ≡ record x { output = after_taken m x.output })
-          (sym is) does)
+          (subst (λ (x : SessionView). new ≡ after_output m x) (sym is) does)
           (record {
             read =
                 ap (λ xs. t.read ++ xs)
@@ -224,7 +223,8 @@ output-told {held} {k} {k'} old new n becomes does = λ h t is was a.
             stands =
                 subst (λ l. StandsFor l (h.used ++ []))
                 (same-at (λ x. x.link.station.line) h.session old is
-                ∙ sym (same-at (λ x. x.link.station.line) new now-is does))
+                ∙ sym (same-at (λ x. x.link.station.line) new now-is does
+                ∙ takes-line (taken_when_written m old) old.link))
                 (subst (StandsFor h.session.link.station.line) (sym (append-nil h.used))
                 a.stands);
           }) (λ own f. f),
@@ -232,7 +232,7 @@ output-told {held} {k} {k'} old new n becomes does = λ h t is was a.
 
 pub output-took : {held : BuffersView} {k k' : Option Traffic} (old new : SessionView) (n : ℕ)
     (bytes : List ℕ) → bytes ≡ old.output.waiting → Becomes k k' (after_written (Bytes n) bytes)
-    → new ≡ record old { output = after_taken (min n (length old.output.waiting)) old.output }
+    → new ≡ after_output (min n (length old.output.waiting)) old
     → GoesOn held old k held new k'
 output-took {held} {k} {k'} old new n bytes same becomes does =
     output-told old new n (subst (λ xs. Becomes k k' (after_written (Bytes n) xs)) same becomes)

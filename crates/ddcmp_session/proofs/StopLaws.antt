@@ -16,7 +16,7 @@ use Rattle.ddcmp_session.specs.declared.session.EndReason.TheVariants as end_of
 use Rattle.ddcmp_session.specs.Devices.{BuffersView, HasReported, KeepsFaults}
 use Rattle.ddcmp_session.specs.Traffic.{Becomes, Traffic, after_fault, after_read, after_wait}
 use Rattle.ddcmp_session.specs.Lines.{GoesOver, MayEndWell, ReportsOver}
-use Rattle.ddcmp_session.specs.Session.{SessionView, after_time, is_delivered}
+use Rattle.ddcmp_session.specs.Session.{SessionView, after_time, is_awaited, is_delivered}
 use Rattle.ddcmp_session.specs.Stopping.{IfNotOpened, IsLeft, IsTimeOver, Judges}
 use Rattle.ddcmp_session.specs.Stopping.{LeavesLine, MayBeWell, MayStop, Stops}
 use Rattle.ddcmp_session.specs.Stopping.{StopsToEnd}
@@ -53,30 +53,32 @@ ends-done false true given_up false e = cc
 ends-done false false true false e = cc
 ends-done false false false false e = cc
 
-spent-or-ran : (delivered read ran line goes_on quiet : Bool)
-    → ((delivered || (read && (ran && not line))) && not goes_on) && quiet ≡ true
+spent-or-ran : (delivered read ran line ends quiet : Bool)
+    → ((delivered || (read && (ran && not line))) && ends) && quiet ≡ true
     → (delivered ≡ true) ⊎ (ran ≡ true)
-spent-or-ran true read ran line goes_on quiet e = inl refl
-spent-or-ran false read true line goes_on quiet e = inr refl
-spent-or-ran false true false line goes_on quiet e = inl e
-spent-or-ran false false false line goes_on quiet e = inl e
+spent-or-ran true read ran line ends quiet e = inl refl
+spent-or-ran false read true line ends quiet e = inr refl
+spent-or-ran false true false line ends quiet e = inl e
+spent-or-ran false false false line ends quiet e = inl e
 
 pub may-at-end : (s : SessionView) → end s ≡ Some end_of.Done → MayEndWell s
 may-at-end s e =
-    spent-or-ran (is_delivered s) s.is_read s.course.has_run s.has_line (stays s)
+    spent-or-ran (is_delivered s) s.is_read s.course.has_run s.has_line
+    (not (is_awaited s) && not (stays s))
     (nat_le (lingers_until s) s.course.moment)
     (ends-done (nat_le (run_ends_at s) s.course.moment) (s.has_line && s.course.leaves)
     (s.has_line && is_given_up s) _ e)
 
-spent-was-read : (read delivered ran line goes_on quiet : Bool)
-    → (((read && delivered) || (read && (ran && not line))) && not goes_on) && quiet ≡ true
+spent-was-read : (read delivered ran line ends quiet : Bool)
+    → (((read && delivered) || (read && (ran && not line))) && ends) && quiet ≡ true
     → read ≡ true
-spent-was-read true delivered ran line goes_on quiet e = refl
-spent-was-read false delivered ran line goes_on quiet e = cc
+spent-was-read true delivered ran line ends quiet e = refl
+spent-was-read false delivered ran line ends quiet e = cc
 
 pub read-at-end : (s : SessionView) → end s ≡ Some end_of.Done → s.is_read ≡ true
 read-at-end s e =
-    spent-was-read s.is_read (delivered s.link) s.course.has_run s.has_line (stays s)
+    spent-was-read s.is_read (delivered s.link) s.course.has_run s.has_line
+    (not (is_awaited s) && not (stays s))
     (nat_le (lingers_until s) s.course.moment)
     (ends-done (nat_le (run_ends_at s) s.course.moment) (s.has_line && s.course.leaves)
     (s.has_line && is_given_up s) _ e)

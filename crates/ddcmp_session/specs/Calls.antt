@@ -1,20 +1,18 @@
 -- The calls of a session: what each does by its contract, and the history of a session.
 use Rattle.std.specs.Prelude.{◌≡◌, ◌||◌, ℕ, Bool, true, false, if◌then◌else◌, List, [], ◌∷◌, ◌++◌}
 use Rattle.std.specs.Prelude.{map, take, Some, option_to_list}
-use Rattle.ddcmp_window.specs.Store.{first_message}
 use Rattle.ddcmp_core.specs.Table.{after_halt}
 use Rattle.ddcmp_core.specs.declared.notice.Notice.{Notice}
 use Rattle.ddcmp_frame.specs.Reader.{ReaderView}
 use Rattle.ddcmp_proto.specs.Bytes.{notices_of_piece, after_piece}
-use Rattle.ddcmp_station.specs.Linking.{after_frames, after_sent, after_taking}
+use Rattle.ddcmp_station.specs.Linking.{after_frames, after_sent}
 use Rattle.ddcmp_station.specs.Linking.{with_state}
 use Rattle.ddcmp_streams.specs.declared.messages.MessageForm.{MessageForm}
 use Rattle.ddcmp_streams.specs.declared.messages.MessageForm.TheVariants.{Digits, Binary, Events}
 use Rattle.ddcmp_streams.specs.declared.messages.Messages.{Messages}
 use Rattle.ddcmp_streams.specs.Messages.{entries_of_input}
-use Rattle.ddcmp_io.specs.Queue.{after_taken}
 use Rattle.ddcmp_session.specs.Session.{SessionView, session_made, form_of, takes_end, wants_input}
-use Rattle.ddcmp_session.specs.Session.{wants_line}
+use Rattle.ddcmp_session.specs.Session.{after_output, after_queued, next_mail, wants_line}
 use Rattle.ddcmp_session.specs.Session.{after_input_read, after_input_end, lost_by_end, IsFilled}
 use Rattle.ddcmp_session.specs.Course.{lost_more}
 use Rattle.ddcmp_session.specs.Session.{after_connected, after_timeout, course_received}
@@ -74,13 +72,12 @@ pub record HasReceived (text used : List ℕ) (old new : SessionView) : Type 0 w
   pub stays : new
       ≡ record old { link = new.link; course = new.course; output = new.output }
 
--- the first received message was taken and written
+-- The text of the next received message was queued, and the message was taken if that is done at
+-- once.
 pub record HasDelivered (old new : SessionView) : Type 0 where
-  pub link : new.link ≡ after_taking old.link
-  pub wrote : (message : List ℕ)
-      × (first_message old.link.station.core.station.inbox ≡ Some message)
+  pub wrote : (message : List ℕ) × (next_mail old ≡ Some message)
       × Wrote (mail_text (form_of old.messages) message) old.output new.output
-  pub stays : new ≡ record old { link = new.link; output = new.output }
+  pub stays : new ≡ record (after_queued old) { output = new.output }
 
 -- The station was halted, and the number of messages lost by that was reported if there was room.
 pub record HasLeft (is_reported : Bool) (old new : SessionView) : Type 0 where
@@ -130,7 +127,7 @@ SessionDoes (TimedOut now) text old new = new ≡ after_timeout now old
 SessionDoes TimePassed text old new = PassesTime old new
 SessionDoes (Delivered true) text old new = HasDelivered old new
 SessionDoes (Delivered false) text old new = HasWritten [] old new
-SessionDoes (OutputTook n) text old new = new ≡ record old { output = after_taken n old.output }
+SessionDoes (OutputTook n) text old new = new ≡ after_output n old
 SessionDoes (Closed left is_at_end is_reported) text old new =
     HasClosed left is_at_end is_reported old new
 
@@ -210,7 +207,7 @@ shown_in (Closed left is_at_end is_reported) text s = losses is_reported s
 shown_in (Received used) text s =
     map Reports (notices_of_piece text used s.link.station.core)
 shown_in (Delivered true) text s =
-    map Mail (option_to_list (first_message s.link.station.core.station.inbox))
+    map Mail (option_to_list (next_mail s))
 shown_in _ text s = []
 
 abbrev pub after_session_step : SessionStep → SessionHistory → SessionHistory

@@ -147,6 +147,10 @@ expiry_counted is_read c =
 abbrev pub after_unheard : Course → Course
 after_unheard c = record c { quiet_since = c.moment; unanswered = 0 }
 
+-- The peer waits for an acknowledgement, if `waits`, and doesn't count as quiet.
+abbrev pub after_awaited : Bool → Course → Course
+after_awaited waits c = record c { quiet_since = if waits then c.moment else c.quiet_since }
+
 -- Bytes were received, with which there were this many.
 abbrev pub after_heard : ℕ → Course → Course
 after_heard read c = record c { unanswered = 0; read = read }

@@ -8,9 +8,8 @@ use Rattle.ddcmp_session.specs.declared.devices.DeviceFault.{DeviceFault}
 use Rattle.ddcmp_session.specs.declared.devices.DeviceFault.TheVariants.{Line}
 use Rattle.ddcmp_session.specs.Traffic.{LineLog, Traffic, received, sent}
 use Rattle.ddcmp_session.specs.Orders.{KeepsOrder}
-use Rattle.ddcmp_window.specs.Store.{first_message}
 use Rattle.ddcmp_session.specs.Session.{SessionView, form_of, IsFilled, wants_input, wants_line}
-use Rattle.ddcmp_session.specs.Session.{room_for_mail}
+use Rattle.ddcmp_session.specs.Session.{next_mail, room_for_mail}
 use Rattle.ddcmp_session.specs.Calls.{SessionCall, Connected, TimePassed, LineEnded, Closed}
 use Rattle.ddcmp_session.specs.Calls.{SessionHistory, SessionStep, IsSessionHistory}
 use Rattle.ddcmp_session.specs.Calls.{after_session_steps, end_in}
@@ -103,13 +102,12 @@ Reports held old before after fault = (h : SessionHistory) (t now : Traffic)
 pub record OnlyDelivers (old new : SessionView) : Type 0 where
   pub out : new.link.station.core.station.out ≡ old.link.station.core.station.out
   pub outbox : new.link.outbox ≡ old.link.outbox
-  pub stays : new ≡ record old { link = new.link; output = new.output }
+  pub stays : new
+      ≡ record old { link = new.link; output = new.output; unwritten = new.unwritten }
 
--- no received message is queued, or the output has no room for one of any length
+-- the text of each received message is queued, or the output has no room for one of any length
 abbrev pub HoldsMail : SessionView → Type 0
-HoldsMail s =
-    (first_message s.link.station.core.station.inbox ≡ None)
-    ⊎ (s.output.room < room_for_mail s)
+HoldsMail s = (next_mail s ≡ None) ⊎ (s.output.room < room_for_mail s)
 
 -- Nothing is left to do without a device: the line has frames queued, or there are none to send;
 -- what was read from the input, or its end, waits until the station accepts a message; bytes

@@ -52,8 +52,8 @@ pub record Drains (old : SessionView) (before : Option Traffic) (new : SessionVi
 abbrev pub HasRoomIfEmpty : SessionView → Type 0
 HasRoomIfEmpty s = s.output.waiting ≡ [] → s.output.room ≡ s.output.size
 
--- Nothing is queued for the output, and no received message waits for room there, if the output is
--- large enough for one, as that of each new session is.
+-- Nothing is queued for the output, and no received message is left, if the output is large enough
+-- for one, as that of each new session is.
 pub record IsDrained (s : SessionView) : Type 0 where
   pub waiting : s.output.waiting ≡ []
   pub mail : room_for_mail s ≤ s.output.size

@@ -1,10 +1,11 @@
 -- The state of a session, and what each call does to it.
-use Rattle.std.specs.Prelude.{◌≡◌, ◌⊎◌, ℕ, ◌+◌, ◌*◌, ◌<◌, Bool, true, false, ◌&&◌, ◌||◌, not}
-use Rattle.std.specs.Prelude.{◌==◌}
+use Rattle.std.specs.Prelude.{◌≡◌, ◌⊎◌, ℕ, zero, suc, ◌+◌, ◌-◌, ◌*◌, ◌<◌, Bool, true, false}
+use Rattle.std.specs.Prelude.{◌&&◌, ◌||◌, not, ◌==◌, drop}
 use Rattle.std.specs.Prelude.{nat_le, nat_lt}
 use Rattle.std.specs.Prelude.{if◌then◌else◌, List, [], ◌∷◌, length, Some, None, is_some, is_ok}
 use Rattle.std.specs.Prelude.{Option}
 use Rattle.std.specs.Prelude.{option_to_list}
+use Rattle.ddcmp_core.specs.Choosing.{after_choose}
 use Rattle.ddcmp_core.specs.Table.{after_halt, answer_to_start, is_maintenance}
 use Rattle.ddcmp_core.specs.declared.notice.Notice.{Notice}
 use Rattle.ddcmp_input.specs.declared.entry.Entry.{Entry}
@@ -12,7 +13,9 @@ use Rattle.ddcmp_input.specs.declared.entry.Entry.TheVariants.{Message, NotHexad
 use Rattle.ddcmp_input.specs.declared.entry.Entry.TheVariants as entry
 use Rattle.ddcmp_frame.specs.Reader.{ReaderView}
 use Rattle.ddcmp_station.specs.Driving.{expires_at}
+use Rattle.ddcmp_window.specs.Store.{first_message}
 use Rattle.ddcmp_station.specs.Linking.{LinkView, link_made, takes_message, after_offered, anew}
+use Rattle.ddcmp_station.specs.Linking.{after_taking, with_state}
 use Rattle.ddcmp_station.specs.Linking.{delivered, puts_frame, carries_message, after_wake}
 use Rattle.ddcmp_station.specs.Linking.{anew_for_maintenance, after_offered_maintenance, state_of}
 use Rattle.ddcmp_station.specs.Linking.{carries_refusal, owes_ack, totals_after_feed, wants_bytes}
@@ -29,11 +32,11 @@ use Rattle.ddcmp_io.specs.LineKinds.{is_connection}
 use Rattle.ddcmp_io.specs.declared.line_kind.LineKind.{LineKind}
 use Rattle.ddcmp_io.specs.declared.line_kind.LineKind.TheVariants.{Device}
 use Rattle.ddcmp_streams.specs.declared.options.Options.{Options}
-use Rattle.ddcmp_streams.specs.Options.{report_ms, speed_of}
+use Rattle.ddcmp_streams.specs.Options.{report_ms, speed_of, takes_at_once}
 use Rattle.ddcmp_session.specs.declared.text.TheConstants.{LINE_ROOM, LOST_ROOM, NOTICES_ROOM}
 use Rattle.ddcmp_session.specs.Course.{course_begun, after_connecting, after_moment, after_pauses}
 use Rattle.ddcmp_session.specs.Course.{after_entering, lost_more, one_ready}
-use Rattle.ddcmp_session.specs.Course.{after_looked, after_notices, after_unheard}
+use Rattle.ddcmp_session.specs.Course.{after_awaited, after_looked, after_notices, after_unheard}
 use Rattle.ddcmp_session.specs.Course.{after_unstarted, after_writing, expiry_counted, has_asked}
 use Rattle.ddcmp_session.specs.Course.{after_refusals_told, heard_here, start_counted, unstarted}
 use Rattle.ddcmp_core.specs.declared.counters.NakCounts.{NakCounts}
@@ -45,11 +48,12 @@ use Rattle.ddcmp_streams.specs.declared.messages.Command.{Command}
 use Rattle.ddcmp_streams.specs.declared.messages.Command.TheVariants.{Ready, Restart, Report, Quit}
 use Rattle.ddcmp_streams.specs.declared.messages.Command.TheVariants.{Unknown}
 use Rattle.ddcmp_session.specs.declared.session.TheConstants.{OUTPUT_ROOM}
-use Rattle.ddcmp_io.specs.Queue.{QueueView, no_bytes}
+use Rattle.ddcmp_io.specs.Queue.{QueueView, after_taken as output_taken, no_bytes}
 
 -- The options and the kind of line; the link, whether it has a line, and how the run proceeds; what
--- was read of the input so far, whether all of it was, and whether a part of it was refused; and
--- the bytes queued for standard output.
+-- was read of the input so far, whether all of it was, and whether a part of it was refused; the
+-- bytes queued for standard output; and how many received messages, from the first on, have their
+-- text among these or written, and aren't taken from the link.
 pub record SessionView : Type 0 where
   pub options : Options
   pub kind : LineKind
@@ -60,24 +64,32 @@ pub record SessionView : Type 0 where
   pub is_read : Bool
   pub was_refused : Bool
   pub output : QueueView
+  pub unwritten : ℕ
 
 abbrev pub form_of : Messages → MessageForm
 form_of (Digits v) = form.Digits
 form_of (Binary v) = form.Binary
 form_of (Events v) = form.Events
 
+-- A new link acknowledges messages when they are taken, unless each is taken at once.
+abbrev pub link_begun : Options → ReaderView → LinkView
+link_begun options line =
+    let made = link_made options.config options.timer_ms line in
+    with_state (after_choose (not (takes_at_once options)) (state_of made)) made
+
 -- a new session, whose line has received no bytes
 abbrev pub session_made : Options → LineKind → ReaderView → SessionView
 session_made options kind line = record {
   options = options;
   kind = kind;
-  link = link_made options.config options.timer_ms line;
+  link = link_begun options line;
   has_line = false;
   course = course_begun (report_ms options);
   messages = messages_begun options.form options.config.max;
   is_read = false;
   was_refused = false;
   output = no_bytes (OUTPUT_ROOM + NOTICES_ROOM + 2 * (2 * options.config.max + LINE_ROOM));
+  unwritten = 0;
 }
 
 -- ---- data messages, numbered and acknowledged, or maintenance messages, neither
@@ -217,6 +229,50 @@ begins_telnet _ = false
 abbrev pub is_telnet : List ℕ → SessionView → Bool
 is_telnet bytes s = heard_here s.course == 0 && begins_telnet bytes
 
+-- ---- received messages and the output
+
+-- the first message whose text isn't queued yet
+abbrev pub next_mail : SessionView → Option (List ℕ)
+next_mail s = first_message (drop s.unwritten s.link.station.core.station.inbox)
+
+-- this many messages are taken, one after another
+unfoldable pub after_takes : ℕ → LinkView → LinkView
+after_takes zero d = d
+after_takes (suc n) d = after_taking (after_takes n d)
+
+-- this many messages, whose text is queued, are taken
+abbrev pub with_taken : ℕ → SessionView → SessionView
+with_taken n s = record s { link = after_takes n s.link; unwritten = s.unwritten - n }
+
+-- the text of one more message is queued
+abbrev pub one_queued : SessionView → SessionView
+one_queued s = record s { unwritten = s.unwritten + 1 }
+
+-- how many messages are taken then
+abbrev pub taken_at_once : SessionView → ℕ
+taken_at_once s = if takes_at_once s.options then s.unwritten + 1 else 0
+
+abbrev pub after_queued : SessionView → SessionView
+after_queued s = with_taken (taken_at_once s) (one_queued s)
+
+-- The output takes this many bytes. Once it has taken all of them, each message whose text is among
+-- them is taken from the link.
+abbrev pub taken_when_written : ℕ → SessionView → ℕ
+taken_when_written n s = if nat_le (length s.output.waiting) n then s.unwritten else 0
+
+abbrev pub after_output : ℕ → SessionView → SessionView
+after_output n s =
+    record (with_taken (taken_when_written n s) s) { output = output_taken n s.output }
+
+-- all queued output was written, and the messages in it are taken
+abbrev pub is_written : SessionView → Bool
+is_written s = length s.output.waiting == 0 && s.unwritten == 0
+
+-- Received messages aren't taken yet, and the peer waits until they are acknowledged.
+abbrev pub is_awaited : SessionView → Bool
+is_awaited s =
+    not (takes_at_once s.options) && nat_lt 0 (length s.link.station.core.station.inbox)
+
 -- ---- the line is opened and its timers are handled
 
 -- A session that is connected starts if all received messages were delivered. If not, messages
@@ -277,10 +333,11 @@ after_tried has_expired s = record s {
       else s.course;
 }
 
--- While the line isn't read the peer isn't heard.
+-- While the line isn't read the peer isn't heard. While it waits for an acknowledgement it isn't
+-- quiet.
 abbrev pub unless_read : SessionView → SessionView
 unless_read s = record s {
-  course = if wants_line s then s.course else after_unheard s.course;
+  course = if wants_line s then after_awaited (is_awaited s) s.course else after_unheard s.course;
 }
 
 abbrev pub timed_out : ℕ → SessionView → SessionView

@@ -12,7 +12,7 @@ use Rattle.ddcmp_session.specs.declared.session.EndReason.{EndReason}
 use Rattle.ddcmp_session.specs.declared.session.EndReason.TheVariants.{Done, Time, Restarted}
 use Rattle.ddcmp_session.specs.declared.session.EndReason.TheVariants.{GivenUp}
 use Rattle.ddcmp_session.specs.Course.{after_opening_failed, never}
-use Rattle.ddcmp_session.specs.Session.{SessionView, after_time, is_delivered}
+use Rattle.ddcmp_session.specs.Session.{SessionView, after_time, is_awaited, is_delivered}
 
 -- ---- the end
 
@@ -35,7 +35,7 @@ is_spent s = is_delivered s || (s.is_read && (s.course.has_run && not s.has_line
 
 -- all is done, except that a peer may have more to send
 abbrev pub is_done : SessionView → Bool
-is_done s = is_spent s && not (stays s)
+is_done s = is_spent s && (not (is_awaited s) && not (stays s))
 
 abbrev pub lingers_until : SessionView → ℕ
 lingers_until s = later s.course.quiet_since s.options.linger_ms

@@ -1,8 +1,9 @@
 //! How the run of a session proceeds: when its line is left, and when it is opened again.
-ghost use Rattle.std.specs.Prelude.{◌≡◌, ◌<◌};
-ghost use Rattle.ddcmp_session.specs.Course.{after_connecting, after_entering, after_looked};
-ghost use Rattle.ddcmp_session.specs.Course.{after_moment, after_noise, after_opening_failed};
-ghost use Rattle.ddcmp_session.specs.Course.{after_progress, after_state, after_unheard};
+ghost use Rattle.std.specs.Prelude.{◌≡◌, ◌<◌, true};
+ghost use Rattle.ddcmp_session.specs.Course.{after_awaited, after_connecting, after_entering};
+ghost use Rattle.ddcmp_session.specs.Course.{after_looked, after_moment, after_noise};
+ghost use Rattle.ddcmp_session.specs.Course.{after_opening_failed, after_progress, after_state};
+ghost use Rattle.ddcmp_session.specs.Course.{after_unheard};
 ghost use Rattle.ddcmp_session.specs.Course.{after_writing, course_begun, expiry_counted};
 ghost use Rattle.ddcmp_session.specs.Course.{lost_more, one_ready, unready_by};
 ghost use Rattle.ddcmp_session.specs.Course.{reports_at, sending_ms, try_counted};
@@ -260,6 +261,13 @@ impl Course {
     {
         self.quiet_since = self.moment;
         self.unanswered = 0;
+    }
+
+    /// Notes that the peer waits for an acknowledgement: it isn't quiet.
+    pub(crate) fn keep_awaited(&mut self)
+        ensures { self.new ≡ after_awaited true self.old }
+    {
+        self.quiet_since = self.moment;
     }
 
     /// Looks at a link after it was fed. `before` are the NAKs that it had received before;

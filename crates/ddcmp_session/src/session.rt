@@ -1,6 +1,9 @@
 //! A link with its messages as text, without a device.
-ghost use Rattle.std.specs.Prelude.{◌≡◌, ◌⊎◌, Err, IfOk, IsOk};
+ghost use Rattle.std.specs.Prelude.{◌≡◌, ◌⊎◌, [], Err, IfOk, IsOk, None, Some};
+ghost use Rattle.ddcmp_frame.specs.Reader.{StandsFor};
+ghost use Rattle.ddcmp_proto.specs.Config.{first_refusal};
 ghost use Rattle.ddcmp_session.specs.Reported.{TracesIfAsked};
+ghost use Rattle.ddcmp_session.specs.Session.{link_begun};
 
 mod closing;
 mod input;
@@ -45,6 +48,7 @@ pub enum EndReason {
 /// while `wants_input`, and `input_ended` at its end if `takes_end`; `received` with bytes of the
 /// line while `wants_line`; `fill`, then write what `to_line` returns and call `line_took`; the
 /// same with `to_output` and `to_errors`; `deliver` after each of these, until it returns false.
+/// A received message is acknowledged once `output_took` reports that its text was written.
 /// Call `handle_timeout` before and after each wait, and wait until `wakes_at` at most. If `end`
 /// returns a reason, or the line ends, call `line_ended`, which reports what is lost; without that
 /// call the loss is only counted, once the session starts on another line. `close` and `finish` end
@@ -56,6 +60,9 @@ pub struct Session {
     messages: Messages,
     output: ByteQueue,
     errors: Errors,
+    /// How many received messages, from the first on, have their text in the output or written,
+    /// and aren't taken from the link.
+    unwritten: u8,
     mail: Vec<u8>,
     trace: Option<Trace>,
     echo: Echo,
@@ -86,6 +93,7 @@ impl Model for Session {
         is_read = s.input_is_read;
         was_refused = s.was_refused;
         output = s.output;
+        unwritten = s.unwritten;
       };
       log = record {
         errors = s.errors;
@@ -108,6 +116,7 @@ impl Drop for Session {
             link: _link,
             messages: _messages,
             output: _output,
+            unwritten: _,
             errors: _errors,
             mail: _mail,
             trace: _trace,
@@ -119,6 +128,23 @@ impl Drop for Session {
             has_line: _,
         } = self;
     }
+}
+
+/// Makes a link that acknowledges messages when they are taken, unless each is taken at once.
+fn new_link(alloc: Global, options: &Options) -> Result<Link, ConfigRefusal>
+    ensures made { IfOk result (λ l. l ≡ link_begun options.now l.station.line) }
+    ensures stands { IfOk result (λ l. StandsFor l.station.line []) }
+    ensures refused { (refusal : ConfigRefusal) → first_refusal options.now.config ≡ Some refusal
+        → result ≡ Err refusal }
+    ensures only { first_refusal options.now.config ≡ None → IsOk result
+        ⊎ (result ≡ Err ConfigRefusal.Memory) }
+{
+    let mut link = match Link::new(alloc, options.config, options.timer_ms) {
+        Ok(link) => link,
+        Err(refusal) => return Err(refusal),
+    };
+    let _chosen = link.acknowledge_on_take(!options.takes_at_once());
+    Ok(link)
 }
 
 /// Makes a trace, if one is asked for.
@@ -164,7 +190,7 @@ impl Session {
             ⊎ (result ≡ Err ConfigRefusal.Memory) }
     {
         let max = options.config.max;
-        let link = match Link::new(alloc, options.config, options.timer_ms) {
+        let link = match new_link(alloc, &options) {
             Ok(link) => link,
             Err(refusal) => return Err(refusal),
         };
@@ -200,6 +226,7 @@ impl Session {
             link,
             messages,
             output,
+            unwritten: 0,
             errors,
             mail,
             trace,

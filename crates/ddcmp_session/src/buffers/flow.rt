@@ -352,8 +352,7 @@ pub(super) fn write_output<D: Devices>(
     ensures drains { Drains session.old.state (D.traffic devices.old)
         session.new.state (D.traffic devices.new) }
     ensures idle { result ≡ Ok false → session.new ≡ session.old }
-    ensures output { session.new.state
-        ≡ record session.old.state { output = session.new.state.output } }
+    ensures only { OnlyDelivers session.old.state session.new.state }
     ensures log { session.new.log ≡ session.old.log }
     ensures untimed { result ≢ Err DeviceFault.Time }
 {

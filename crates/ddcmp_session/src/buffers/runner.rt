@@ -188,7 +188,7 @@ pub fn drain_output<D: Devices>(session: &mut Session, devices: &mut D) -> Resul
     let mut last = end.max(devices.now());
     for _write in 0..u64::MAX {
         let delivered = deliver_all(session);
-        if !delivered && session.to_output().is_empty() {
+        if !delivered && session.is_written() {
             return Ok(());
         }
         let moved = match write_output(session, devices) {

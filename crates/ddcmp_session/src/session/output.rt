@@ -11,50 +11,88 @@ impl Session {
     ghost use Rattle.std.specs.Prelude.{◌⊎◌, ◌<◌, if◌then◌else◌, [], None};
     ghost use Rattle.std.specs.Fmt.InlineText.{inline_text};
     ghost use Rattle.ddcmp_station.specs.Linking.{after_taking};
-    ghost use Rattle.ddcmp_window.specs.Store.{first_message};
-    ghost use Rattle.ddcmp_io.specs.Queue.{after_pushed, after_taken};
+    ghost use Rattle.ddcmp_io.specs.Queue.{after_pushed};
     ghost use Rattle.ddcmp_session.specs.Course.{lost_more};
     ghost use Rattle.ddcmp_session.specs.EndText.{line_down_text, pause_text, unread_text};
     ghost use Rattle.ddcmp_streams.specs.Errors.{HasEvent, HasLine, Took};
     ghost use Rattle.ddcmp_session.specs.Finishing.{HasRoomIfEmpty};
     ghost use Rattle.ddcmp_session.specs.Logged.{HasLost, HasReport, ReportsDown};
-    ghost use Rattle.ddcmp_session.specs.Session.{form_of, reports_loss, room_for_mail};
+    ghost use Rattle.ddcmp_session.specs.Session.{after_output, after_queued, form_of, is_awaited};
+    ghost use Rattle.ddcmp_session.specs.Session.{is_written, next_mail, one_queued, reports_loss};
+    ghost use Rattle.ddcmp_session.specs.Session.{room_for_mail, with_taken};
     ghost use Rattle.ddcmp_streams.specs.declared.errors.TheConstants.{SHORT_LINE};
     ghost use Rattle.ddcmp_session.specs.Text.{Wrote, mail_text, reported_lost};
 
-    /// Writes the first received message, if there is one and the output has room for it; returns
-    /// whether it did.
+    /// Queues the text of the next received message, if there is one and the output has room for
+    /// it; returns whether it did. If messages are acknowledged early, or in maintenance mode, that
+    /// message is taken from the link; otherwise it is once `output_took` reports it as written.
     pub fn deliver(&mut self) -> bool
-        ensures link { self.new.state.link
-            ≡ (if result then after_taking self.old.state.link else self.old.state.link) }
         ensures wrote { result ≡ true → (message : List ℕ)
-            × (first_message self.old.state.link.station.core.station.inbox ≡ Some message)
+            × (next_mail self.old.state ≡ Some message)
             × Wrote (mail_text (form_of self.old.state.messages) message) self.old.state.output
             self.new.state.output }
         ensures waits { result ≡ false → Wrote [] self.old.state.output self.new.state.output }
         ensures when { room_for_mail self.old.state ≤ self.old.state.output.room → result
-            ≡ is_some (first_message self.old.state.link.station.core.station.inbox) }
+            ≡ is_some (next_mail self.old.state) }
         ensures left { result ≡ false
-            → (first_message self.new.state.link.station.core.station.inbox ≡ None)
+            → (next_mail self.new.state ≡ None)
             ⊎ (self.new.state.output.room < room_for_mail self.new.state) }
         ensures emptied { result ≡ false → HasRoomIfEmpty self.new.state }
-        ensures stays { self.new.state ≡ record self.old.state {
-          link = self.new.state.link;
-          output = self.new.state.output;
-        } }
+        ensures stays { self.new.state
+            ≡ record (if result then after_queued self.old.state else self.old.state) {
+              output = self.new.state.output;
+            } }
         ensures log { self.new.log ≡ self.old.log }
     {
         self.output.settle();
-        if self.output.room() < text::mail_room(self.link.config().max) {
+        let has_room = self.output.room() >= text::mail_room(self.link.config().max);
+        if !has_room || self.unwritten >= self.link.waiting() {
             return false;
         }
-        match self.link.take(&mut self.mail) {
-            None => false,
-            Some(n) => {
-                text::write_mail(&mut self.output, self.options.form, &self.mail[..n]);
-                true
-            }
+        self.queue_mail();
+        if self.options.takes_at_once() {
+            self.take_mail(self.unwritten);
         }
+        true
+    }
+
+    /// Queues the text of the next received message.
+    fn queue_mail(&mut self)
+        requires there { self.old.state.unwritten
+            < length self.old.state.link.station.core.station.inbox }
+        requires few { self.old.state.unwritten < 255 }
+        requires room { room_for_mail self.old.state ≤ self.old.state.output.room }
+        ensures wrote { (message : List ℕ) × (next_mail self.old.state ≡ Some message)
+            × Wrote (mail_text (form_of self.old.state.messages) message) self.old.state.output
+            self.new.state.output }
+        ensures stays { self.new.state
+            ≡ record (one_queued self.old.state) { output = self.new.state.output } }
+        ensures log { self.new.log ≡ self.old.log }
+    {
+        let n = self.link.waiting_at(self.unwritten, &mut self.mail);
+        text::write_mail(&mut self.output, self.options.form, &self.mail[..n]);
+        self.unwritten += 1;
+    }
+
+    /// Takes the first `n` received messages from the link.
+    fn take_mail(&mut self, n: u8)
+        requires { n ≤ self.old.state.unwritten }
+        ensures state { self.new.state ≡ with_taken n self.old.state }
+        ensures log { self.new.log ≡ self.old.log }
+    {
+        for _message in 0..n {
+            self.take_one();
+        }
+        self.unwritten -= n;
+    }
+
+    /// Takes the first received message from the link.
+    fn take_one(&mut self)
+        ensures state { self.new.state
+            ≡ record self.old.state { link = after_taking self.old.state.link } }
+        ensures log { self.new.log ≡ self.old.log }
+    {
+        let _length = self.link.take(&mut self.mail);
     }
 
     /// Returns the bytes queued for standard output.
@@ -64,16 +102,33 @@ impl Session {
         self.output.waiting()
     }
 
-    /// Notes that standard output took the first `n` bytes of `to_output`.
+    /// Notes that standard output took the first `n` bytes of `to_output`. If these are all, the
+    /// messages whose text is among them are taken from the link, which acknowledges them.
     pub fn output_took(&mut self, n: usize)
-        ensures state { self.new.state ≡ record self.old.state {
-          output = after_taken
-              (min n (length self.old.state.output.waiting)) self.old.state.output;
-        } }
+        ensures state { self.new.state
+            ≡ after_output (min n (length self.old.state.output.waiting)) self.old.state }
         ensures log { self.new.log ≡ self.old.log }
     {
-        let n = n.min(self.output.waiting().len());
-        self.output.took(n);
+        let queued = self.output.waiting().len();
+        if queued <= n {
+            self.take_mail(self.unwritten);
+        }
+        self.output.took(n.min(queued));
+    }
+
+    /// Returns whether all queued output was written, and the messages in it are taken.
+    pub(crate) fn is_written(&self) -> bool
+        ensures { result ≡ is_written self.now.state }
+    {
+        self.output.waiting().is_empty() && self.unwritten == 0
+    }
+
+    /// Returns whether received messages aren't taken yet, and the peer waits until they are
+    /// acknowledged.
+    pub(super) fn is_awaited(&self) -> bool
+        ensures { result ≡ is_awaited self.now.state }
+    {
+        !self.options.takes_at_once() && self.link.waiting() > 0
     }
 
     /// Returns the bytes queued for standard error.

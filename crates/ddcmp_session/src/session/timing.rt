@@ -131,12 +131,15 @@ impl Session {
         is_slow && (self.course.moment < self.course.sends_until || is_taking)
     }
 
-    /// Notes that the peer isn't heard, if the line isn't read.
+    /// Notes that the peer isn't heard, if the line isn't read, or that it waits for an
+    /// acknowledgement.
     fn note_unheard(&mut self)
         ensures { self.new ≡ record self.old { state = unless_read self.old.state } }
     {
         if !self.wants_line() {
             self.course.stop_hearing();
+        } else if self.is_awaited() {
+            self.course.keep_awaited();
         }
     }
 
@@ -223,7 +226,7 @@ impl Session {
     fn is_done(&self) -> bool
         ensures { result ≡ is_done self.now.state }
     {
-        self.is_spent() && !self.stays()
+        self.is_spent() && !self.is_awaited() && !self.stays()
     }
 
     /// Returns whether all of the input was read and nothing of it is left: it was delivered, or

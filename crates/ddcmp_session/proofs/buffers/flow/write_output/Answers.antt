@@ -4,9 +4,11 @@ use Rattle.ddcmp_session.specs.declared.devices.DeviceFault.TheVariants.{Output}
 use Rattle.ddcmp_io.specs.declared.transfer.Transfer.TheVariants.{Nothing, Interrupted}
 use Rattle.ddcmp_session.specs.Devices.{Reports}
 use Rattle.ddcmp_session.specs.Traffic.{after_written}
+use Rattle.ddcmp_session.proofs.DrainLaws.{only-none}
 use Rattle.ddcmp_session.proofs.Finished.{drains-fault, drains-none, drains-still, drains-took}
 use Rattle.ddcmp_session.proofs.GoingLaws.{stays, idles, none-written, faulted, reported}
 use Rattle.ddcmp_session.proofs.LineGoes.{output-took}
+use Rattle.ddcmp_session.proofs.TakenLaws.{only-took}
 use Rattle.ddcmp_session.proofs.buffers.flow.write_output.Goals as goal
 
 pub returns-then-is_empty-clause-on : goal.returns-then-is_empty-clause-on
@@ -65,3 +67,18 @@ returns-in-Bytes-clause-drains g c =
     drains-took c.args.session.now.state c.output_took.new.self.state c.in-Bytes.n
     c.to_output-2.result.now c.to_output-2.ensures c.in-Bytes.ensures.written
     c.output_took.ensures.state
+
+pub returns-then-is_empty-clause-only : goal.returns-then-is_empty-clause-only
+returns-then-is_empty-clause-only g c = only-none _
+
+pub returns-in-Nothing-clause-only : goal.returns-in-Nothing-clause-only
+returns-in-Nothing-clause-only g c = only-none _
+
+pub returns-in-Ended-clause-only : goal.returns-in-Ended-clause-only
+returns-in-Ended-clause-only g c = only-none _
+
+pub returns-in-Interrupted-clause-only : goal.returns-in-Interrupted-clause-only
+returns-in-Interrupted-clause-only g c = only-none _
+
+pub returns-in-Bytes-clause-only : goal.returns-in-Bytes-clause-only
+returns-in-Bytes-clause-only g c = only-took _ _ _ c.output_took.ensures.state

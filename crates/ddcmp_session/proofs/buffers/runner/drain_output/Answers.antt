@@ -1,10 +1,11 @@
-use Rattle.std.proofs.Common.{◌≡◌, ◌∙◌, refl, subst, Result, Err}
+use Rattle.std.proofs.Common.{◌≡◌, ◌∙◌, refl, subst, sym, Result, Err}
 use Rattle.ddcmp_session.specs.declared.devices.DeviceFault.{DeviceFault}
 use Rattle.ddcmp_session.specs.declared.devices.DeviceFault.TheVariants.{Input}
 use Rattle.ddcmp_session.specs.Devices.{Reports}
-use Rattle.ddcmp_session.proofs.DrainLaws.{only-none, only-then, only-wrote}
+use Rattle.ddcmp_session.proofs.DrainLaws.{only-none, only-then}
 use Rattle.ddcmp_session.proofs.Finished.{drains-none, drains-then, drains-wait}
 use Rattle.ddcmp_session.proofs.GoingLaws.{stays, goes-then, waited, reported, reports-then}
+use Rattle.ddcmp_session.proofs.TakenLaws.{is-drained, written-out}
 use Rattle.ddcmp_session.proofs.buffers.runner.drain_output.Goals as goal
 
 pub loop-write-init : goal.loop-write-init
@@ -15,8 +16,8 @@ loop-write-init g c = record {
   log = refl;
 }
 
-pub returns-then-is_empty-clause-on : goal.returns-then-is_empty-clause-on
-returns-then-is_empty-clause-on g c = λ held.
+pub returns-then-is_written-clause-on : goal.returns-then-is_written-clause-on
+returns-then-is_written-clause-on g c = λ held.
     goes-then (c.loop-write.invariant.on held) (c.deliver_all-delivered.ensures.on held _)
 
 pub returns-in-Err-clause-on : goal.returns-in-Err-clause-on
@@ -37,8 +38,7 @@ loop-write-preserved-then-moved g c = record {
   only =
       only-then c.loop-write.invariant.only
       (only-then c.deliver_all-delivered.ensures.only
-      (only-wrote c.deliver_all-delivered.new.session.state c.write_output.new.session.state
-      c.write_output.ensures.output));
+      c.write_output.ensures.only);
   log =
       c.write_output.ensures.log ∙ c.deliver_all-delivered.ensures.log
       ∙ c.loop-write.invariant.log;
@@ -73,8 +73,7 @@ loop-write-preserved g c = record {
   only =
       only-then c.loop-write.invariant.only
       (only-then c.deliver_all-delivered.ensures.only
-      (only-wrote c.deliver_all-delivered.new.session.state c.write_output.new.session.state
-      c.write_output.ensures.output));
+      c.write_output.ensures.only);
   log =
       c.write_output.ensures.log ∙ c.deliver_all-delivered.ensures.log
       ∙ c.loop-write.invariant.log;
@@ -106,29 +105,26 @@ pub returns-in-Err-clause-only : goal.returns-in-Err-clause-only
 returns-in-Err-clause-only g c =
     only-then c.loop-write.invariant.only
     (only-then c.deliver_all-delivered.ensures.only
-    (only-wrote c.deliver_all-delivered.new.session.state c.write_output.new.session.state
-    c.write_output.ensures.output))
+    c.write_output.ensures.only)
 
 pub returns-then-left-eq0-clause-only : goal.returns-then-left-eq0-clause-only
 returns-then-left-eq0-clause-only g c =
     only-then c.loop-write.invariant.only
     (only-then c.deliver_all-delivered.ensures.only
-    (only-wrote c.deliver_all-delivered.new.session.state c.write_output.new.session.state
-    c.write_output.ensures.output))
+    c.write_output.ensures.only)
 
 pub returns-then-not-wait-clause-only : goal.returns-then-not-wait-clause-only
 returns-then-not-wait-clause-only g c =
     only-then c.loop-write.invariant.only
     (only-then c.deliver_all-delivered.ensures.only
-    (only-wrote c.deliver_all-delivered.new.session.state c.write_output.new.session.state
-    c.write_output.ensures.output))
+    c.write_output.ensures.only)
 
-pub returns-then-is_empty-clause-only : goal.returns-then-is_empty-clause-only
-returns-then-is_empty-clause-only g c =
+pub returns-then-is_written-clause-only : goal.returns-then-is_written-clause-only
+returns-then-is_written-clause-only g c =
     only-then c.loop-write.invariant.only c.deliver_all-delivered.ensures.only
 
-pub returns-then-is_empty-clause-drains : goal.returns-then-is_empty-clause-drains
-returns-then-is_empty-clause-drains g c =
+pub returns-then-is_written-clause-drains : goal.returns-then-is_written-clause-drains
+returns-then-is_written-clause-drains g c =
     drains-then c.loop-write.invariant.drains (c.deliver_all-delivered.ensures.drains _)
 
 pub returns-in-Err-clause-drains : goal.returns-in-Err-clause-drains
@@ -149,3 +145,13 @@ returns-then-not-wait-clause-drains g c =
     (drains-then c.write_output.ensures.drains
     (drains-then (drains-none refl c.now-now.ensures)
     (drains-wait c.wait.result c.wait.ensures))))
+
+pub returns-then-is_written-clause-drained : goal.returns-then-is_written-clause-drained
+returns-then-is_written-clause-drained g c = λ e.
+    written-out _ (sym c.is_written.ensures ∙ c.if-is_written.true)
+
+pub returns-then-is_written-clause-emptied : goal.returns-then-is_written-clause-emptied
+returns-then-is_written-clause-emptied g c = λ e.
+    is-drained _ (sym c.is_written.ensures ∙ c.if-is_written.true)
+    (c.deliver_all-delivered.ensures.left c.if-not-delivered.false)
+    (c.deliver_all-delivered.ensures.emptied c.if-not-delivered.false)
