@@ -475,7 +475,8 @@ class Station(_Handle):
 
     def acknowledge_on_take(self, on_take: bool = True) -> None:
         """Chooses when messages are acknowledged, if the station is halted and its inbox empty:
-        when `take` takes them, or when they are received, as at first. It stays so over starts."""
+        when `take` takes them (then poll), or when they are received, as at first. It stays so over
+        starts."""
         _must("acknowledge_on_take", self._own(), on_take)
         self.acknowledges_on_take = on_take
 
