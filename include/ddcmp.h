@@ -212,8 +212,8 @@ DDCMP_CALL uint32_t ddcmp_config(ddcmp_station *station, struct ddcmp_config *co
 DDCMP_CALL uint32_t ddcmp_start(ddcmp_station *station, uint8_t *dropped);
 DDCMP_CALL uint32_t ddcmp_enter_maintenance(ddcmp_station *station, uint8_t *dropped);
 /* Chooses, in a halted station with an empty inbox, when messages are acknowledged: when ddcmp_take
-   takes them (read them before by ddcmp_waiting_at), or when they are received, as at first. It
-   stays so over starts. Since 0.2.0. */
+   takes them (read them before by ddcmp_waiting_at, and poll then), or when they are received, as
+   at first. It stays so over starts. Since 0.2.0. */
 DDCMP_CALL uint32_t ddcmp_acknowledge_on_take(ddcmp_station *station, bool on_take);
 DDCMP_CALL uint32_t ddcmp_halt(ddcmp_station *station);
 /* Forgets the bytes of the line so far, if the station is halted; returns whether it is. */

@@ -451,6 +451,7 @@ class Station(_Handle):
         given = _Config(window, inbox, longest, _fit(config.syn, 8), bool(config.restart))
         super().__init__(ctypes.byref(given))
         self.acknowledges_on_take = False
+        self._is_read = False  # a line returned the first message, which is in the inbox still
         self._size = ctypes.c_size_t()
         self._frame = (ctypes.c_uint8 * self.frame_room)()
         self._message = (ctypes.c_uint8 * config.max)()
@@ -474,7 +475,8 @@ class Station(_Handle):
 
     def acknowledge_on_take(self, on_take: bool = True) -> None:
         """Chooses when messages are acknowledged, if the station is halted and its inbox empty:
-        when `take` takes them, or when they are received, as at first. It stays so over starts."""
+        when `take` takes them (then poll), or when they are received, as at first. It stays so over
+        starts."""
         _must("acknowledge_on_take", self._own(), on_take)
         self.acknowledges_on_take = on_take
 
@@ -504,7 +506,15 @@ class Station(_Handle):
 
     def take(self) -> Optional[bytes]:
         """Takes the first message of the inbox, if any."""
+        self._is_read = False
         return self._fill("take", self._message)
+
+    def _read(self) -> bytes:
+        """Returns the first message for a line, and takes it if that doesn't acknowledge it."""
+        if not self.acknowledges_on_take:
+            return self.take() or b""
+        self._is_read = True
+        return self.waiting_at(0)
 
     def waiting_length(self, i: int) -> int:
         """Returns the length of message `i` of the inbox, from 0; 0 if there is none."""
@@ -659,7 +669,6 @@ class Line:
         self._inbox = station.config.inbox
         self._read = self._frame = b""  # not fed yet, and not written yet
         self._expiry = time.monotonic() + timer
-        self._returned = False  # the first message of the inbox was returned
 
     def __enter__(self) -> "Line":
         return self
@@ -677,23 +686,20 @@ class Line:
 
     def receive(self, timeout: Optional[float] = None) -> bytes:
         """Waits for the next received message, and returns it. If the station acknowledges on take,
-        it takes the message that it returned before, which is acknowledged only then."""
+        it first takes the message that it returned before, which is acknowledged only then."""
         self._take()
         self._until(lambda: self.station.waiting > 0, timeout)
-        if not self.station.acknowledges_on_take:
-            return self.station.take() or b""
-        self._returned = True
-        return self.station.waiting_at(0)
+        return self.station._read()
 
     def _take(self) -> None:
         """Takes the message that `receive` returned, if it is in the inbox still."""
-        if self._returned:
-            self._returned = False
+        if self.station._is_read:
             self.station.take()
             self._write()
 
     def flush(self, timeout: Optional[float] = None) -> None:
-        """Waits until each message is acknowledged and each frame is written."""
+        """Waits until each message is acknowledged and each frame is written. It takes the message
+        that was returned, as `receive` does."""
         self._take()
         self._until(lambda: not self.station.outgoing and not self._frame, timeout)
 
@@ -791,6 +797,15 @@ def _until_end(receive: Callable[[], bytes]) -> Iterator[bytes]:
         yield message
 
 
+class _ReadingLine(Line):
+    """A line that, if its station acknowledges on take, reads on until what it sent is
+    acknowledged: the station refuses what its inbox has no room for, and the peer repeats that."""
+
+    def _is_full(self) -> bool:
+        reads_on = self.station.acknowledges_on_take and self.station.outgoing
+        return super()._is_full() and not reads_on
+
+
 class ThreadLine:
     """A line with a station of its own, which a thread runs while the program is busy.
 
@@ -799,6 +814,10 @@ class ThreadLine:
     peer has restarted, an OSError of the transport, or what `notice` has raised. That is called on
     the line's thread, and can't wait for the line. Reading pauses while as many messages as the
     inbox has are not received yet and all that was sent is acknowledged.
+
+    With `acknowledge_on_take`, `receive` and `flush` take the message that `receive` returned
+    before, which is acknowledged only then, and not by `close`. Let one thread receive, and choose
+    an inbox larger than the peer's window.
 
     As a context manager it flushes on exit, unless an exception was raised, and closes. A program
     that ends without that doesn't wait for the thread.
@@ -812,12 +831,14 @@ class ThreadLine:
 
     def __init__(self, transport: Union[int, _HasDescriptor], config: Config = Config(),
                  timer: float = 3.0, notice: Optional[Callable[[Notice], object]] = None,
-                 **sizes: int) -> None:
+                 acknowledge_on_take: bool = False, **sizes: int) -> None:
         self.config = Config(**{**config._asdict(), **sizes})
         self.state: Optional[State] = None  #: that of the station when the thread last looked
+        self.acknowledges_on_take = acknowledge_on_take
         self._changed = threading.Condition()  # for all below
         self._queued: Deque[bytes] = collections.deque()
-        self._received: Deque[bytes] = collections.deque()
+        self._received: Deque[bytes] = collections.deque()  # on take, what is in the inbox
+        self._is_read, self._taken = False, 0  # its first was returned; not taken there yet
         self._is_flushed, self._is_closing = True, False
         self._fault: Optional[BaseException] = None
         self._trace: Optional[types.TracebackType] = None  # which grows whenever it is raised
@@ -851,12 +872,25 @@ class ThreadLine:
 
     def receive(self, timeout: Optional[float] = None) -> bytes:
         """Waits for the next received message, and returns it."""
+        self._take()
         with self._once(lambda: len(self._received) > 0, timeout):
-            return self._received.popleft()
+            self._is_read = self.acknowledges_on_take
+            return self._received[0] if self._is_read else self._received.popleft()
+
+    def _take(self) -> None:
+        """Has the thread take the message that `receive` returned."""
+        with self._changed:
+            if self._is_read:
+                self._received.popleft()
+                self._is_read = False
+                self._taken += 1
+                self._wake()
 
     def flush(self, timeout: Optional[float] = None) -> None:
         """Waits until each message is acknowledged and each frame is written."""
-        with self._once(lambda: self._is_flushed, timeout):
+        self._take()
+        with self._once(lambda: self._is_flushed and not (self._taken and not self._fault),
+                        timeout):
             pass
 
     def __iter__(self) -> Iterator[bytes]:
@@ -897,8 +931,9 @@ class ThreadLine:
         fault: BaseException = EOFError("the line has ended")
         try:
             with Station(self.config) as station:
+                station.acknowledge_on_take(self.acknowledges_on_take)
                 station.start()
-                self._turn(Line(station, *words))
+                self._turn(_ReadingLine(station, *words))
         except (OSError, EOFError, Error) as it:
             fault = it
         except BaseException as it:
@@ -926,24 +961,38 @@ class ThreadLine:
                     line._wait(math.inf)
         finally:
             with self._changed:
-                self._received += iter(line.station.take, None)
+                while self._fetch(line.station):
+                    pass
+
+    def _fetch(self, station: Station) -> bool:
+        """Moves a received message to the program, or takes one; returns whether there was one."""
+        if self._taken:
+            self._taken -= 1
+            return station.take() is not None
+        copied = len(self._received) if self.acknowledges_on_take else 0
+        if station.waiting == copied:
+            return False
+        is_copy = self.acknowledges_on_take
+        self._received.append(station.waiting_at(copied) if is_copy else station.take() or b"")
+        return True
 
     def _exchange(self, line: Line) -> bool:
         """Moves messages between the station and the program; returns whether there were any."""
-        station, moved = line.station, 0
+        station, moved = line.station, False
         with self._changed:
             self.state = station.state
             while self._queued and station.room and self.state == State.RUNNING:
                 station.send(self._queued.popleft())
-                moved += 1
-            while station.waiting and (len(self._received) < self.config.inbox or station.outgoing):
-                self._received.append(station.take() or b"")
-                moved += 1
-            self._is_flushed = not self._queued and not station.outgoing and not line._frame
+                moved = True
+            while len(self._received) < self.config.inbox or station.outgoing:
+                if not self._fetch(station):
+                    break
+                moved = True
+            self._is_flushed = not (moved or self._queued or station.outgoing or line._frame)
             self._changed.notify_all()
         if self.state == State.HALTED:
             raise ConnectionResetError("the station is halted")
-        return moved > 0
+        return moved
 
 
 class AsyncLine(asyncio.Protocol):
@@ -953,6 +1002,10 @@ class AsyncLine(asyncio.Protocol):
     was closed, ConnectionResetError if the station is halted, as when the peer has restarted, an
     OSError of the transport, or what `notice` has raised. Reading pauses while as many messages as
     the inbox has are not received yet and all that was sent is acknowledged.
+
+    If the station acknowledges on take, `receive` and `flush` take the message that `receive`
+    returned before, which is acknowledged only then, and not by `close`. Let one task receive, and
+    choose an inbox larger than the peer's window.
 
     As a context manager it flushes on exit, unless an exception was raised, and closes.
 
@@ -1009,13 +1062,21 @@ class AsyncLine(asyncio.Protocol):
 
     async def receive(self) -> bytes:
         """Waits for the next received message, and returns it."""
-        await self._until(lambda: len(self._received) > 0)
-        message = self._received.popleft()
+        self._take()
+        await self._until(lambda: bool(self._received or self.station.waiting))
+        message = self._received.popleft() if self._received else self.station._read()
         self._run()
         return message
 
+    def _take(self) -> None:
+        """Takes the message that `receive` returned, if it is in the inbox still."""
+        if self.station._is_read:
+            self.station.take()
+            self._run()
+
     async def flush(self) -> None:
         """Waits until each message is acknowledged and each frame is written."""
+        self._take()
         await self._until(lambda: not self.station.outgoing and self._is_writable)
 
     async def __aiter__(self) -> AsyncIterator[bytes]:
@@ -1089,7 +1150,7 @@ class AsyncLine(asyncio.Protocol):
             self._transport.abort()
             raise
         is_idle = not self.station.outgoing and self.station.state in _BEGUN
-        if len(self._received) < self._inbox or not is_idle:
+        if len(self._received) + self.station.waiting < self._inbox or not is_idle:
             self._transport.resume_reading()
         else:
             self._transport.pause_reading()
@@ -1104,7 +1165,8 @@ class AsyncLine(asyncio.Protocol):
         while piece and not self._fault:
             used, notice = self.station.feed(piece)
             piece = piece[used:]
-            self._received += iter(self.station.take, None)
+            if not self.station.acknowledges_on_take:
+                self._received += iter(self.station.take, None)
             self._arm()
             if notice and self.notice:
                 self.notice(notice)

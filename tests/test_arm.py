@@ -174,7 +174,8 @@ def test_release(tmp_path):
     subprocess.run(["sha256sum", "--quiet", "-c", "SHA256SUMS"], cwd=made[0], check=True)
     names = [f"ddcmp_{version()}_{it}" for it in ("amd64", "arm64")]
     assert sorted(os.listdir(made[0])) == sorted([
-        "MADE-OF", "SHA256SUMS", "ddcmp.d.ts", "ddcmp.html", "ddcmp.mjs", "ddcmp.wasm",
+        "CHANGELOG.md", "MADE-OF", "SHA256SUMS", "ddcmp.d.ts", "ddcmp.html", "ddcmp.mjs",
+        "ddcmp.wasm",
         *(f"{name}.{form}" for name in names for form in ("deb", "tar.gz"))])
     for it in names:
         tar = subprocess.check_output(["dpkg-deb", "--fsys-tarfile", f"{made[0]}/{it}.deb"])

@@ -12,11 +12,14 @@ import time
 
 import pytest
 
-from .peers import Peer, at_a_full_device, good, joined, linked, no_ack, running
+from .peers import Peer, at_a_full_device, called, good, joined, linked, no_ack, running
 from .process import (
     PROGRAM, Link, connected, free_port, holds_within, into_pipe, is_listening, listening,
-    omitted, port_of, server, tcp_pair, times)
-from .wire import STRT, binary, data, drawn, mail_in, messages_of, rep, unpacked
+    must_end, omitted, port_of, rest_of, server, tcp_pair, times)
+from .wire import (
+    STRT, binary, commands, data, drawn, in_lines, mail_in, messages_of, rep, unpacked)
+
+EVENTS, READY = ("--binary", "--events"), commands("ready")
 
 
 @times
@@ -49,12 +52,71 @@ def test_slow_reader():
     assert unpacked(got) == sent, f"{len(unpacked(got))} of {len(sent)} messages"
 
 
-def test_closed_output():
-    one, reading = into_pipe(Link, "listen:127.0.0.1:0")
-    os.close(reading)
-    two = Link(f"connect:127.0.0.1:{listening(one)}", "--stay")
-    two.give(b"61\n", close=False)
-    assert one.ended(20) == 3 and one.faults() == ["ddcmp: write"]
+@pytest.mark.parametrize("options", [(), EVENTS, (*EVENTS, "--again", "--restart", "--stay")])
+@pytest.mark.parametrize("output", ["left", "full", "closed"])
+def test_failed_output(output, options):
+    """A pipe whose reader has left, a full device and an output that was closed at the start end a
+    link, which says why."""
+    if output == "left":
+        (link, _), reading = into_pipe(called, *options)
+        os.close(reading)
+    elif output == "full":
+        with open("/dev/full", "wb") as full:
+            link, _ = called(*options, stdout=full)
+    else:
+        link, _ = called(*options, stdout=subprocess.DEVNULL, preexec_fn=lambda: os.close(1))
+    link.give(READY + binary([b"one"]) if options else b"61\n", close=False)
+    must_end(output, link, 3, "ddcmp: write", 10)
+
+
+def waits(link):
+    """A link goes on, and takes no processor time."""
+    before = link.processor_time()
+    time.sleep(3)
+    assert link.is_running() and link.processor_time() - before <= 0.02
+
+
+@times
+@pytest.mark.parametrize("options", [(), ("--again",), ("--seconds", "8")])
+def test_unread_events(options):
+    """Events and messages that nobody reads: the link delivers its own, and waits after the command
+    quit until all is read, or --seconds are over, and says so."""
+    (link, peer), reading = into_pipe(running, *EVENTS, *options)
+    for number in range(1, 200):
+        peer.send(data(b"x" * 1000, number))
+        time.sleep(0.004)
+    link.give(READY + binary([b"one"]) + commands("quit"), close=False)
+    assert peer.waits(lambda it: it.mail == [b"one"], 10)
+    waits(link)
+    if "--seconds" in options:
+        must_end("unread", link, 3, "ddcmp: ended", 10)
+        assert ("ddcmp: standard output isn't read: received messages weren't written"
+                in link.errors())
+    else:
+        reader = threading.Thread(target=lambda: lines.extend(in_lines(rest_of(reading))))
+        lines = []
+        reader.start()
+        must_end("read", link, 0, None, 10)
+        reader.join()
+        assert lines[0] == "notice Running" and lines.count("notice Acknowledged 1") == 1
+
+
+@times
+@pytest.mark.parametrize("errors", ["closed", "full"])
+def test_events_without_errors(errors):
+    """A standard error that was closed at the start, or is full, takes nothing from the others."""
+    with open("/dev/full", "wb") as full:
+        how = {"stderr": full} if errors == "full" else {
+            "stderr": subprocess.DEVNULL, "preexec_fn": lambda: os.close(2)}
+        link, peer = called(*EVENTS, "--trace", **how)
+    link.give(READY + commands("report") + commands("what") + binary([b"one"]), close=False)
+    assert peer.waits(lambda it: it.mail == [b"one"], 10)
+    peer.send(data(b"two", 1, 1))
+    waits(link)
+    link.give(commands("quit"), close=False)
+    must_end(errors, link, 1)
+    assert in_lines(link.out) == ["notice Running", "notice Acknowledged 1", "notice HandedUp",
+                                  f"mail {b'two'.hex()}"]
 
 
 @times
@@ -405,22 +467,7 @@ def test_closed_errors():
     without(range(4, 8))
 
 
-@pytest.mark.parametrize("closed, given, last", [
-    (0, b"", "ddcmp: read"), (1, data(b"a", 1), "ddcmp: write"),
-])
-def test_closed_ends(closed, given, last):
-    """A closed input can't be read, and a closed output can't be written."""
-    with server() as it:
-        words = [*PROGRAM, "link", "--stay", "--line", f"connect:127.0.0.1:{port_of(it)}"]
-        run = subprocess.Popen(words, stdin=subprocess.PIPE, stdout=subprocess.DEVNULL,
-                               stderr=subprocess.PIPE,
-                               preexec_fn=lambda closed=closed: os.close(closed))
-        peer = joined(it, good)
-        peer.send(given)
-        try:
-            status = run.wait(5)
-        except subprocess.TimeoutExpired:
-            run.kill()
-            status = run.wait()
-        told = run.stderr.read().decode()
-        assert status == 3 and told.split("\n")[-2:] == [last, ""]
+def test_closed_input():
+    """An input that was closed at the start can't be read."""
+    link, _ = called("--stay", stdin=subprocess.DEVNULL, preexec_fn=lambda: os.close(0))
+    must_end("input", link, 3, "ddcmp: read", 10)

@@ -20,7 +20,8 @@ lib/libddcmp.so.0 lib/pkgconfig/ddcmp.pc share/bash-completion/completions/ddcmp
 share/ddcmp/installed share/ddcmp/python/ddcmp.py share/ddcmp/web/ddcmp.html
 share/ddcmp/systemd/ddcmp.service
 share/ddcmp/wireshark/ddcmp.lua
-share/doc/ddcmp/LICENSE share/doc/ddcmp/NOTICES share/fish/vendor_completions.d/ddcmp.fish
+share/doc/ddcmp/CHANGELOG.md share/doc/ddcmp/LICENSE share/doc/ddcmp/NOTICES
+share/fish/vendor_completions.d/ddcmp.fish
 share/man/man1/ddcmp.1 share/zsh/site-functions/_ddcmp""".split()
 RIGHTS = {"bin/ddcmp": "-rwxr-xr-x", "lib/libddcmp.so": "lrwxrwxrwx libddcmp.so.0"}
 INSTALLED = {it[:end.start()]: "drwxr-xr-x" for it in FILES for end in re.finditer("/", it)}

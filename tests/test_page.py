@@ -244,6 +244,38 @@ def test_stations(module):
     assert module("of", a, "numbers")["is"] == {"r": 1, "n": 2, "a": 2, "t": 3}
 
 
+def test_acknowledged_on_take(module):
+    """Messages are acknowledged when they are taken, and not when they arrive; or the other way
+    round, if the station is halted and its inbox empty."""
+    ends = a, b = [module("station")["is"] for _ in range(2)]
+
+    def choose(*on_take):
+        return module("call", b, "acknowledgeOnTake", *on_take).get("fault")
+
+    def start():
+        for it in ends:
+            module("call", it, "start")
+        settle(module, *ends)
+
+    def outgoing(*messages):
+        """How many messages aren't acknowledged after these, too."""
+        for it in messages:
+            module("call", a, "send", it)
+        settle(module, *ends)
+        return module("of", a, "outgoing")["is"]
+    assert choose() is None
+    start()
+    assert outgoing("x", "yz") == 2 and module("call", b, "waitingAt", 1)["is"] == b"yz".hex()
+    assert module("call", b, "take")["is"] == b"x".hex() and outgoing() == 1
+    assert choose(False) == "the station isn't halted"
+    for it in ends:
+        module("call", it, "halt")
+    assert choose(False) == "the inbox isn't empty"
+    assert module("call", b, "take")["is"] == b"yz".hex() and choose(False) is None
+    start()
+    assert outgoing("x", "yz") == 0
+
+
 def test_example(module):
     """The example of docs/LIBRARY.md runs in a browser."""
     code = re.sub("^import .*", "", example(), flags=re.M)

@@ -308,9 +308,10 @@ def must_end_well(pid):
 
 
 @contextlib.contextmanager
-def started(transport, timer=None, *more, **sizes):
+def started(transport, timer=None, *more, on_take=False, **sizes):
     """A line with a station of its own."""
     with ddcmp.Station(ddcmp.Config(**sizes)) as station:
+        station.acknowledge_on_take(on_take)
         station.start()
         times = [] if timer is None else [timer]
         yield ddcmp.Line(station, transport, *times, *more)
@@ -534,14 +535,53 @@ def sends_what_is_left(connection, messages, first):
         return sent - station.outgoing
 
 
-def test_killed_receivers(tmp_path):
-    """A receiver that acknowledges on take and is killed a hundred times: it has stored whatever was
+def test_taken_by_the_program(pair):
+    """What a line returned and the program then took itself isn't taken twice."""
+    with started(pair[0], on_take=True) as line, started(pair[1]) as other:
+        while other.station.state != ddcmp.State.RUNNING:
+            raised(lambda: line.receive(0.01))
+            raised(lambda: other.receive(0.01))
+        for it in b"1", b"2":
+            other.send(it)
+        assert [line.receive(SOON), line.station.take(), line.receive(SOON)] == [b"1", b"1", b"2"]
+
+
+KEEP = """import os, socket, sys
+import ddcmp
+line = ddcmp.ThreadLine(socket.create_connection(("127.0.0.1", int(sys.argv[1]))), inbox=16,
+                        acknowledge_on_take=True)
+with open(sys.argv[2], "ab", buffering=0) as file:
+    for message in line:
+        file.write(message + b"\\n")
+        os.fsync(file.fileno())
+"""
+KEEP_ASYNC = """import asyncio, os, socket, sys
+import ddcmp
+async def main(port, name):
+    station = ddcmp.Station(inbox=16)
+    station.acknowledge_on_take()
+    station.start()
+    loop = asyncio.get_running_loop()
+    _, line = await loop.create_connection(lambda: ddcmp.AsyncLine(station), "127.0.0.1", int(port))
+    with open(name, "ab", buffering=0) as file:
+        async for message in line:
+            file.write(message + b"\\n")
+            os.fsync(file.fileno())
+asyncio.run(main(*sys.argv[1:]))
+"""
+
+
+@pytest.mark.parametrize("kills, program", [
+    (100, [f"{TOP}/python/examples/keep.py"]), (25, ["-c", KEEP]), (25, ["-c", KEEP_ASYNC]),
+], ids=["Line", "ThreadLine", "AsyncLine"])
+def test_killed_receivers(tmp_path, kills, program):
+    """A receiver that acknowledges on take and is killed many times: it has stored whatever was
     acknowledged, and in the end all messages, in order."""
     name, done, stored = f"{tmp_path}/kept", 0, []
     messages = [b"%d" % i for i in range(100000)]
     with socket.create_server(("127.0.0.1", 0)) as listener:
-        words = [sys.executable, f"{TOP}/python/examples/keep.py", str(listener.getsockname()[1])]
-        for kill in range(100):
+        words = [sys.executable, *program, str(listener.getsockname()[1])]
+        for _ in range(kills):
             receiver = subprocess.Popen([*words, name], env=over_library())
             connection, _ = listener.accept()
             threading.Timer(drawn.uniform(0, 0.05), receiver.kill).start()

@@ -43,7 +43,9 @@ class Awaited:
         self.line = self.wait(self.made(transport, sizes, words))
 
     async def made(self, transport, sizes, words):
+        on_take = sizes.pop("acknowledge_on_take", False)
         station = ddcmp.Station(**sizes)
+        station.acknowledge_on_take(on_take)
         station.start()
         here = transport.dup()
         loop = asyncio.get_running_loop()
@@ -93,6 +95,9 @@ def kind(request):
         transport, ddcmp.Config(), *words, **sizes)
 
 
+both_modes = pytest.mark.parametrize("on_take", [False, True], ids=["arrives", "on_take"])
+
+
 def late(call, *arguments):
     """A call times out."""
     with pytest.raises((TimeoutError, asyncio.TimeoutError)):
@@ -113,21 +118,24 @@ def test_several_threads(kind, pair):
         assert [it[1] for it in found if it[0] == i] == list(range(100))
 
 
-def test_both_ways(kind):
+@both_modes
+def test_both_ways(kind, on_take):
     mine, others = messages_of(300), messages_of(200)
     here, there = socket.socketpair()
     pid = child([here], lingers, there, others, mine, 5)
     there.close()
-    with kind(here, 5) as line:
+    with kind(here, 5, acknowledge_on_take=on_take) as line:
         exchange(line, mine, others)
     here.close()
     must_end_well(pid)
 
 
-def test_lost_bytes_without_calls(kind):
+@both_modes
+def test_lost_bytes_without_calls(kind, on_take):
     """A line that loses chunks, and a program that makes no call until its peer has all."""
     mine, others = messages_of(60), messages_of(60)
-    with lossy_line(mine, others) as (here, told), kind(here, 0.05) as line:
+    with lossy_line(mine, others) as (here, told), kind(
+            here, 0.05, acknowledge_on_take=on_take) as line:
         exchange(line, mine, others)
         assert select.select([told], [], [], SOON)[0]
 
@@ -169,9 +177,10 @@ def running_by_hand(there, **sizes):
         yield other
 
 
-def test_peer_leaves(kind, pair):
+@both_modes
+def test_peer_leaves(kind, pair, on_take):
     """What the peer sent before is received, and then each call reports the end."""
-    line, there = kind(pair[0]), pair[1]
+    line, there = kind(pair[0], acknowledge_on_take=on_take), pair[1]
     with running_by_hand(there) as other:
         other.send(b"last")
         by_hand(there, other)
@@ -180,6 +189,101 @@ def test_peer_leaves(kind, pair):
     refused(EOFError, "the line has ended", line.receive, SOON)
     refused(EOFError, "the line has ended", line.send, b"x", SOON)
     assert [line.flush(SOON), list(line)] == [None, []]
+    line.close()
+
+
+def test_acknowledged_on_take(kind, pair):
+    """A message is acknowledged by the receive or flush after that which returned it: by no frame
+    before, and not by a close."""
+    line, there = kind(pair[0], acknowledge_on_take=True), pair[1]
+    with running_by_hand(there) as other:
+        def runs(holds):
+            return holds_within(SOON, lambda: [by_hand(there, other), holds()][1])
+        for it in b"1", b"2", b"3":
+            other.send(it)
+        by_hand(there, other)
+        assert line.receive(SOON) == b"1"
+        line.send(b"x", SOON)
+        assert runs(lambda: other.counters.messages_up == 1) and other.outgoing == 3
+        assert line.receive(SOON) == b"2" and runs(lambda: other.outgoing == 2)
+        line.flush(SOON)
+        by_hand(there, other)
+        assert other.outgoing == 1 and line.receive(SOON) == b"3"
+        line.close()
+        by_hand(there, other)
+        assert other.outgoing == 1
+
+
+def test_flush_writes_acknowledgements(pair, monkeypatch):
+    """A flush waits until what it took is acknowledged on the line, however slow its thread is."""
+    line, there = ddcmp.ThreadLine(pair[0], acknowledge_on_take=True), pair[1]
+    write = ddcmp.Line._write
+    with running_by_hand(there) as other:
+        other.send(b"1")
+        by_hand(there, other)
+        assert line.receive(SOON) == b"1"
+        monkeypatch.setattr(ddcmp.Line, "_write", lambda it: [time.sleep(0.05), write(it)])
+        line.flush(SOON)
+        by_hand(there, other)
+        assert not other.outgoing
+    line.close()
+
+
+def sends(transport, messages):
+    with started(transport) as line:
+        for it in messages:
+            line.send(it, SOON)
+        line.flush(SOON)
+
+
+def test_iteration_takes(kind):
+    here, there = socket.socketpair()
+    messages = messages_of(20)
+    pid = child([here], sends, there, messages)
+    there.close()
+    with kind(here, acknowledge_on_take=True) as line:
+        assert list(line) == messages
+    must_end_well(pid)
+
+
+def test_full_inbox_on_take(kind, pair):
+    """What is sent is acknowledged although the inbox is full; then all is received."""
+    sent = [bytes([it]) for it in range(7)]
+    with kind(pair[0]) as one, kind(pair[1], acknowledge_on_take=True, inbox=2) as other:
+        for it in sent:
+            one.send(it, SOON)
+        assert other.receive(SOON) == sent[0]
+        time.sleep(0.1)
+        other.send(b"x", SOON)
+        other.flush(SOON)
+        assert [one.receive(SOON), *(other.receive(SOON) for _ in sent[1:])] == [b"x", *sent[1:]]
+
+
+def test_nobody_receives_on_take(kind, pair):
+    """Reading pauses while the inbox is full: a peer that sends on isn't refused all the time."""
+    line, there = kind(pair[0], acknowledge_on_take=True, inbox=2), pair[1]
+    with running_by_hand(there) as other:
+        for it in range(7):
+            other.send(bytes([it]))
+        until = time.monotonic() + 0.3
+        while time.monotonic() < until:
+            by_hand(there, other)
+        assert other.counters.nak_received.no_buffer <= 1
+    line.close()
+
+
+def test_taken_by_the_program(pair):
+    """What an AsyncLine returned and the program then took itself isn't taken twice."""
+    line, there = Awaited(pair[0], acknowledge_on_take=True), pair[1]
+
+    async def takes():
+        return line.line.station.take()
+    with running_by_hand(there) as other:
+        for it in b"1", b"2":
+            other.send(it)
+        by_hand(there, other)
+        found = [line.receive(SOON), line.wait(takes(), SOON), line.receive(SOON)]
+    assert found == [b"1", b"1", b"2"]
     line.close()
 
 

@@ -45,6 +45,8 @@ export interface Script extends Sizes {
 export interface Station {
   start(): number;
   enterMaintenance(): number;
+  /** Refused unless the station is halted and its inbox empty. */
+  acknowledgeOnTake(onTake?: boolean): void;
   halt(): void;
   clearLine(): boolean;
   send(message: Bytes): number;

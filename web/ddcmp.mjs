@@ -355,6 +355,10 @@ class Station {
 
   start() { return this.#stored(1, 'start').getUint8(0); }
   enterMaintenance() { return this.#stored(1, 'enter_maintenance').getUint8(0); }
+  /** Chooses when messages are acknowledged, if the station is halted and its inbox empty: when
+      `take` takes them (then poll), or when they are received, as at first. It stays so over
+      starts. */
+  acknowledgeOnTake(onTake = true) { this.#must('acknowledge_on_take', onTake ? 1 : 0); }
   halt() { this.#must('halt'); }
   clearLine() { return !!(this.#call('clear_line') & 1); }
   get state() { return STATES[this.#call('state')]; }

@@ -243,7 +243,7 @@ impl Station {
     }
 
     /// Chooses when messages are acknowledged, if the station is halted and its inbox empty: when
-    /// they are taken, or when they are received, as at first. It stays so over starts.
+    /// they are taken (then poll), or when they are received, as at first. It stays so over starts.
     pub fn acknowledge_on_take(&mut self, on_take: bool) -> Result<(), Error> {
         checked(unsafe { ffi::ddcmp_acknowledge_on_take(self.handle.as_ptr(), on_take) })
     }
