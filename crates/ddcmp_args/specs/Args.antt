@@ -147,7 +147,7 @@ line_app =
 abbrev pub link_app : App
 link_app =
     with_rule (with_rule (with_rule (with_rule (with_rule (with_rule (with_rule (with_rule
-    (with_rule (with_rule (with_rule (with_rule (with_rule (with_rule (with_rule
+    (with_rule (with_rule (with_rule (with_rule (with_rule (with_rule (with_rule (with_rule
     (with_sizes line_app)
     (number_rule (codes "timer-ms") 1 MOST))
     (number_rule (codes "attempts") 0 MOST))
@@ -158,6 +158,7 @@ link_app =
     (flag_rule (codes "binary")))
     (flag_rule (codes "events")))
     (flag_rule (codes "maintenance")))
+    (flag_rule (codes "acknowledge-early")))
     (flag_rule (codes "stay")))
     (flag_rule (codes "again")))
     (flag_rule (codes "counters")))
@@ -380,6 +381,7 @@ pub record HasLinkOptions (line : Text) (option : Text → Option Text) (options
   pub report : HasNumber 0 MOST 0 (option (codes "report")) options.report
   pub form : HasMessages (option (codes "binary")) (option (codes "events")) options.form
   pub maintenance : HasFlag (option (codes "maintenance")) options.maintenance
+  pub acknowledge_early : HasFlag (option (codes "acknowledge-early")) options.acknowledge_early
   pub stay : HasFlag (option (codes "stay")) options.stay
   pub awaits_end : options.awaits_end ≡ true
   pub again : HasFlag (option (codes "again")) options.again

@@ -124,6 +124,8 @@ pub fn link_is_asked()
     ensures binary { IsSwitch (codes "link") (codes "--binary") (codes "binary") }
     ensures events { IsSwitch (codes "link") (codes "--events") (codes "events") }
     ensures maintenance { IsSwitch (codes "link") (codes "--maintenance") (codes "maintenance") }
+    ensures acknowledge_early { IsSwitch (codes "link") (codes "--acknowledge-early")
+        (codes "acknowledge-early") }
     ensures stay { IsSwitch (codes "link") (codes "--stay") (codes "stay") }
     ensures again { IsSwitch (codes "link") (codes "--again") (codes "again") }
     ensures counters { IsSwitch (codes "link") (codes "--counters") (codes "counters") }

@@ -66,7 +66,7 @@ static LINE_OPTIONS: [CommandOption; 2] = table! {
 };
 
 /// The options of a link apart from its line and its sizes.
-static LINK_OPTIONS: [CommandOption; 15] = table! {
+static LINK_OPTIONS: [CommandOption; 16] = table! {
     "timer-ms": Number(1, u32::MAX),
         "Reply timer in milliseconds, from 1 [default: 3000, over UDP 500]";
     "attempts": Number(0, u32::MAX),
@@ -80,6 +80,7 @@ static LINK_OPTIONS: [CommandOption; 15] = table! {
     "binary": Nothing, "Read and write messages as bytes after their length";
     "events": Nothing, "With --binary, write notices among the messages";
     "maintenance": Nothing, "Exchange maintenance messages, which nobody acknowledges";
+    "acknowledge-early": Nothing, "Acknowledge messages that aren't written to the output yet";
     "stay": Nothing, "Keep running once all input was delivered";
     "again": Nothing, "Open the line again if it ends or can't be opened";
     "counters": Nothing, "Print the station's counters before the last line";
@@ -170,6 +171,7 @@ pub(crate) fn link_given<'a>(options: &ArgMatches<'a>) -> LinkArgs<'a>
         report: number_given(options, "report", 0, u32::MAX, 0),
         form: messages_given(options),
         maintenance: flag_given(options, "maintenance"),
+        acknowledge_early: flag_given(options, "acknowledge-early"),
         stay: flag_given(options, "stay"),
         awaits_end: true,
         again: flag_given(options, "again"),

@@ -43,6 +43,7 @@ fn options(timer_ms: u32, seconds: u32, report: u32) -> Options {
         report,
         form: MessageForm::Digits,
         maintenance: false,
+        acknowledge_early: false,
         stay: false,
         awaits_end: true,
         again: true,

@@ -30,6 +30,7 @@ fn options(stay: bool) -> Options {
         report: 1,
         form: MessageForm::Digits,
         maintenance: false,
+        acknowledge_early: false,
         stay,
         awaits_end: true,
         again: true,

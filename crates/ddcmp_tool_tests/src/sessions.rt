@@ -24,6 +24,7 @@ pub(crate) fn options(linger_ms: u32, seconds: u32) -> Options {
         report: 0,
         form: MessageForm::Binary,
         maintenance: false,
+        acknowledge_early: false,
         stay: false,
         awaits_end: true,
         again: false,

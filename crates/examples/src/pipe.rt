@@ -18,6 +18,7 @@ const OPTIONS: Options = Options {
     report: 0,
     form: MessageForm::Binary,
     maintenance: false,
+    acknowledge_early: false,
     stay: false,
     awaits_end: true,
     again: false,

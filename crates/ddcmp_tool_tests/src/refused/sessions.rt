@@ -21,6 +21,7 @@ fn options(form: MessageForm) -> Options {
         report: 1,
         form,
         maintenance: false,
+        acknowledge_early: false,
         stay: false,
         awaits_end: true,
         again: true,

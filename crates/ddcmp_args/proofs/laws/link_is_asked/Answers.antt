@@ -13,6 +13,7 @@ returns c = record {
   binary = (refl, refl);
   events = (refl, refl);
   maintenance = (refl, refl);
+  acknowledge_early = (refl, refl);
   stay = (refl, refl);
   again = (refl, refl);
   counters = (refl, refl);
