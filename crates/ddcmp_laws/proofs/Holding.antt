@@ -1,9 +1,14 @@
 -- What stays of a session with its history, and calls that leave its input.
-use Rattle.std.proofs.Common.{Bool, ◌≡◌, ◌≢◌, ℕ, zero, suc, ◌+◌, false, List, [], ◌∷◌}
+use Rattle.std.proofs.Common.{Bool, ◌≡◌, ◌≢◌, ℕ, zero, suc, ◌+◌, ◌-◌, true, false, cond, List}
+use Rattle.std.proofs.Common.{[], ◌∷◌}
+use Rattle.std.specs.Prelude.{◌&&◌}
+use Rattle.ddcmp_core.proofs.Taken.{none_owed}
+use Rattle.ddcmp_core.specs.Table.{is_running, owed_after_take}
 use Rattle.std.proofs.Common.{◌++◌, refl, sym, ◌∙◌, ap, take, drop}
 use Rattle.std.proofs.Common.{arith, append-nil, append_assoc, option_to_list}
 use Rattle.ddcmp_station.specs.Linking.{LinkView}
 use Rattle.ddcmp_station.specs.Linking.{after_frame, after_frames, after_taking}
+use Rattle.ddcmp_station.specs.Linking.{totals_after_take, with_state}
 use Rattle.ddcmp_window.specs.Store.{first_message}
 use Rattle.ddcmp_streams.specs.declared.messages.MessageForm.{MessageForm}
 use Rattle.ddcmp_streams.specs.declared.messages.MessageForm.TheVariants as form
@@ -157,6 +162,36 @@ pub takes_offer_none : (n : ℕ) (d : LinkView) → offered_in (takes_put n d) �
 unfolding offered_in takes_put
 takes_offer_none zero d = refl
 takes_offer_none (suc n) d = takes_offer_none n (after_taking d)
+
+-- from an empty inbox none
+pub takes_nothing : (d : LinkView) → d.station.core.station.inbox ≡ [] → after_taking d ≡ d
+takes_nothing d e =
+    let s = d.station.core.station in
+    let left : drop 1 s.inbox ≡ s.inbox = ap (drop 1) e ∙ sym e in
+    let owed = none_owed (s.by_user && is_running s.state) s.inbox e in
+    let totals = ap (λ (m : List (List ℕ)). totals_after_take m d.totals) e in
+    λ i. record (with_state (record s {
+      inbox = left i;
+      reply = cond (owed i) (owed_after_take s.reply) s.reply;
+    }) d) { totals = totals i }
+
+pub takes_none : (n : ℕ) (d : LinkView) → d.station.core.station.inbox ≡ []
+    → after_takes n d ≡ d
+unfolding after_takes
+takes_none zero d e = refl
+takes_none (suc n) d e = ap after_taking (takes_none n d e) ∙ takes_nothing d e
+
+-- messages that are neither queued nor taken stay so
+pub left_alone : (b : Bool) (n : ℕ) (inbox : List (List ℕ))
+    → drop (n - cond b n 0) (drop (cond b n 0) inbox) ≡ drop n inbox
+left_alone true n inbox = ap (λ k. drop k (drop n inbox)) none
+  where
+    none : n - n ≡ 0
+    none = omega arith
+left_alone false n inbox = ap (λ k. drop k inbox) same
+  where
+    same : n - 0 ≡ n
+    same = omega arith
 
 pub frames_offer_none : (n : ℕ) (d : LinkView) → offered_in (frames_put n d) ≡ []
 unfolding offered_in frames_put
