@@ -124,10 +124,13 @@ pub fn link_is_asked()
     ensures binary { IsSwitch (codes "link") (codes "--binary") (codes "binary") }
     ensures events { IsSwitch (codes "link") (codes "--events") (codes "events") }
     ensures maintenance { IsSwitch (codes "link") (codes "--maintenance") (codes "maintenance") }
+    ensures acknowledge_early { IsSwitch (codes "link") (codes "--acknowledge-early")
+        (codes "acknowledge-early") }
     ensures stay { IsSwitch (codes "link") (codes "--stay") (codes "stay") }
     ensures again { IsSwitch (codes "link") (codes "--again") (codes "again") }
     ensures counters { IsSwitch (codes "link") (codes "--counters") (codes "counters") }
     ensures trace { IsSwitch (codes "link") (codes "--trace") (codes "trace") }
+    ensures ladder { IsSwitch (codes "link") (codes "--ladder") (codes "ladder") }
     ensures seconds { option_in (codes "ddcmp" ∷ codes "link" ∷ codes "--seconds=60" ∷ [])
         (codes "seconds") ≡ Some (codes "60") }
     ensures timer { option_in (codes "ddcmp" ∷ codes "link" ∷ codes "--timer-ms=500" ∷ [])

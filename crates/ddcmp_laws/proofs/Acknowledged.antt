@@ -3,16 +3,14 @@ use Rattle.std.proofs.Common.{◌≡◌, ℕ, ◌≤◌, Bool, true, false, List
 use Rattle.std.proofs.Common.{sym, ◌∙◌, ap, subst, arith, length-append, append-nil, None}
 use Rattle.std.specs.Prelude.{◌&&◌, ◌==◌}
 use Rattle.std.proofs.lemmas.List.{length-drop}
-use Rattle.ddcmp_proto.specs.Config.{first_refusal}
-use Rattle.ddcmp_proto.specs.declared.config.Config.{Config}
 use Rattle.ddcmp_io.specs.declared.carrier.End.{End}
 use Rattle.ddcmp_pair.specs.InOrder.{Delivers}
-use Rattle.ddcmp_pair.specs.Run.{EndState, PairState, handed_up, run, new_pair, is_clean}
+use Rattle.ddcmp_pair.specs.Run.{EndState, PairState, handed_up, run, is_clean}
 use Rattle.ddcmp_pair.proofs.Relation.{Face, face, Stands, not_begun, begun}
 use Rattle.ddcmp_pair.proofs.Linked.{Linked, linked-turned}
-use Rattle.ddcmp_pair.proofs.Ordered.{run-holds, run-of}
+use Rattle.ddcmp_pair.proofs.Ordered.{Holds}
 use Rattle.ddcmp_laws.specs.PairCalls.{Call, run_calls, events_in, noted}
-use Rattle.ddcmp_laws.proofs.PairCallLaws.{run_same, honest_same, clean_same}
+use Rattle.ddcmp_laws.proofs.PairCallLaws.{run_same, honest_same, clean_same, holds_run}
 
 -- where an end keeps no message
 abbrev pub IsAcknowledged : EndState → Type 0
@@ -31,18 +29,15 @@ linked_all x y l = stands_all (face x) l.related.fits.sent l.related.fits.next l
 abbrev pub AllAcknowledged : PairState → Type 0
 AllAcknowledged p = IsAcknowledged p.a × IsAcknowledged p.b
 
-pub calls_acknowledged : (first second : Config) (calls : List (End × Call))
-    → first_refusal first ≡ None → first_refusal second ≡ None
-    → (run_calls calls (new_pair first second)).honest ≡ true
-    → is_clean (run_calls calls (new_pair first second)) ≡ true
-    → IsAcknowledged (run_calls calls (new_pair first second)).a
-    × IsAcknowledged (run_calls calls (new_pair first second)).b
-calls_acknowledged first second calls f g h c =
-    let p = run_calls calls (new_pair first second) in
-    let q = run (events_in calls) (new_pair first second) in
-    let e = run_same calls (new_pair first second) (new_pair first second) refl in
+pub acknowledged_calls : (start : PairState) → Holds start → (calls : List (End × Call))
+    → (run_calls calls start).honest ≡ true → is_clean (run_calls calls start) ≡ true
+    → IsAcknowledged (run_calls calls start).a × IsAcknowledged (run_calls calls start).b
+acknowledged_calls start holds calls h c =
+    let p = run_calls calls start in
+    let q = run (events_in calls) start in
+    let e = run_same calls start start refl in
     let l =
-    (run-holds q (run-of first second (events_in calls) f g)).linked
+    (holds_run (events_in calls) start holds).linked
     (sym (honest_same p q e) ∙ h) (sym (clean_same p q e) ∙ c) in
     let both : AllAcknowledged (noted q) =
     (linked_all q.a q.b l, linked_all q.b q.a (linked-turned q.a q.b l)) in

@@ -1,5 +1,6 @@
 -- Runs over devices to their end: what is delivered and written after a session was closed.
-use Rattle.std.proofs.Common.{◌≡◌, ◌∙◌, ap, sym, subst, refl, ℕ, Bool, true, false}
+use Rattle.std.proofs.Common.{◌≡◌, ◌∙◌, ap, sym, subst, refl, ℕ, zero, suc, ◌+◌, ◌-◌, Bool, true}
+use Rattle.std.proofs.Common.{false, arith, length, nat_le}
 use Rattle.std.proofs.Common.{List, [], ◌∷◌, ◌++◌, map, take, drop, Option, Some, None}
 use Rattle.std.proofs.Common.{option_to_list}
 use Rattle.std.proofs.Common.{append_assoc, append-nil}
@@ -9,7 +10,8 @@ use Rattle.ddcmp_io.specs.Queue.{QueueView}
 use Rattle.ddcmp_station.specs.Linking.{LinkView}
 use Rattle.ddcmp_window.specs.Store.{first_message}
 use Rattle.ddcmp_streams.specs.Messages.{after_input, entries_of_input}
-use Rattle.ddcmp_session.specs.Session.{SessionView, form_of}
+use Rattle.ddcmp_session.specs.Session.{SessionView, form_of, taken_at_once, taken_when_written}
+use Rattle.ddcmp_streams.specs.Options.{takes_at_once}
 use Rattle.ddcmp_session.specs.Calls.{SessionCall, InputRead, InputEnded, Connected, LineEnded}
 use Rattle.ddcmp_session.specs.Calls.{Received, Filled, LineTook, TimedOut, TimePassed, Delivered}
 use Rattle.ddcmp_session.specs.Calls.{OutputTook, Closed, SessionStep, SessionHistory, Mail}
@@ -24,6 +26,7 @@ use Rattle.ddcmp_session.proofs.GoingLaws.{same-at}
 use Rattle.ddcmp_laws.specs.Connections.{first_connection}
 use Rattle.ddcmp_laws.specs.Pipe.{Made, session_of}
 use Rattle.ddcmp_laws.specs.Endings.{WasFinished}
+use Rattle.ddcmp_laws.proofs.Holding.{left_alone, takes_inbox, takes_longest, takes_none}
 use Rattle.ddcmp_laws.proofs.LosingAnew.{session-after}
 use Rattle.ddcmp_laws.proofs.RunLaws.{runs_to_end}
 use Rattle.ddcmp_laws.proofs.Writing.{ended_keeps, entries_keep}
@@ -85,7 +88,9 @@ kept_one : (call : SessionCall) (old new : SessionView) → IsDelivery call
 kept_one (Delivered true) old new of d = record {
   size = d.wrote.2.size;
   is_cut = d.wrote.2.is_cut;
-  longest = ap (λ (x : LinkView). x.station.core.limits.longest) d.link;
+  longest =
+      same-at (λ x. x.link.station.core.limits.longest) new _ d.stays
+      ∙ takes_longest (taken_at_once old) old.link;
   lost = same-at (λ x. x.course.lost) new _ d.stays;
   counters = same-at (λ x. x.options.counters) new _ d.stays;
   form = same-at (λ x. form_of x.messages) new _ d.stays;
@@ -101,7 +106,9 @@ kept_one (Delivered false) old new of d = record {
 kept_one (OutputTook n) old new of d = record {
   size = same-at (λ x. x.output.size) new _ d;
   is_cut = same-at (λ x. x.output.is_cut) new _ d;
-  longest = same-at (λ x. x.link.station.core.limits.longest) new _ d;
+  longest =
+      same-at (λ x. x.link.station.core.limits.longest) new _ d
+      ∙ takes_longest (taken_when_written n old) old.link;
   lost = same-at (λ x. x.course.lost) new _ d;
   counters = same-at (λ x. x.options.counters) new _ d;
   form = same-at (λ x. form_of x.messages) new _ d;
@@ -133,6 +140,10 @@ kept (step ∷ rest) old new does =
 
 -- ---- deliveries are calls of a history
 
+-- the received messages that aren't delivered yet
+abbrev pub left : SessionView → List (List ℕ)
+left s = drop s.unwritten s.link.station.core.station.inbox
+
 -- what they lead to: some of the received messages were delivered
 pub record Led (steps : List SessionStep) (h : SessionHistory) (new : SessionView) : Type 0 where
   pub calls : IsSessionHistory steps h
@@ -140,15 +151,13 @@ pub record Led (steps : List SessionStep) (h : SessionHistory) (new : SessionVie
   pub written : (after_session_steps steps h).written ≡ h.written ++ taken_in steps h.session
   pub mail : List (List ℕ)
   pub shown : (after_session_steps steps h).shown ≡ h.shown ++ map Mail mail
-  pub inbox : mail ++ new.link.station.core.station.inbox
-      ≡ h.session.link.station.core.station.inbox
+  pub inbox : mail ++ left new ≡ left h.session
 
 record LedOne (step : SessionStep) (h : SessionHistory) : Type 0 where
   does : SessionDoes step.call h.used h.session step.session
   mail : List (List ℕ)
   shown : (after_session_step step h).shown ≡ h.shown ++ map Mail mail
-  inbox : mail ++ step.session.link.station.core.station.inbox
-      ≡ h.session.link.station.core.station.inbox
+  inbox : mail ++ left step.session ≡ left h.session
 
 front : (inbox : List (List ℕ)) (message : List ℕ) → first_message inbox ≡ Some message
     → (message ∷ drop 1 inbox ≡ inbox) × (option_to_list (first_message inbox) ≡ message ∷ [])
@@ -161,30 +170,52 @@ front (m ∷ rest) message is = by (same is)
     by : m ≡ message → (message ∷ rest ≡ m ∷ rest) × (m ∷ [] ≡ message ∷ [])
     by e = (ap (λ x. x ∷ rest) (sym e), ap (λ x. x ∷ []) e)
 
+drop-more : (n : ℕ) (xs : List (List ℕ)) → drop (n + 1) xs ≡ drop 1 (drop n xs)
+drop-more n xs = ap (λ k. drop k xs) (omega arith) ∙ by n xs
+  where
+    by : (n : ℕ) (xs : List (List ℕ)) → drop (suc n) xs ≡ drop 1 (drop n xs)
+    by zero xs = refl
+    by (suc n) [] = none n
+      where
+        none : (n : ℕ) → drop (suc (suc n)) ([] : List (List ℕ)) ≡ drop 1 (drop (suc n) [])
+        none n = refl
+    by (suc n) (x ∷ xs) = by n xs
+
 led_one : (call : SessionCall) (h : SessionHistory) (new : SessionView) → IsDelivery call
     → SessionDoes call [] h.session new → LedOne (record { call = call; session = new }) h
 led_one (Delivered true) h new of d =
+    let n = taken_at_once h.session in
     let inbox = h.session.link.station.core.station.inbox in
-    let f = front inbox d.wrote.0 d.wrote.1 in
+    let u = h.session.unwritten in
+    let f = front (left h.session) d.wrote.0 d.wrote.1 in
     record {
       does = d;
       mail = d.wrote.0 ∷ [];
       shown = ap (λ ms. h.shown ++ map Mail ms) f.1;
       inbox =
-          ap (λ (l : LinkView). d.wrote.0 ∷ l.station.core.station.inbox) d.link
+          ap (λ xs. d.wrote.0 ∷ xs)
+          (same-at left new _ d.stays
+          ∙ ap (λ xs. drop (u + 1 - n) xs) (takes_inbox n h.session.link)
+          ∙ left_alone (takes_at_once h.session.options) (u + 1) inbox
+          ∙ drop-more u inbox)
           ∙ f.0;
     }
 led_one (Delivered false) h new of d = record {
   does = d;
   mail = [];
   shown = refl;
-  inbox = same-at (λ x. x.link.station.core.station.inbox) new _ d.stays;
+  inbox = same-at left new _ d.stays;
 }
 led_one (OutputTook n) h new of d = record {
   does = d;
   mail = [];
   shown = refl;
-  inbox = same-at (λ x. x.link.station.core.station.inbox) new _ d;
+  inbox =
+      same-at left new _ d
+      ∙ ap (λ xs. drop (h.session.unwritten - taken_when_written n h.session) xs)
+      (takes_inbox (taken_when_written n h.session) h.session.link)
+      ∙ left_alone (nat_le (length h.session.output.waiting) n) h.session.unwritten
+      h.session.link.station.core.station.inbox;
 }
 led_one (InputRead used) h new of d = absurd of
 led_one InputEnded h new of d = absurd of
@@ -210,7 +241,7 @@ led [] h new same = record {
   written = sym (append-nil h.written);
   mail = [];
   shown = sym (append-nil h.shown);
-  inbox = ap (λ (s : SessionView). s.link.station.core.station.inbox) same;
+  inbox = ap left same;
 }
 led (step ∷ rest) h new does =
     let one = led_one step.call h step.session does.0 does.1 in
@@ -230,7 +261,7 @@ led (step ∷ rest) h new does =
           ∙ append_assoc h.shown (map Mail one.mail) (map Mail more.mail)
           ∙ ap (λ xs. h.shown ++ xs) (sym (map_more one.mail more.mail));
       inbox =
-          append_assoc one.mail more.mail new.link.station.core.station.inbox
+          append_assoc one.mail more.mail (left new)
           ∙ ap (λ xs. one.mail ++ xs) more.inbox
           ∙ one.inbox;
     }
@@ -241,11 +272,16 @@ abbrev Only : List ℕ → SessionView → SessionView → Type 0
 Only taken old new =
     (taken ++ new.output.waiting ≡ old.output.waiting) × (new.link ≡ old.link)
 
+drop-none : (n : ℕ) → drop n ([] : List (List ℕ)) ≡ []
+drop-none zero = refl
+drop-none (suc n) = refl
+
 only_one : (call : SessionCall) (old new : SessionView) → IsDelivery call
     → SessionDoes call [] old new → old.link.station.core.station.inbox ≡ []
     → Only (written_in call old) old new
 only_one (Delivered true) old new of d none =
-    absurd (empty (sym (ap first_message none) ∙ d.wrote.1))
+    absurd (empty (sym (ap (λ xs. first_message (drop old.unwritten xs)) none
+    ∙ ap first_message (drop-none old.unwritten)) ∙ d.wrote.1))
   where
     empty : ◌≡◌ {A = Option (List ℕ)} None (Some d.wrote.0) → ⊥
     empty e = cc
@@ -254,7 +290,7 @@ only_one (Delivered false) old new of d none =
 only_one (OutputTook n) old new of d none = (
   ap (λ xs. take n old.output.waiting ++ xs) (same-at (λ x. x.output.waiting) new _ d)
       ∙ take-append-drop n old.output.waiting,
-  same-at (λ x. x.link) new _ d,
+  same-at (λ x. x.link) new _ d ∙ takes_none (taken_when_written n old) old.link none,
 )
 only_one (InputRead used) old new of d none = absurd of
 only_one InputEnded old new of d none = absurd of

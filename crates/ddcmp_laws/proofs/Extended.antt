@@ -46,7 +46,8 @@ agrees-one (Delivered true) h new held t of d a =
     (quiet-agrees (Delivered true) held None h new t refl refl refl refl refl
     (same-at (λ x. form_of x.messages) new _ d.stays)
     (λ e. same-at (λ x. x.is_read) new _ d.stays ∙ e)
-    (ap (λ (l : LinkView). l.station.line) d.link) a)
+    (same-at (λ x. x.link.station.line) new _ d.stays
+    ∙ takes-line (taken_at_once h.session) h.session.link) a)
 agrees-one (Delivered false) h new held t of d a =
     subst (Agrees held (after_session_step (record { call = Delivered false; session = new }) h))
     (sym (none-written t))
@@ -69,7 +70,9 @@ agrees-one (OutputTook n) h new held t of d a = record {
   down = a.down;
   stands =
       subst (λ l. StandsFor l (h.used ++ []))
-      (sym (same-at (λ x. x.link.station.line) new _ d))
+      (sym
+      (same-at (λ x. x.link.station.line) new _ d
+      ∙ takes-line (taken_when_written n h.session) h.session.link))
       (subst (StandsFor h.session.link.station.line) (sym (append-nil h.used)) a.stands);
 }
 agrees-one (InputRead used) h new held t of d a = absurd of

@@ -381,7 +381,7 @@ straight_event (event.Take B) p f h =
     record { a = h.a; b = well_event (event.Take B) p.b tt h.b; honest = h.honest }
 straight_event event.Clear p f h = straight_clear (clear_refusal p) p h
 
-straight_run : (events : List Event) (p : PairState) → StaysFaithful events p → IsStraight p
+pub straight_run : (events : List Event) (p : PairState) → StaysFaithful events p → IsStraight p
     → IsStraight (run events p)
 unfolding run
 straight_run [] p f h = h

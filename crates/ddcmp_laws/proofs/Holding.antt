@@ -1,19 +1,28 @@
 -- What stays of a session with its history, and calls that leave its input.
-use Rattle.std.proofs.Common.{Bool, ◌≡◌, ◌≢◌, ℕ, zero, suc, ◌+◌, false, List, [], ◌∷◌}
-use Rattle.std.proofs.Common.{◌++◌, refl, sym, ◌∙◌, ap}
-use Rattle.std.proofs.Common.{arith, append-nil}
+use Rattle.std.proofs.Common.{Bool, ◌≡◌, ◌≢◌, ℕ, zero, suc, ◌+◌, ◌-◌, true, false, cond, List}
+use Rattle.std.proofs.Common.{[], ◌∷◌}
+use Rattle.std.specs.Prelude.{◌&&◌}
+use Rattle.ddcmp_core.proofs.Taken.{none_owed}
+use Rattle.ddcmp_core.specs.Table.{is_running, owed_after_take}
+use Rattle.std.proofs.Common.{◌++◌, refl, sym, ◌∙◌, ap, take, drop}
+use Rattle.std.proofs.Common.{arith, append-nil, append_assoc, option_to_list}
 use Rattle.ddcmp_station.specs.Linking.{LinkView}
-use Rattle.ddcmp_station.specs.Linking.{after_frame, after_frames}
+use Rattle.ddcmp_station.specs.Linking.{after_frame, after_frames, after_taking}
+use Rattle.ddcmp_station.specs.Linking.{totals_after_take, with_state}
+use Rattle.ddcmp_window.specs.Store.{first_message}
 use Rattle.ddcmp_streams.specs.declared.messages.MessageForm.{MessageForm}
 use Rattle.ddcmp_streams.specs.declared.messages.MessageForm.TheVariants as form
 use Rattle.ddcmp_streams.specs.Messages.{messages_begun, after_input}
-use Rattle.ddcmp_session.specs.Session.{SessionView, form_of}
-use Rattle.ddcmp_laws.specs.Links.{LinkCall, FillsOne}
+use Rattle.ddcmp_session.specs.Session.{SessionView, after_takes, form_of}
+use Rattle.ddcmp_laws.specs.Links.{LinkCall, FillsOne, Takes}
 use Rattle.ddcmp_laws.specs.Links.{HasDone, LinkHistory, LinkStep}
 use Rattle.ddcmp_laws.specs.Links.{after_step, IsHistory, after_history}
 use Rattle.ddcmp_laws.specs.Links.{offered_in}
 use Rattle.ddcmp_session.specs.Calls.{Shown, SessionHistory, SessionStep, after_session_step}
 use Rattle.ddcmp_laws.specs.Sessions.{messages_of, mail_in, link_step, frames_put, link_steps_of}
+use Rattle.ddcmp_laws.specs.Sessions.{takes_put}
+use Rattle.ddcmp_laws.proofs.Queues.{IsKept, IsQueued, drop-one-more, take-one-more, taken_kept}
+use Rattle.ddcmp_laws.proofs.Queues.{taken_of}
 use Rattle.ddcmp_laws.proofs.Texts.{no_text, IsText, writes, keeps}
 use Rattle.ddcmp_laws.proofs.Limits.{longest_of}
 
@@ -27,6 +36,7 @@ pub record Holds (f : MessageForm) (max : ℕ) (h : SessionHistory) : Type 0 whe
   pub text : IsText f h.written h.session.output h.shown
   pub of_data : h.session.options.maintenance ≡ false
   pub plain : f ≢ form.Events
+  pub queued : IsQueued h.session h.shown
 
 -- the history of its link
 abbrev pub link_history : MessageForm → ℕ → SessionHistory → ℕ → LinkHistory
@@ -35,7 +45,7 @@ link_history f max h acknowledged = record {
   used = h.used;
   gone = h.gone;
   accepted = messages_of f max h.input;
-  taken = mail_in h.shown;
+  taken = taken_of h.session h.shown;
   acknowledged = acknowledged;
 }
 
@@ -104,6 +114,85 @@ frames_done (suc n) l =
           ∙ ap (λ d. record l { link = d }) (frames_again n l.link),
     )
 
+-- messages that are taken, one after another
+pub takes_again : (n : ℕ) (d : LinkView)
+    → after_takes n (after_taking d) ≡ after_taking (after_takes n d)
+unfolding after_takes
+takes_again zero d = refl
+takes_again (suc n) d = ap after_taking (takes_again n d)
+
+pub takes_inbox : (n : ℕ) (d : LinkView)
+    → (after_takes n d).station.core.station.inbox ≡ drop n d.station.core.station.inbox
+unfolding after_takes
+takes_inbox zero d = refl
+takes_inbox (suc n) d =
+    ap (λ (x : LinkView). x.station.core.station.inbox) (sym (takes_again n d))
+    ∙ takes_inbox n (after_taking d)
+    ∙ drop-one-more d.station.core.station.inbox n
+
+pub takes_longest : (n : ℕ) (d : LinkView)
+    → (after_takes n d).station.core.limits.longest ≡ d.station.core.limits.longest
+unfolding after_takes
+takes_longest zero d = refl
+takes_longest (suc n) d = takes_longest n d
+
+pub takes_done : (n : ℕ) (l : LinkHistory)
+    → IsHistory (takes_put n l.link) l
+    × (after_history (takes_put n l.link) l ≡ record l {
+      link = after_takes n l.link;
+      taken = l.taken ++ take n l.link.station.core.station.inbox;
+    })
+unfolding takes_put after_history after_takes
+takes_done zero l = (tt, λ i. record l { taken = sym (append-nil l.taken) i })
+takes_done (suc n) l =
+    let inbox = l.link.station.core.station.inbox in
+    let first = option_to_list (first_message inbox) in
+    let next = after_step (link_step Takes (after_taking l.link)) l in
+    let r = takes_done n next in (
+      (refl, r.0),
+      r.1
+          ∙ (λ i. parts (takes_again n l.link i) (append-nil l.used i) (append-nil l.gone i)
+          (append-nil l.accepted i)
+          ((append_assoc l.taken first (take n (drop 1 inbox))
+          ∙ ap (λ ms. l.taken ++ ms) (take-one-more inbox n)) i)
+          (plus_none l.acknowledged i)),
+    )
+
+pub takes_offer_none : (n : ℕ) (d : LinkView) → offered_in (takes_put n d) ≡ []
+unfolding offered_in takes_put
+takes_offer_none zero d = refl
+takes_offer_none (suc n) d = takes_offer_none n (after_taking d)
+
+-- from an empty inbox none
+pub takes_nothing : (d : LinkView) → d.station.core.station.inbox ≡ [] → after_taking d ≡ d
+takes_nothing d e =
+    let s = d.station.core.station in
+    let left : drop 1 s.inbox ≡ s.inbox = ap (drop 1) e ∙ sym e in
+    let owed = none_owed (s.by_user && is_running s.state) s.inbox e in
+    let totals = ap (λ (m : List (List ℕ)). totals_after_take m d.totals) e in
+    λ i. record (with_state (record s {
+      inbox = left i;
+      reply = cond (owed i) (owed_after_take s.reply) s.reply;
+    }) d) { totals = totals i }
+
+pub takes_none : (n : ℕ) (d : LinkView) → d.station.core.station.inbox ≡ []
+    → after_takes n d ≡ d
+unfolding after_takes
+takes_none zero d e = refl
+takes_none (suc n) d e = ap after_taking (takes_none n d e) ∙ takes_nothing d e
+
+-- messages that are neither queued nor taken stay so
+pub left_alone : (b : Bool) (n : ℕ) (inbox : List (List ℕ))
+    → drop (n - cond b n 0) (drop (cond b n 0) inbox) ≡ drop n inbox
+left_alone true n inbox = ap (λ k. drop k (drop n inbox)) none
+  where
+    none : n - n ≡ 0
+    none = omega arith
+left_alone false n inbox = ap (λ k. drop k inbox) same
+  where
+    same : n - 0 ≡ n
+    same = omega arith
+
 pub frames_offer_none : (n : ℕ) (d : LinkView) → offered_in (frames_put n d) ≡ []
 unfolding offered_in frames_put
 frames_offer_none zero d = refl
@@ -127,9 +216,9 @@ pub holds_on : {told : Bool} (f : MessageForm) (max : ℕ) (h : SessionHistory) 
     (used gone written : List ℕ) (shown : List Shown) → Holds f max h
     → new.messages ≡ h.session.messages → new.is_read ≡ h.session.is_read
     → longest_of new.link ≡ longest_of h.session.link → IsText f written new.output shown
-    → new.options.maintenance ≡ h.session.options.maintenance
+    → new.options.maintenance ≡ h.session.options.maintenance → IsQueued new shown
     → Holds f max (session_parts told new used gone (h.input ++ []) written shown)
-holds_on {told} f max h new used gone written shown k same read longest text mode = record {
+holds_on {told} f max h new used gone written shown k same read longest text mode queued = record {
   kind = ap form_of same ∙ k.kind;
   longest = longest ∙ k.longest;
   reads = λ going. same ∙ k.reads (sym read ∙ going)
@@ -137,6 +226,7 @@ holds_on {told} f max h new used gone written shown k same read longest text mod
   text = text;
   of_data = mode ∙ k.of_data;
   plain = k.plain;
+  queued = queued;
 }
 
 -- the text stays
@@ -149,22 +239,24 @@ text_on f max h new k same =
 -- one call of the link, of a call that reads nothing
 pub one_call : (f : MessageForm) (max : ℕ) (h : SessionHistory) (new : SessionView) (k : ℕ) (call :
     LinkCall)
-    (used gone written : List ℕ) (shown : List Shown) (more : List (List ℕ))
+    (used gone written : List ℕ) (shown : List Shown)
     → HasDone call h.used h.session.link new.link
     → after_history (link_step call new.link ∷ []) (link_history f max h k)
-    ≡ parts new.link used gone (messages_of f max h.input ++ []) (mail_in h.shown ++ more)
+    ≡ parts new.link used gone (messages_of f max h.input ++ []) (taken_of h.session h.shown ++ [])
     (after_step (link_step call new.link) (link_history f max h k)).acknowledged
-    → mail_in shown ≡ mail_in h.shown ++ more
+    → IsKept h.session h.shown new shown
     → Leads (link_step call new.link ∷ []) (link_history f max h k) f max
     (session_parts false new used gone (h.input ++ []) written shown)
-one_call f max h new k call used gone written shown more done after mail = (
+one_call f max h new k call used gone written shown done after kept = (
   (done, tt),
   (
     (after_step (link_step call new.link) (link_history f max h k)).acknowledged,
     after
         ∙ same_parts new.link
         (after_step (link_step call new.link) (link_history f max h k)).acknowledged refl refl
-        (append-nil (messages_of f max h.input) ∙ sym (no_input f max h.input)) (sym mail),
+        (append-nil (messages_of f max h.input) ∙ sym (no_input f max h.input))
+        (append-nil (taken_of h.session h.shown)
+        ∙ sym (taken_kept h.session new h.shown shown kept)),
   ),
 )
 
@@ -172,16 +264,17 @@ one_call f max h new k call used gone written shown more done after mail = (
 pub no_call : (f : MessageForm) (max : ℕ) (h : SessionHistory) (new : SessionView) (k : ℕ)
     (written :
     List ℕ)
-    (shown : List Shown) → new.link ≡ h.session.link → mail_in shown ≡ mail_in h.shown
+    (shown : List Shown) → new.link ≡ h.session.link → IsKept h.session h.shown new shown
     → Leads [] (link_history f max h k) f max
     (session_parts false new (h.used ++ []) (h.gone ++ []) (h.input ++ []) written shown)
 unfolding after_history
-no_call f max h new k written shown same mail = (
+no_call f max h new k written shown same kept = (
   tt,
   (
     k,
     λ i. parts (sym same i) (sym (append-nil h.used) i) (sym (append-nil h.gone) i)
-        (sym (no_input f max h.input) i) (sym mail i) k,
+        (sym (no_input f max h.input) i)
+        (sym (taken_kept h.session new h.shown shown kept) i) k,
   ),
 )
 

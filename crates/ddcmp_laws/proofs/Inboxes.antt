@@ -2,22 +2,27 @@
 use Rattle.std.proofs.Common.{◌≡◌, ◌∙◌, ℕ, zero, suc, Bool, true, false, cond, List, [], ◌∷◌, ◌++◌}
 use Rattle.std.proofs.Common.{ap, sym, refl, append_assoc, append-nil}
 use Rattle.std.specs.Prelude.{◌==◌, ◌&&◌}
-use Rattle.ddcmp_frame.specs.declared.nak.Nak.{Nak as Reason}
 use Rattle.ddcmp_frame.specs.Reading.{ReadItem}
 use Rattle.ddcmp_window.specs.Numbers.{is_within}
 use Rattle.ddcmp_core.specs.declared.state.State.{State}
 use Rattle.ddcmp_core.specs.declared.state.State.TheVariants.{Halted, IStart, AStart, Running}
 use Rattle.ddcmp_core.specs.declared.state.State.TheVariants.{Maintenance}
-use Rattle.ddcmp_core.specs.declared.state.Timer.{Timer}
-use Rattle.ddcmp_core.specs.declared.state.Timer.TheVariants as timer
 use Rattle.ddcmp_core.specs.Core.{CoreView}
 use Rattle.ddcmp_core.specs.Table.{Acked, BadData, BadFormat, BadHeader, Data, Good, Limits, Maint}
 use Rattle.ddcmp_core.specs.Table.{Naked, Received, Rep, Stack, StationState, Strt, TooLong}
-use Rattle.ddcmp_core.specs.Table.{after_ack, after_expire_in, after_expire_with, after_halt}
-use Rattle.ddcmp_core.specs.Table.{after_restart, after_start, after_startup, has_room, is_on}
-use Rattle.ddcmp_core.specs.Table.{may_restart, may_send, after_accept, on, on_by, on_data}
-use Rattle.ddcmp_core.specs.Table.{on_nak, takes_data}
+use Rattle.ddcmp_core.specs.Table.{after_halt, after_restart, after_start, after_startup, has_room}
+use Rattle.ddcmp_core.specs.Table.{is_on, may_restart, may_send, after_accept, on, on_by, on_data}
+use Rattle.ddcmp_core.specs.Table.{takes_data}
+use Rattle.ddcmp_core.specs.Table.{may_start, next}
+use Rattle.ddcmp_core.proofs.Sent.{sending}
+use Rattle.ddcmp_frame.specs.Reader.{ReaderView}
 use Rattle.ddcmp_proto.specs.Bytes.{after_item, after_items, after_piece, items_added, received_of}
+use Rattle.ddcmp_station.specs.Driving.{core_after_expire, core_after_take_arm, deadline_at, is_due}
+use Rattle.ddcmp_station.specs.Linking.{LinkView, after_frame, after_frames, after_offered}
+use Rattle.ddcmp_station.specs.Linking.{after_polled, after_wake, anew, polls, total_plus}
+use Rattle.ddcmp_station.specs.Linking.{with_state}
+use Rattle.ddcmp_pair.proofs.Steady.{expired-inbox, inbox-sent}
+use Rattle.ddcmp_laws.proofs.StationLaws.{nak_by}
 
 -- the second has the messages of the first, and then more
 abbrev pub Adds : List (List ℕ) → List (List ℕ) → Type 0
@@ -148,3 +153,58 @@ adds-items (one ∷ rest) k =
 pub adds-piece : (text used : List ℕ) (k : CoreView)
     → Adds k.station.inbox (after_piece text used k).station.inbox
 adds-piece text used k = adds-items (items_added k.limits.longest text used) k
+
+-- ---- calls of a link
+
+abbrev pub inbox_in : LinkView → List (List ℕ)
+inbox_in d = d.station.core.station.inbox
+
+pub offered-inbox : (message : List ℕ) (d : LinkView)
+    → inbox_in (after_offered message d) ≡ inbox_in d
+offered-inbox message d = by (may_send d.station.core.limits d.station.core.station message)
+  where
+    by : (b : Bool)
+        → inbox_in
+        (cond b
+        (record (with_state (after_accept d.station.core.station message) d)
+        { totals = record d.totals { sent = total_plus d.totals.sent 1 } }) d)
+        ≡ inbox_in d
+    by true = refl
+    by false = refl
+
+pub woken-inbox : (now : ℕ) (d : LinkView) → inbox_in (after_wake now d) ≡ inbox_in d
+woken-inbox now d =
+    by (is_on k.station.timer
+    && is_due now (deadline_at d.milliseconds now d.station.core.station.timer d.deadline))
+  where
+    k : CoreView
+    k = core_after_take_arm d.station.core
+
+    by : (b : Bool)
+        → (cond b (core_after_expire (core_after_take_arm d.station.core))
+        (core_after_take_arm d.station.core)).station.inbox ≡ inbox_in d
+    by true = expired-inbox (core_after_take_arm d.station.core).station
+    by false = refl
+
+frame-inbox : (d : LinkView) → inbox_in (after_frame d) ≡ inbox_in d
+frame-inbox d = by (polls d)
+  where
+    by : (b : Bool) → inbox_in (cond b (after_polled d) d) ≡ inbox_in d
+    by true =
+        inbox-sent d.station.core.station (next d.station.core.station)
+        (sending d.station.core.station)
+    by false = refl
+
+pub frames-inbox : (n : ℕ) (d : LinkView) → inbox_in (after_frames n d) ≡ inbox_in d
+unfolding after_frames
+frames-inbox zero d = refl
+frames-inbox (suc n) d = frame-inbox (after_frames n d) ∙ frames-inbox n d
+
+started-inbox : (s : StationState) (b : Bool) → (cond b (after_start s) s).inbox ≡ s.inbox
+started-inbox s true = refl
+started-inbox s false = refl
+
+pub anew-inbox : (line : ReaderView) (d : LinkView) → inbox_in (anew line d) ≡ inbox_in d
+anew-inbox line d =
+    started-inbox (after_halt d.station.core.station)
+    (may_start (after_halt d.station.core.station))

@@ -177,6 +177,11 @@ unfolding frames_put
 frames-calm zero d = tt
 frames-calm (suc n) d = (tt, frames-calm n (after_frame d))
 
+takes-calm : (n : ℕ) (d : LinkView) → AreCalmSteps (takes_put n d)
+unfolding takes_put
+takes-calm zero d = tt
+takes-calm (suc n) d = (tt, takes-calm n (after_taking d))
+
 offers-calm : (es : List Entry) (message : List ℕ) (new : LinkView)
     → AreCalmSteps (offers_of es message new)
 offers-calm [] message new = tt
@@ -213,9 +218,9 @@ calm-steps (Filled n) i s new = frames-calm n s.link
 calm-steps (LineTook n) i s new = (tt, tt)
 calm-steps (TimedOut now) i s new = (tt, tt)
 calm-steps TimePassed i s new = tt
-calm-steps (Delivered true) i s new = (tt, tt)
+calm-steps (Delivered true) i s new = takes-calm (taken_at_once s) s.link
 calm-steps (Delivered false) i s new = tt
-calm-steps (OutputTook n) i s new = tt
+calm-steps (OutputTook n) i s new = takes-calm (taken_when_written n s) s.link
 calm-steps (Closed left over r) i s new = (tt, tt)
 
 -- ---- what stays

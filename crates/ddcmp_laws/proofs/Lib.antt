@@ -82,6 +82,8 @@ pub mod Finished
 pub mod Given
 pub mod Histories
 pub mod Holding
+mod Inboxes
+mod Queues
 pub mod Inputs
 pub mod LastAtA
 pub mod LastAtB

@@ -2,10 +2,10 @@
 use Rattle.std.proofs.Common.{◌≢◌}
 use Rattle.std.proofs.Common.{◌≡◌, ℕ, Bool, true, false, cond, List, [], ◌∷◌}
 use Rattle.std.proofs.Common.{◌++◌, map, take, refl, sym, ◌∙◌, ap}
-use Rattle.std.proofs.Common.{append-nil, option_to_list}
+use Rattle.std.proofs.Common.{append-nil, length, nat_le, option_to_list, subst}
 use Rattle.std.specs.Prelude.{◌||◌}
 use Rattle.ddcmp_frame.specs.Reader.{ReaderView}
-use Rattle.ddcmp_window.specs.Store.{first_message}
+use Rattle.ddcmp_core.specs.Core.{CoreView}
 use Rattle.ddcmp_input.specs.declared.entry.Entry.{Entry}
 use Rattle.ddcmp_input.specs.HexLines as hex
 use Rattle.ddcmp_input.specs.InBinary as binary
@@ -21,7 +21,9 @@ use Rattle.ddcmp_streams.specs.declared.messages.MessageForm.TheVariants as form
 use Rattle.ddcmp_streams.specs.declared.messages.Messages.{Messages}
 use Rattle.ddcmp_streams.specs.Messages.{messages_begun, message_in, after_input, entries_of_input}
 use Rattle.ddcmp_streams.specs.Messages.{after_last, entry_of_last}
-use Rattle.ddcmp_session.specs.Session.{SessionView, form_of, takes_end}
+use Rattle.ddcmp_streams.specs.Options.{takes_at_once}
+use Rattle.ddcmp_session.specs.Session.{SessionView, after_output, after_takes, form_of, link_begun}
+use Rattle.ddcmp_session.specs.Session.{next_mail, taken_at_once, taken_when_written, takes_end}
 use Rattle.ddcmp_session.specs.Session.{after_last_line, after_unfinished, after_input_end}
 use Rattle.ddcmp_session.specs.declared.course.Course.{Course}
 use Rattle.ddcmp_io.specs.declared.line_kind.LineKind.{LineKind}
@@ -31,7 +33,7 @@ use Rattle.ddcmp_session.specs.Session.{lost_by_end, after_timeout, after_connec
 use Rattle.ddcmp_session.specs.Session.{after_connecting_in, lost_by_start, starts}
 use Rattle.ddcmp_session.specs.Text.{reported_lost, mail_text, notices_text}
 use Rattle.ddcmp_laws.specs.Links.{LinkCall, BeginsAnew, Halts, Wakes, IsSent, Feeds}
-use Rattle.ddcmp_laws.specs.Links.{Takes, HasDone, HasFed, new_history}
+use Rattle.ddcmp_laws.specs.Links.{HasDone, HasFed, new_history}
 use Rattle.ddcmp_laws.specs.Links.{after_step, after_history}
 use Rattle.ddcmp_laws.specs.Links.{offered_in}
 use Rattle.ddcmp_session.specs.Calls.{SessionCall, InputRead, InputEnded, Connected, LineEnded}
@@ -41,18 +43,43 @@ use Rattle.ddcmp_session.specs.Calls.{Closed, HasReceived, HasDelivered, HasLeft
 use Rattle.ddcmp_session.specs.Calls.{SessionDoes, Shown, Mail, Reports, SessionHistory}
 use Rattle.ddcmp_session.specs.Calls.{new_session, SessionStep, end_in, losses}
 use Rattle.ddcmp_laws.specs.Sessions.{IsPlain, messages_of, got_in, mail_in, texts_of, link_step}
-use Rattle.ddcmp_laws.specs.Sessions.{offers_of, frames_put}
+use Rattle.ddcmp_laws.specs.Sessions.{offers_of, frames_put, takes_put}
 use Rattle.ddcmp_laws.proofs.Texts.{mail_more, no_mail, mail_is, nothing_lost, notices_are}
 use Rattle.ddcmp_laws.proofs.Texts.{mail_text_is, lost_text_is, no_text, IsText, writes}
 use Rattle.ddcmp_laws.proofs.Texts.{took}
 use Rattle.ddcmp_laws.proofs.Limits.{fed_longest, frames_longest, longest_of, wake_longest}
 use Rattle.ddcmp_laws.proofs.Holding.{Holds, Leads, StepLeads, frames_done, frames_offer_none}
 use Rattle.ddcmp_laws.proofs.Holding.{holds_on, link_history, no_call, no_input, no_offer, one_call}
-use Rattle.ddcmp_laws.proofs.Holding.{parts, quiet_mail, quiet_mail_more, session_parts, text_on}
+use Rattle.ddcmp_laws.proofs.Holding.{parts, quiet_mail, session_parts, takes_done, takes_inbox}
+use Rattle.ddcmp_laws.proofs.Holding.{takes_longest, takes_offer_none, text_on}
+use Rattle.ddcmp_laws.proofs.Inboxes.{Adds, adds-piece, adds-same, anew-inbox, frames-inbox}
+use Rattle.ddcmp_laws.proofs.Inboxes.{inbox_in, woken-inbox}
+use Rattle.ddcmp_laws.proofs.Queues.{IsKept, IsTaken, queued_kept, queues-none, taken_kept}
+use Rattle.ddcmp_laws.proofs.Queues.{taken_next, taken_of, taken_written}
 use Rattle.ddcmp_laws.proofs.Reading.{HasRead, ended_reads, offered_is, read_holds, read_leads}
 use Rattle.ddcmp_laws.proofs.Reading.{reading_input}
 
 -- ---- each call
+
+kept_by : (old new : SessionView) (before after : List Shown) → new.unwritten ≡ old.unwritten
+    → Adds (inbox_in old.link) (inbox_in new.link) → mail_in after ≡ mail_in before
+    → IsKept old before new after
+kept_by old new before after left inbox mail =
+    record { left = left; inbox = inbox; mail = mail }
+
+-- by a call of the link alone
+kept_link : (old new : SessionView) (shown : List Shown) (d : LinkView)
+    → new ≡ record old { link = d } → Adds (inbox_in old.link) (inbox_in d)
+    → IsKept old shown new (shown ++ [])
+kept_link old new shown d is adds =
+    kept_by old new shown (shown ++ []) (ap (λ (x : SessionView). x.unwritten) is)
+    (subst (λ (l : LinkView). Adds (inbox_in old.link) (inbox_in l))
+    (sym (ap (λ (x : SessionView). x.link) is)) adds)
+    (quiet_mail shown)
+
+same_inbox : (old new : LinkView) → inbox_in new ≡ inbox_in old
+    → Adds (inbox_in old) (inbox_in new)
+same_inbox old new same = adds-same (inbox_in old) (inbox_in new) same
 
 pub read_step : {told : Bool} (f : MessageForm) (max : ℕ) (h : SessionHistory) (used : List ℕ)
     (es : List Entry) (message : List ℕ) (new : SessionView) (k : ℕ) → Holds f max h
@@ -81,6 +108,13 @@ ended_step f max h new k holds e = by (takes_end h.session) refl e
     m : Messages
     m = h.session.messages
 
+    kept : new ≡ h.session → IsKept h.session h.shown new (h.shown ++ [])
+    kept is =
+        kept_by h.session new h.shown (h.shown ++ []) (ap (λ (x : SessionView). x.unwritten) is)
+        (adds-same (inbox_in h.session.link) (inbox_in new.link)
+        (ap (λ (x : SessionView). inbox_in x.link) is))
+        (quiet_mail h.shown)
+
     by : (w : Bool) → takes_end h.session ≡ w
         → new ≡ cond w (after_unfinished (after_last_line h.session)) h.session
         → Leads
@@ -107,12 +141,13 @@ ended_step f max h new k holds e = by (takes_end h.session) refl e
         (ended_reads f max h new holds wants is)
     by false wants is = (
       no_call f max h new k (h.written ++ []) (h.shown ++ []) (ap (λ (x : SessionView). x.link) is)
-          (quiet_mail h.shown),
+          (kept is),
       holds_on f max h new (h.used ++ []) (h.gone ++ []) (h.written ++ []) (h.shown ++ []) holds
           (ap (λ (x : SessionView). x.messages) is) (ap (λ (x : SessionView). x.is_read) is)
           (ap (λ (x : SessionView). longest_of x.link) is)
           (text_on f max h new holds (ap (λ (x : SessionView). x.output) is))
-          (ap (λ (x : SessionView). x.options.maintenance) is),
+          (ap (λ (x : SessionView). x.options.maintenance) is)
+          (queued_kept h.session new h.shown (h.shown ++ []) (kept is) holds.queued),
       no_offer f max h.input [] refl,
     )
 
@@ -120,13 +155,15 @@ ended_step f max h new k holds e = by (takes_end h.session) refl e
 pub link_only : {told : Bool} (f : MessageForm) (max : ℕ) (h : SessionHistory) (new : SessionView)
     (used gone : List ℕ) → Holds f max h → new ≡ record h.session { link = new.link }
     → longest_of new.link ≡ longest_of h.session.link
+    → IsKept h.session h.shown new (h.shown ++ [])
     → Holds f max
     (session_parts told new used gone (h.input ++ []) (h.written ++ []) (h.shown ++ []))
-link_only {told} f max h new used gone k is longest =
+link_only {told} f max h new used gone k is longest kept =
     holds_on f max h new used gone (h.written ++ []) (h.shown ++ []) k
     (ap (λ (x : SessionView). x.messages) is) (ap (λ (x : SessionView). x.is_read) is) longest
     (text_on f max h new k (ap (λ (x : SessionView). x.output) is))
     (ap (λ (x : SessionView). x.options.maintenance) is)
+    (queued_kept h.session new h.shown (h.shown ++ []) kept k.queued)
 
 pub same_link : (old new : SessionView) (d : LinkView) → new ≡ record old { link = d }
     → new ≡ record old { link = new.link }
@@ -138,9 +175,9 @@ pub link_step_leads : {told : Bool} (f : MessageForm) (max : ℕ) (h : SessionHi
     (new : SessionView)
     (k : ℕ) (call : LinkCall) (used gone : List ℕ) (d : LinkView) → Holds f max h
     → new ≡ record h.session { link = d } → HasDone call h.used h.session.link new.link
-    → longest_of d ≡ longest_of h.session.link
+    → longest_of d ≡ longest_of h.session.link → Adds (inbox_in h.session.link) (inbox_in d)
     → after_history (link_step call new.link ∷ []) (link_history f max h k)
-    ≡ parts new.link used gone (messages_of f max h.input ++ []) (mail_in h.shown ++ [])
+    ≡ parts new.link used gone (messages_of f max h.input ++ []) (taken_of h.session h.shown ++ [])
     (after_step (link_step call new.link) (link_history f max h k)).acknowledged
     → offered_in (link_step call new.link ∷ []) ≡ []
     → Leads (link_step call new.link ∷ []) (link_history f max h k) f max
@@ -149,11 +186,12 @@ pub link_step_leads : {told : Bool} (f : MessageForm) (max : ℕ) (h : SessionHi
     (session_parts told new used gone (h.input ++ []) (h.written ++ []) (h.shown ++ []))
     × (messages_of f max (h.input ++ [])
     ≡ messages_of f max h.input ++ offered_in (link_step call new.link ∷ []))
-link_step_leads {told} f max h new k call used gone d holds is done longest after quiet = (
-  one_call f max h new k call used gone (h.written ++ []) (h.shown ++ []) [] done after
-      (quiet_mail_more h.shown),
+link_step_leads {told} f max h new k call used gone d holds is done longest adds after quiet = (
+  one_call f max h new k call used gone (h.written ++ []) (h.shown ++ []) done after
+      (kept_link h.session new h.shown d is adds),
   link_only f max h new used gone holds (same_link h.session new d is)
-      (ap (λ (x : SessionView). longest_of x.link) is ∙ longest),
+      (ap (λ (x : SessionView). longest_of x.link) is ∙ longest)
+      (kept_link h.session new h.shown d is adds),
   no_offer f max h.input (link_step call new.link ∷ []) quiet,
 )
 
@@ -162,7 +200,11 @@ pub filled_step : (f : MessageForm) (max : ℕ) (h : SessionHistory) (new : Sess
     → Holds f max h → new ≡ record h.session { link = after_frames frames h.session.link }
     → StepLeads f max (record { call = Filled frames; session = new }) h k
 filled_step f max h new k frames holds is =
-    let r = frames_done frames (link_history f max h k) in (
+    let r = frames_done frames (link_history f max h k) in
+    let kept =
+    kept_link h.session new h.shown (after_frames frames h.session.link) is
+    (same_inbox h.session.link (after_frames frames h.session.link)
+    (frames-inbox frames h.session.link)) in (
       (
         r.0,
         (
@@ -170,12 +212,14 @@ filled_step f max h new k frames holds is =
           r.1
               ∙ (λ i. parts (sym (ap (λ (x : SessionView). x.link) is) i)
               (sym (append-nil h.used) i) (sym (append-nil h.gone) i)
-              (sym (no_input f max h.input) i) (sym (quiet_mail h.shown) i) k),
+              (sym (no_input f max h.input) i)
+              (sym (taken_kept h.session new h.shown (h.shown ++ []) kept) i) k),
         ),
       ),
       link_only f max h new (h.used ++ []) (h.gone ++ []) holds
           (same_link h.session new (after_frames frames h.session.link) is)
-          (ap (λ (x : SessionView). longest_of x.link) is ∙ frames_longest frames h.session.link),
+          (ap (λ (x : SessionView). longest_of x.link) is ∙ frames_longest frames h.session.link)
+          kept,
       no_offer f max h.input (frames_put frames h.session.link)
           (frames_offer_none frames h.session.link),
     )
@@ -192,11 +236,15 @@ unfolding after_history offered_in
 received_step f max h new k used holds r =
     let notices = notices_of_piece h.used used h.session.link.station.core in
     let shown = h.shown ++ map Reports notices in
-    let mail : mail_in shown ≡ mail_in h.shown ++ [] =
+    let mail : mail_in shown ≡ mail_in h.shown =
     mail_more h.shown (map Reports notices) ∙ ap (λ ms. mail_in h.shown ++ ms) (no_mail notices)
-    in (
-      one_call f max h new k (Feeds used) (h.used ++ used) (h.gone ++ []) (h.written ++ []) shown []
-          (fed_of h.used used h.session new r) refl mail,
+    ∙ append-nil (mail_in h.shown) in
+    let kept =
+    kept_by h.session new h.shown shown (ap (λ (x : SessionView). x.unwritten) r.stays)
+    (subst (λ (c : CoreView). Adds (inbox_in h.session.link) c.station.inbox) (sym r.core)
+    (adds-piece h.used used h.session.link.station.core)) mail in (
+      one_call f max h new k (Feeds used) (h.used ++ used) (h.gone ++ []) (h.written ++ []) shown
+          (fed_of h.used used h.session new r) refl kept,
       holds_on f max h new (h.used ++ used) (h.gone ++ []) (h.written ++ []) shown holds
           (ap (λ (x : SessionView). x.messages) r.stays) (ap (λ (x : SessionView). x.is_read)
           r.stays)
@@ -204,8 +252,26 @@ received_step f max h new k used holds r =
           (writes f h.written h.shown (map Reports notices) h.session.output new.output
           (notices_text (form_of h.session.messages) notices) holds.text r.wrote
           (ap (λ g. notices_text g notices) holds.kind ∙ notices_are f notices))
-          (ap (λ (x : SessionView). x.options.maintenance) r.stays),
+          (ap (λ (x : SessionView). x.options.maintenance) r.stays)
+          (queued_kept h.session new h.shown shown kept holds.queued),
       no_offer f max h.input (link_step (Feeds used) new.link ∷ []) refl,
+    )
+
+-- this many messages are taken
+taken_leads : (f : MessageForm) (max : ℕ) (h : SessionHistory) (new : SessionView) (k n : ℕ)
+    (written : List ℕ) (shown : List Shown) → new.link ≡ after_takes n h.session.link
+    → IsTaken n h.session h.shown new shown
+    → Leads (takes_put n h.session.link) (link_history f max h k) f max
+    (session_parts false new (h.used ++ []) (h.gone ++ []) (h.input ++ []) written shown)
+taken_leads f max h new k n written shown link taken =
+    let r = takes_done n (link_history f max h k) in (
+      r.0,
+      (
+        k,
+        r.1
+            ∙ (λ i. parts (sym link i) (sym (append-nil h.used) i) (sym (append-nil h.gone) i)
+            (sym (no_input f max h.input) i) (sym taken.taken i) k),
+      ),
     )
 
 pub delivered_step : (f : MessageForm) (max : ℕ) (h : SessionHistory) (new : SessionView) (k : ℕ)
@@ -213,22 +279,51 @@ pub delivered_step : (f : MessageForm) (max : ℕ) (h : SessionHistory) (new : S
     → StepLeads f max (record { call = Delivered true; session = new }) h k
 unfolding after_history offered_in
 delivered_step f max h new k holds r =
-    let first = first_message h.session.link.station.core.station.inbox in
+    let first = next_mail h.session in
+    let n = taken_at_once h.session in
     let messages = option_to_list first in
     let shown = h.shown ++ map Mail messages in
-    let mail : mail_in shown ≡ mail_in h.shown ++ messages =
-    mail_more h.shown (map Mail messages) ∙ ap (λ ms. mail_in h.shown ++ ms) (mail_is messages) in (
-      one_call f max h new k Takes (h.used ++ []) (h.gone ++ []) (h.written ++ []) shown messages
-          r.link refl mail,
+    let mail : mail_in shown ≡ mail_in h.shown ++ r.wrote.0 ∷ [] =
+    mail_more h.shown (map Mail messages) ∙ ap (λ ms. mail_in h.shown ++ ms) (mail_is messages)
+    ∙ ap (λ o. mail_in h.shown ++ option_to_list o) r.wrote.1 in
+    let link = ap (λ (x : SessionView). x.link) r.stays in
+    let taken =
+    taken_next (takes_at_once h.session.options) h.session new h.shown shown r.wrote.0
+    holds.queued r.wrote.1 mail (ap (λ (x : SessionView). x.unwritten) r.stays)
+    (ap inbox_in link ∙ takes_inbox n h.session.link) in (
+      taken_leads f max h new k n (h.written ++ []) shown link taken,
       holds_on f max h new (h.used ++ []) (h.gone ++ []) (h.written ++ []) shown holds
           (ap (λ (x : SessionView). x.messages) r.stays) (ap (λ (x : SessionView). x.is_read)
           r.stays)
-          (ap longest_of r.link)
+          (ap longest_of link ∙ takes_longest n h.session.link)
           (writes f h.written h.shown (map Mail messages) h.session.output new.output
           (mail_text (form_of h.session.messages) r.wrote.0) holds.text r.wrote.2
           (ap (λ g. mail_text g r.wrote.0) holds.kind ∙ mail_text_is f first r.wrote.0 r.wrote.1))
-          (ap (λ (x : SessionView). x.options.maintenance) r.stays),
-      no_offer f max h.input (link_step Takes new.link ∷ []) refl,
+          (ap (λ (x : SessionView). x.options.maintenance) r.stays) taken.queued,
+      no_offer f max h.input (takes_put n h.session.link) (takes_offer_none n h.session.link),
+    )
+
+pub written_step : (f : MessageForm) (max : ℕ) (h : SessionHistory) (new : SessionView) (k m : ℕ)
+    → Holds f max h → new ≡ after_output m h.session
+    → StepLeads f max (record { call = OutputTook m; session = new }) h k
+unfolding after_history offered_in
+written_step f max h new k m holds is =
+    let n = taken_when_written m h.session in
+    let shown = h.shown ++ [] in
+    let written = h.written ++ take m h.session.output.waiting in
+    let link = ap (λ (x : SessionView). x.link) is in
+    let taken =
+    taken_written (nat_le (length h.session.output.waiting) m) h.session new h.shown shown
+    holds.queued (quiet_mail h.shown) (ap (λ (x : SessionView). x.unwritten) is)
+    (ap inbox_in link ∙ takes_inbox n h.session.link) in (
+      taken_leads f max h new k n written shown link taken,
+      holds_on f max h new (h.used ++ []) (h.gone ++ []) written shown holds
+          (ap (λ (x : SessionView). x.messages) is) (ap (λ (x : SessionView). x.is_read) is)
+          (ap longest_of link ∙ takes_longest n h.session.link)
+          (took f h.written m h.shown h.session.output new.output holds.text
+          (ap (λ (x : SessionView). x.output.waiting) is))
+          (ap (λ (x : SessionView). x.options.maintenance) is) taken.queued,
+      no_offer f max h.input (takes_put n h.session.link) (takes_offer_none n h.session.link),
     )
 
 -- a call that leaves the link
@@ -242,14 +337,18 @@ pub output_step : {told : Bool} (f : MessageForm) (max : ℕ) (h : SessionHistor
     (session_parts told new (h.used ++ []) (h.gone ++ []) (h.input ++ []) written shown)
     × (messages_of f max (h.input ++ []) ≡ messages_of f max h.input ++ offered_in [])
 unfolding offered_in
-output_step {told} f max h new k written shown holds is mail text = (
-  no_call f max h new k written shown (ap (λ (x : SessionView). x.link) is) mail,
-  holds_on f max h new (h.used ++ []) (h.gone ++ []) written shown holds
-      (ap (λ (x : SessionView). x.messages) is) (ap (λ (x : SessionView). x.is_read) is)
-      (ap (λ (x : SessionView). longest_of x.link) is) text
-      (ap (λ (x : SessionView). x.options.maintenance) is),
-  no_offer f max h.input [] refl,
-)
+output_step {told} f max h new k written shown holds is mail text =
+    let link = ap (λ (x : SessionView). x.link) is in
+    let kept =
+    kept_by h.session new h.shown shown (ap (λ (x : SessionView). x.unwritten) is)
+    (same_inbox h.session.link new.link (ap inbox_in link)) mail in (
+      no_call f max h new k written shown link kept,
+      holds_on f max h new (h.used ++ []) (h.gone ++ []) written shown holds
+          (ap (λ (x : SessionView). x.messages) is) (ap (λ (x : SessionView). x.is_read) is)
+          (ap longest_of link) text (ap (λ (x : SessionView). x.options.maintenance) is)
+          (queued_kept h.session new h.shown shown kept holds.queued),
+      no_offer f max h.input [] refl,
+    )
 
 pub left_step : (f : MessageForm) (max : ℕ) (h : SessionHistory) (r : Bool) (new : SessionView)
     (k : ℕ)
@@ -260,11 +359,14 @@ left_step f max h r new k holds d =
     let count = lost_by_end h.session in
     let lost = losses r h.session in
     let shown = h.shown ++ lost in
-    let mail : mail_in shown ≡ mail_in h.shown ++ [] =
+    let mail : mail_in shown ≡ mail_in h.shown =
     mail_more h.shown lost ∙ ap (λ ms. mail_in h.shown ++ ms) (nothing_lost r h.session)
-    in (
-      one_call f max h new k Halts (h.used ++ []) (h.gone ++ []) (h.written ++ []) shown [] d.link
-          refl mail,
+    ∙ append-nil (mail_in h.shown) in
+    let kept =
+    kept_by h.session new h.shown shown (ap (λ (x : SessionView). x.unwritten) d.stays)
+    (same_inbox h.session.link new.link (ap inbox_in d.link)) mail in (
+      one_call f max h new k Halts (h.used ++ []) (h.gone ++ []) (h.written ++ []) shown d.link
+          refl kept,
       holds_on f max h new (h.used ++ []) (h.gone ++ []) (h.written ++ []) shown holds
           (ap (λ (x : SessionView). x.messages) d.stays) (ap (λ (x : SessionView). x.is_read)
           d.stays)
@@ -272,7 +374,8 @@ left_step f max h r new k holds d =
           (writes f h.written h.shown lost h.session.output new.output
           (reported_lost r (form_of h.session.messages) count) holds.text d.wrote
           (ap (λ g. reported_lost r g count) holds.kind ∙ lost_text_is r f h.session))
-          (ap (λ (x : SessionView). x.options.maintenance) d.stays),
+          (ap (λ (x : SessionView). x.options.maintenance) d.stays)
+          (queued_kept h.session new h.shown shown kept holds.queued),
       no_offer f max h.input (link_step Halts new.link ∷ []) refl,
     )
 
@@ -284,11 +387,14 @@ closed_step f max h left over r new k holds d =
     let count = lost_by_end h.session in
     let lost = losses r h.session in
     let shown = h.shown ++ lost in
-    let mail : mail_in shown ≡ mail_in h.shown ++ [] =
+    let mail : mail_in shown ≡ mail_in h.shown =
     mail_more h.shown lost ∙ ap (λ ms. mail_in h.shown ++ ms) (nothing_lost r h.session)
-    in (
-      one_call f max h new k Halts (h.used ++ []) (h.gone ++ []) (h.written ++ []) shown [] d.link
-          refl mail,
+    ∙ append-nil (mail_in h.shown) in
+    let kept =
+    kept_by h.session new h.shown shown (ap (λ (x : SessionView). x.unwritten) d.stays)
+    (same_inbox h.session.link new.link (ap inbox_in d.link)) mail in (
+      one_call f max h new k Halts (h.used ++ []) (h.gone ++ []) (h.written ++ []) shown d.link
+          refl kept,
       record {
         kind = d.form ∙ holds.kind;
         longest = ap longest_of d.link ∙ holds.longest;
@@ -299,6 +405,7 @@ closed_step f max h left over r new k holds d =
             (ap (λ g. reported_lost r g count) holds.kind ∙ lost_text_is r f h.session);
         of_data = ap (λ (x : SessionView). x.options.maintenance) d.stays ∙ holds.of_data;
         plain = holds.plain;
+        queued = queued_kept h.session new h.shown shown kept holds.queued;
       },
       no_offer f max h.input (link_step Halts new.link ∷ []) refl,
     )
@@ -321,6 +428,7 @@ holds_with_line f max b c h k =
       text = k.text;
       of_data = k.of_data;
       plain = k.plain;
+      queued = k.queued;
     }
 
 -- a session of data was connected
@@ -362,21 +470,26 @@ step_leads f max step h k does holds = by step.call step.session does
         let is = connected_is h.session new holds.of_data d.0 in
         link_step_leads f max (with_line b c h) new k BeginsAnew (h.used ++ []) (h.gone ++ [])
         (anew new.link.station.line h.session.link) (holds_with_line f max b c h holds) is
-        (ap (λ (x : SessionView). x.link) is, d.1, d.2) refl refl refl
+        (ap (λ (x : SessionView). x.link) is, d.1, d.2) refl
+        (same_inbox h.session.link (anew new.link.station.line h.session.link)
+        (anew-inbox new.link.station.line h.session.link)) refl refl
     by (LineEnded r) new d = left_step f max h r new k holds d
     by (Received used) new d = received_step f max h new k used holds d
     by (Filled frames) new d = filled_step f max h new k frames holds d.0
     by (LineTook n) new d =
         link_step_leads f max h new k (IsSent n) (h.used ++ [])
         (h.gone ++ take n h.session.link.outbox.waiting) (after_sent n h.session.link) holds d
-        (ap (λ (x : SessionView). x.link) d) refl refl refl
+        (ap (λ (x : SessionView). x.link) d) refl
+        (same_inbox h.session.link (after_sent n h.session.link) refl) refl refl
     by (TimedOut now) new d =
         let b = h.session.has_line in
         let c = (after_timeout now h.session).course in
         link_step_leads f max (with_line b c h) new k (Wakes now) (h.used ++ []) (h.gone ++ [])
         (after_wake now h.session.link) (holds_with_line f max b c h holds) d
         (ap (λ (x : SessionView). x.link) d)
-        (wake_longest now h.session.link) refl refl
+        (wake_longest now h.session.link)
+        (same_inbox h.session.link (after_wake now h.session.link)
+        (woken-inbox now h.session.link)) refl refl
     by TimePassed new d =
         output_step f max (with_line h.session.has_line new.course h) new k (h.written ++ [])
         (h.shown ++ []) (holds_with_line f max h.session.has_line new.course h holds)
@@ -392,15 +505,7 @@ step_leads f max step h k does holds = by step.call step.session does
         (quiet_mail h.shown)
         (writes f h.written h.shown [] h.session.output new.output [] holds.text d.wrote
         (no_text f))
-    by (OutputTook n) new d =
-        output_step f max h new k (h.written ++ take n h.session.output.waiting) (h.shown ++ [])
-        holds
-        (d
-        ∙ ap (λ q. record h.session { output = q })
-        (sym (ap (λ (x : SessionView). x.output) d)))
-        (quiet_mail h.shown)
-        (took f h.written n h.shown h.session.output new.output holds.text
-        (ap (λ (x : SessionView). x.output.waiting) d))
+    by (OutputTook n) new d = written_step f max h new k n holds d
     by (Closed left over r) new d = closed_step f max h left over r new k holds d
 
 -- ---- a new session
@@ -414,7 +519,7 @@ begun f o kind line =
 begun_holds : (f : MessageForm) (o : Options) (kind : LineKind) (line : ReaderView)
     → o.maintenance ≡ false → f ≢ form.Events
     → Holds f o.config.max (begun f o kind line)
-    × (new_history o.config o.timer_ms line
+    × (record (new_history o.config o.timer_ms line) { link = link_begun o line }
     ≡ link_history f o.config.max (begun f o kind line) 0)
 unfolding begun got_in mail_in texts_of binary.told_in lines.told_in lengths.after_bytes
     hex.after_bytes
@@ -426,6 +531,7 @@ begun_holds form.Digits o kind line of_data plain = (
     text = refl;
     of_data = of_data;
     plain = plain;
+    queued = queues-none [] [];
   },
   refl,
 )
@@ -437,6 +543,7 @@ begun_holds form.Binary o kind line of_data plain = (
     text = refl;
     of_data = of_data;
     plain = plain;
+    queued = queues-none [] [];
   },
   refl,
 )
@@ -445,7 +552,7 @@ begun_holds form.Events o kind line of_data plain = absurd (plain refl)
 pub begins : (o : Options) (kind : LineKind) (line : ReaderView)
     → IsPlain o
     → Holds o.form o.config.max (new_session o kind line)
-    × (new_history o.config o.timer_ms line
+    × (record (new_history o.config o.timer_ms line) { link = link_begun o line }
     ≡ link_history o.form o.config.max (new_session o kind line) 0)
 unfolding begun
 begins o kind line plain = begun_holds o.form o kind line plain.of_data plain.no_events

@@ -570,12 +570,13 @@ outcome TimePassed text old new d =
     (same-at (λ x. x.has_line) new to d.stays, passes-lost old new d)
     (λ halted. same-stays (station_of old) (station_of new) halted (ap station_of d.stays))
 outcome (Delivered true) text old new d =
-    let to = record old { link = new.link; output = new.output } in
+    let to = record (after_queued old) { output = new.output } in
+    let n = taken_at_once old in
     leaves old new
     (same-at (λ x. x.has_line) new to d.stays, same-at (λ x. x.course.lost) new to d.stays)
     (λ halted. (
-      ap (λ (k : LinkView). k.station.core.station.state) d.link ∙ halted,
-      ap (λ (k : LinkView). k.station.core.station.out) d.link,
+      same-at (λ x. (station_of x).state) new to d.stays ∙ takes-state n old.link ∙ halted,
+      same-at (λ x. (station_of x).out) new to d.stays ∙ takes-out n old.link,
     ))
 outcome (Delivered false) text old new d =
     let to = record old { output = new.output } in
@@ -583,10 +584,14 @@ outcome (Delivered false) text old new d =
     (same-at (λ x. x.has_line) new to d.stays, same-at (λ x. x.course.lost) new to d.stays)
     (λ halted. same-stays (station_of old) (station_of new) halted (ap station_of d.stays))
 outcome (OutputTook n) text old new d =
-    let to = record old { output = after_taken n old.output } in
+    let to = after_output n old in
+    let k = taken_when_written n old in
     leaves old new
     (same-at (λ x. x.has_line) new to d, same-at (λ x. x.course.lost) new to d)
-    (λ halted. same-stays (station_of old) (station_of new) halted (ap station_of d))
+    (λ halted. (
+      same-at (λ x. (station_of x).state) new to d ∙ takes-state k old.link ∙ halted,
+      same-at (λ x. (station_of x).out) new to d ∙ takes-out k old.link,
+    ))
 outcome (Closed left over r) text old new d = inr (inl (record {
   state = ap (λ (k : LinkView). k.station.core.station.state) d.link;
   out = ap (λ (k : LinkView). k.station.core.station.out) d.link;

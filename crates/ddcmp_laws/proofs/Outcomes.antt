@@ -2,7 +2,7 @@
 use Rattle.std.proofs.Common.{◌≡◌, ℕ, Bool, true, false, List, [], ◌∷◌}
 use Rattle.std.proofs.Common.{◌++◌, length, map, refl, sym, ◌∙◌, ap, subst, arith, append_assoc}
 use Rattle.std.proofs.Common.{append-nil, cond, None}
-use Rattle.std.specs.Prelude.{◌&&◌}
+use Rattle.std.specs.Prelude.{◌&&◌, not}
 use Rattle.std.specs.List.{All}
 use Rattle.ddcmp_input.specs.InBinary.{in_binary, behind_length, told_in, Fits}
 use Rattle.ddcmp_input.specs.Lengths as lengths
@@ -11,23 +11,34 @@ use Rattle.ddcmp_input.proofs.BinaryLaws as in_binary_laws
 use Rattle.ddcmp_proto.specs.Config.{first_refusal}
 use Rattle.ddcmp_station.specs.Linking.{delivered}
 use Rattle.ddcmp_io.specs.declared.carrier.End.{End}
+use Rattle.ddcmp_io.specs.declared.carrier.End.TheVariants.{A, B}
+use Rattle.ddcmp_core.proofs.Sound.{sound_chosen}
+use Rattle.ddcmp_core.specs.Table.{new_station}
+use Rattle.ddcmp_pair.proofs.Modes.{acts-hold}
+use Rattle.ddcmp_pair.proofs.Ready.{Holding}
+use Rattle.ddcmp_pair.specs.Choices.{Chooses, after_choice_here, run_acts}
+use Rattle.ddcmp_proto.specs.Config.{limits_of}
+use Rattle.ddcmp_streams.specs.Options.{takes_at_once}
 use Rattle.ddcmp_pair.specs.Prefix.{IsPrefixOf}
-use Rattle.ddcmp_pair.specs.Run.{new_pair}
+use Rattle.ddcmp_pair.specs.Run.{new_end}
 use Rattle.ddcmp_streams.specs.declared.messages.MessageForm.{MessageForm}
 use Rattle.ddcmp_streams.specs.declared.messages.MessageForm.TheVariants as form
 use Rattle.ddcmp_laws.specs.PairCalls.{run_calls}
 use Rattle.ddcmp_laws.specs.Links.{LinkOverStreams}
-use Rattle.ddcmp_laws.specs.Links.{Links, after_steps}
+use Rattle.ddcmp_laws.specs.Links.{IsSameEnd, Links, after_steps}
 use Rattle.ddcmp_laws.specs.Links.{AreStartedOnce, received, LinkReaches}
 use Rattle.ddcmp_laws.specs.LinkLines.{AreLinkCalls, calls_of_steps}
-use Rattle.ddcmp_laws.proofs.TwoLinks.{NoneOut, acknowledged_to_a, acknowledged_to_b, kept}
-use Rattle.ddcmp_laws.proofs.TwoLinks.{none_out, reaches_a, reaches_b}
+use Rattle.ddcmp_laws.specs.Faithful.{bytes_of, written}
+use Rattle.ddcmp_laws.proofs.FaithfulLaws.{IsWell, sound_made}
+use Rattle.ddcmp_laws.proofs.Queues.{IsQueued, all_of}
+use Rattle.ddcmp_laws.proofs.TwoLinks.{IsFreshStart, NoneOut, acknowledged_to_a, acknowledged_to_b}
+use Rattle.ddcmp_laws.proofs.TwoLinks.{none_out, reaches_a, reaches_b, streams_from}
 use Rattle.ddcmp_session.specs.Calls.{SessionHistory, SessionStep, end_in}
 use Rattle.ddcmp_laws.specs.Sessions.{messages_of, mail_in, got_in, texts_of}
 use Rattle.ddcmp_laws.specs.Loops.{DevicesDeliver, DevicesPipe, DevicesPipeAll}
 use Rattle.ddcmp_laws.specs.Loops.{DevicesPipeClosed}
 use Rattle.ddcmp_laws.proofs.LoopLaws.{devices_pipe, devices_pipe_all}
-use Rattle.ddcmp_laws.specs.Pipe.{Made, Sessions, new_sessions, links_made}
+use Rattle.ddcmp_laws.specs.Pipe.{Made, Sessions, link_made_of, new_sessions, links_made, pair_made}
 use Rattle.ddcmp_laws.specs.Pipe.{after_session_at, AreSessionCalls, after_sessions}
 use Rattle.ddcmp_laws.specs.Pipe.{link_steps_at, AreConnectedOnce}
 use Rattle.ddcmp_laws.specs.Pipe.{undelivered, Pipes, PipesAll, PipesBytes, PipesClosed}
@@ -52,11 +63,14 @@ last_true false b e = cc
 -- what is received begins what is accepted
 pub delivers_first : (f : MessageForm) (max : ℕ) (g : MessageForm) (other : ℕ)
     (giver taker : SessionHistory)
-    (j k : ℕ) → LinkReaches (link_history f max giver j) (link_history g other taker k)
+    (j k : ℕ) → IsQueued taker.session taker.shown
+    → LinkReaches (link_history f max giver j) (link_history g other taker k)
     → IsPrefixOf (mail_in taker.shown) (messages_of f max giver.input)
-delivers_first f max g other giver taker j k r = (
+delivers_first f max g other giver taker j k queued r = (
   undelivered taker ++ r.order.0,
-  sym (append_assoc (mail_in taker.shown) (undelivered taker) r.order.0) ∙ r.order.1,
+  sym (append_assoc (mail_in taker.shown) (undelivered taker) r.order.0)
+      ∙ ap (λ ms. ms ++ r.order.0) (all_of taker.session taker.shown queued)
+      ∙ r.order.1,
 )
 
 pub binary_more : (xs ys : List (List ℕ)) → in_binary (xs ++ ys) ≡ in_binary xs ++ in_binary ys
@@ -188,6 +202,55 @@ abbrev pub links_after : Made → Made → List (End × SessionStep) → Links
 links_after first second steps =
     after_steps (link_steps_at steps (new_sessions first second)) (links_made first second)
 
+-- ---- two stations whose links were made
+
+chosen_sound : (made : Made) → first_refusal made.options.config ≡ None
+    → IsWell (after_choice_here (not (takes_at_once made.options)) (new_end made.options.config))
+chosen_sound made f = record {
+  sound =
+      sound_chosen (limits_of made.options.config) new_station
+      (not (takes_at_once made.options)) (sound_made made.options.config f);
+  sent = tt;
+}
+
+chosen_same : (made : Made)
+    → IsSameEnd
+    (after_choice_here (not (takes_at_once made.options)) (new_end made.options.config))
+    (link_made_of made)
+unfolding bytes_of
+chosen_same made = record {
+  core = refl;
+  syn = refl;
+  arrived = refl;
+  wrote = refl;
+  given = refl;
+  taken = refl;
+  acknowledged = refl;
+}
+
+pub made_holding : (first second : Made) → first_refusal first.options.config ≡ None
+    → first_refusal second.options.config ≡ None → Holding (pair_made first second)
+unfolding run_acts
+made_holding first second f g =
+    acts-hold first.options.config second.options.config
+    (Chooses A (not (takes_at_once first.options))
+    ∷ Chooses B (not (takes_at_once second.options)) ∷ []) f g
+
+pub made_start : (first second : Made) → first_refusal first.options.config ≡ None
+    → first_refusal second.options.config ≡ None
+    → IsFreshStart (pair_made first second) (links_made first second)
+made_start first second f g = record {
+  is = record {
+    same = record { a = chosen_same first; b = chosen_same second };
+    holding = made_holding first second f g;
+    none_a = refl;
+    none_b = refl;
+  };
+  straight = record { a = chosen_sound first f; b = chosen_sound second g; honest = refl };
+  to_a = (written (pair_made first second).b, refl);
+  to_b = (written (pair_made first second).a, refl);
+}
+
 module _ (first second : Made) (steps : List (End × SessionStep)) where
   pub made_links : links_made first second ≡ links_of first second (new_sessions first second) 0 0
   made_links =
@@ -218,26 +281,21 @@ module _ (first second : Made) (steps : List (End × SessionStep)) where
       → AreSessionCalls steps (new_sessions first second)
       → (run_calls
       (calls_of_steps (link_steps_at steps (new_sessions first second)) (links_made first second))
-      (new_pair first.options.config second.options.config)).honest ≡ true
+      (pair_made first second)).honest ≡ true
       → AreConnectedOnce steps → LinksDo (links_after first second steps)
   honest_links f g does honest once =
       let calls = link_steps_at steps (new_sessions first second) in
       let keeps = keeps_steps first second steps (new_sessions first second) 0 0 does new_hold in
       let are = subst (AreLinkCalls calls) (sym made_links) keeps.0 in
       let started = are_once once in
+      let p = pair_made first second in
+      let q = links_made first second in
+      let start = (made_start first second f g).is in
       record {
-        to_b =
-            reaches_b first.options.config second.options.config first.options.timer_ms
-            second.options.timer_ms first.line second.line calls f g are honest started;
-        to_a =
-            reaches_a first.options.config second.options.config first.options.timer_ms
-            second.options.timer_ms first.line second.line calls f g are honest started;
-        all_b =
-            acknowledged_to_b first.options.config second.options.config first.options.timer_ms
-            second.options.timer_ms first.line second.line calls f g are honest started;
-        all_a =
-            acknowledged_to_a first.options.config second.options.config first.options.timer_ms
-            second.options.timer_ms first.line second.line calls f g are honest started;
+        to_b = reaches_b p q start calls are honest started;
+        to_a = reaches_a p q start calls are honest started;
+        all_b = acknowledged_to_b p q start calls are honest started;
+        all_a = acknowledged_to_a p q start calls are honest started;
       }
 
   pub stream_links : first_refusal first.options.config ≡ None
@@ -251,23 +309,18 @@ module _ (first second : Made) (steps : List (End × SessionStep)) where
       (stream_steps first second steps (new_sessions first second) 0 0 over new_hold
       (record { to_a = ([], refl); to_b = ([], refl) })) in
       let started = are_once once in
+      let p = pair_made first second in
+      let q = links_made first second in
+      let start = made_start first second f g in
       record {
-        to_b =
-            kept (λ q. LinkReaches q.a q.b) reaches_b
-            first.options.config second.options.config first.options.timer_ms
-            second.options.timer_ms first.line second.line calls f g are started;
-        to_a =
-            kept (λ q. LinkReaches q.b q.a) reaches_a
-            first.options.config second.options.config first.options.timer_ms
-            second.options.timer_ms first.line second.line calls f g are started;
+        to_b = streams_from (λ q. LinkReaches q.a q.b) reaches_b p q start calls are started;
+        to_a = streams_from (λ q. LinkReaches q.b q.a) reaches_a p q start calls are started;
         all_b =
-            kept (λ q. NoneOut q.a → received q.b ≡ q.a.accepted) acknowledged_to_b
-            first.options.config second.options.config first.options.timer_ms
-            second.options.timer_ms first.line second.line calls f g are started;
+            streams_from (λ q. NoneOut q.a → received q.b ≡ q.a.accepted) acknowledged_to_b p q
+            start calls are started;
         all_a =
-            kept (λ q. NoneOut q.b → received q.a ≡ q.b.accepted) acknowledged_to_a
-            first.options.config second.options.config first.options.timer_ms
-            second.options.timer_ms first.line second.line calls f g are started;
+            streams_from (λ q. NoneOut q.b → received q.a ≡ q.b.accepted) acknowledged_to_a p q
+            start calls are started;
       }
 
   module _ (does : AreSessionCalls steps (new_sessions first second))
@@ -289,7 +342,8 @@ module _ (first second : Made) (steps : List (End × SessionStep)) where
         delivers_first first.options.form first.options.config.max
         second.options.form second.options.config.max
         (after_sessions steps (new_sessions first second)).a
-        (after_sessions steps (new_sessions first second)).b keeps.1.0 keeps.1.1 done.to_b
+        (after_sessions steps (new_sessions first second)).b keeps.1.0 keeps.1.1
+        keeps.2.1.queued done.to_b
 
     pub pipes_a : Pipes second (after_sessions steps (new_sessions first second)).b
         (after_sessions steps (new_sessions first second)).a
@@ -297,13 +351,16 @@ module _ (first second : Made) (steps : List (End × SessionStep)) where
         delivers_first second.options.form second.options.config.max
         first.options.form first.options.config.max
         (after_sessions steps (new_sessions first second)).b
-        (after_sessions steps (new_sessions first second)).a keeps.1.1 keeps.1.0 done.to_a
+        (after_sessions steps (new_sessions first second)).a keeps.1.1 keeps.1.0
+        keeps.2.0.queued done.to_a
 
     pub all_b : PipesAll first (after_sessions steps (new_sessions first second)).a
         (after_sessions steps (new_sessions first second)).b
     all_b over =
         let s = (after_sessions steps (new_sessions first second)).a.session in
-        done.all_b
+        let other = (after_sessions steps (new_sessions first second)).b in
+        all_of other.session other.shown keeps.2.1.queued
+        ∙ done.all_b
         (none_out (links_of first second (after_sessions steps (new_sessions first second))
         keeps.1.0 keeps.1.1).a (last_true s.is_read (delivered s.link) over))
 
@@ -311,7 +368,9 @@ module _ (first second : Made) (steps : List (End × SessionStep)) where
         (after_sessions steps (new_sessions first second)).a
     all_a over =
         let s = (after_sessions steps (new_sessions first second)).b.session in
-        done.all_a
+        let other = (after_sessions steps (new_sessions first second)).a in
+        all_of other.session other.shown keeps.2.0.queued
+        ∙ done.all_a
         (none_out (links_of first second (after_sessions steps (new_sessions first second))
         keeps.1.0 keeps.1.1).b (last_true s.is_read (delivered s.link) over))
 
@@ -321,7 +380,11 @@ module _ (first second : Made) (steps : List (End × SessionStep)) where
         let s = (after_sessions steps (new_sessions first second)).a.session in
         let nothing = closed-none left over r s closed is none
         (counts-a steps (new_sessions first second) does (new-counts first)) in
-        (done.all_b (ap length nothing.0), nothing.1, nothing.2)
+        let other = (after_sessions steps (new_sessions first second)).b in (
+          all_of other.session other.shown keeps.2.1.queued ∙ done.all_b (ap length nothing.0),
+          nothing.1,
+          nothing.2,
+        )
 
     pub closed_a : PipesClosed second (after_sessions steps (new_sessions first second)).b
         (after_sessions steps (new_sessions first second)).a
@@ -329,7 +392,11 @@ module _ (first second : Made) (steps : List (End × SessionStep)) where
         let s = (after_sessions steps (new_sessions first second)).b.session in
         let nothing = closed-none left over r s closed is none
         (counts-b steps (new_sessions first second) does (new-counts second)) in
-        (done.all_a (ap length nothing.0), nothing.1, nothing.2)
+        let other = (after_sessions steps (new_sessions first second)).a in (
+          all_of other.session other.shown keeps.2.0.queued ∙ done.all_a (ap length nothing.0),
+          nothing.1,
+          nothing.2,
+        )
 
     pub bytes_b : PipesBytes first second (after_sessions steps (new_sessions first second)).a
         (after_sessions steps (new_sessions first second)).b

@@ -1,6 +1,6 @@
 -- What is promised of runs holds of calls.
 use Rattle.std.proofs.Common.{◌≡◌, ℕ, ◌+◌, ◌≤◌, Bool, true, false, cond, ◌&&◌, List, [], ◌∷◌, ◌++◌}
-use Rattle.std.proofs.Common.{refl, sym, ◌∙◌, ap, subst, arith, None}
+use Rattle.std.proofs.Common.{refl, sym, ◌∙◌, ap, subst, arith, None, Some}
 use Rattle.std.specs.Prelude.{nat_le}
 use Rattle.std.specs.List.{All}
 use Rattle.std.proofs.lemmas.List.Elements.{All-head, All-tail}
@@ -14,13 +14,14 @@ use Rattle.ddcmp_proto.specs.Config.{first_refusal}
 use Rattle.ddcmp_proto.specs.declared.config.Config.{Config}
 use Rattle.ddcmp_io.specs.declared.carrier.End.{End}
 use Rattle.ddcmp_io.specs.declared.carrier.End.TheVariants.{A, B}
+use Rattle.ddcmp_pair.specs.declared.event.Event.{Event}
 use Rattle.ddcmp_pair.specs.declared.event.Event.TheVariants as event
-use Rattle.ddcmp_pair.specs.InOrder.{Delivers, IsInOrder, IsRun, IsLink}
+use Rattle.ddcmp_pair.specs.InOrder.{Delivers, IsInOrder, IsLink}
 use Rattle.ddcmp_pair.specs.Run.{EndState, PairState, at, notices_at, restarts_by, restarts_in}
 use Rattle.ddcmp_pair.specs.Run.{after_event, reply_to, run, new_pair, is_clean}
 use Rattle.ddcmp_pair.proofs.Runs.{run-append}
-use Rattle.ddcmp_pair.proofs.Ordered.{run-of, run-new, run-more, run-in-order, run-linked}
-use Rattle.ddcmp_pair.proofs.Ordered.{no-restart}
+use Rattle.ddcmp_pair.proofs.Ordered.{Holds, holds-after, holds-in-order, holds-linked, holds-new}
+use Rattle.ddcmp_pair.proofs.Ordered.{none-at}
 use Rattle.ddcmp_laws.specs.PairCalls.{Call, Start, Halt, Send, Poll, Arrive, Expire, Take, Arm}
 use Rattle.ddcmp_laws.specs.PairCalls.{Ask}
 use Rattle.ddcmp_laws.specs.PairCalls.{after_arm_here, after_call_here, after_call, run_calls}
@@ -123,13 +124,19 @@ notices_same p q B bytes e =
     notices_armed bytes p.b ∙ ap (λ (r : PairState). notices_at bytes r.b) e
     ∙ sym (notices_armed bytes q.b)
 
-run_quiet : (end : End) (bytes : List ℕ) (q : PairState) → IsRun q → is_clean q ≡ true
-    → (run (event.Arrive end bytes ∷ []) q).honest ≡ true → Quiet (notices_at bytes (at end q))
-unfolding run reply_to
-run_quiet A bytes q r c h = no-restart (event.Arrive A bytes) q r c h
-run_quiet B bytes q r c h = no-restart (event.Arrive B bytes) q r c h
+-- a run leaves what holds of two stations
+pub holds_run : (events : List Event) (p : PairState) → Holds p → Holds (run events p)
+unfolding run
+holds_run [] p h = h
+holds_run (e ∷ rest) p h = holds_run rest (after_event e p) (holds-after e p h)
 
-quiet_same : (end : End) (bytes : List ℕ) (p q : PairState) → noted p ≡ noted q → IsRun q
+run_quiet : (end : End) (bytes : List ℕ) (q : PairState) → Holds q → is_clean q ≡ true
+    → (run (event.Arrive end bytes ∷ []) q).honest ≡ true → Quiet (notices_at bytes (at end q))
+unfolding run after_event reply_to
+run_quiet A bytes q r c h = none-at (Some A) (event.Arrive A bytes) q r c h
+run_quiet B bytes q r c h = none-at (Some B) (event.Arrive B bytes) q r c h
+
+quiet_same : (end : End) (bytes : List ℕ) (p q : PairState) → noted p ≡ noted q → Holds q
     → is_clean p ≡ true → (after_call end (Arrive bytes) p).honest ≡ true
     → Quiet (notices_at bytes (at end p))
 quiet_same end bytes p q e r c h =
@@ -194,7 +201,7 @@ counted c rest n h = let e = sum_by-cons starts_by c rest in omega (arith, e, h)
 pub both_clean : (n m : ℕ) → n ≤ 1 → m ≤ 1 → (nat_le n 1 && nat_le m 1) ≡ true
 both_clean n m e f = grind (arith)
 
-clean_calls : (calls : List (End × Call)) (p q : PairState) → noted p ≡ noted q → IsRun q
+clean_calls : (calls : List (End × Call)) (p q : PairState) → noted p ≡ noted q → Holds q
     → p.a.starts + starts_in (calls_at A calls) ≤ 1 → p.b.starts + starts_in (calls_at B calls) ≤ 1
     → (run_calls calls p).honest ≡ true → is_clean (run_calls calls p) ≡ true
 unfolding run_calls calls_at
@@ -210,7 +217,7 @@ clean_calls (step ∷ rest) p q e r f g h = by step.0 step.1 (λ t u. clean_call
         (subst (λ d. (after_call end d p).honest ≡ true) is k)
 
     by : (end : End) (c : Call)
-        → ((t u : PairState) → noted t ≡ noted u → IsRun u
+        → ((t u : PairState) → noted t ≡ noted u → Holds u
         → t.a.starts + starts_in (calls_at A rest) ≤ 1
         → t.b.starts + starts_in (calls_at B rest) ≤ 1 → (run_calls rest t).honest ≡ true
         → is_clean (run_calls rest t) ≡ true)
@@ -220,19 +227,51 @@ clean_calls (step ∷ rest) p q e r f g h = by step.0 step.1 (λ t u. clean_call
         → is_clean (run_calls rest (after_call end c p)) ≡ true
     by A c more f g h =
         more (after_call A c p) (run (events_of A c) q) (one_same A c p q e)
-        (run-more (events_of A c) q (run (events_of A c) q) refl r)
+        (holds_run (events_of A c) q r)
         (stays_once c p.a (starts_in (calls_at A rest)) (counted c (calls_at A rest) p.a.starts f)
         (quiet A c (omega (arith, f)) (omega (arith, g))
         (honest_before rest (after_call A c p) h)))
         g h
     by B c more f g h =
         more (after_call B c p) (run (events_of B c) q) (one_same B c p q e)
-        (run-more (events_of B c) q (run (events_of B c) q) refl r)
+        (holds_run (events_of B c) q r)
         f
         (stays_once c p.b (starts_in (calls_at B rest)) (counted c (calls_at B rest) p.b.starts g)
         (quiet B c (omega (arith, f)) (omega (arith, g))
         (honest_before rest (after_call B c p) h)))
         h
+
+-- ---- from two stations
+
+module _ (start : PairState) (holds : Holds start) (calls : List (End × Call)) where
+  pub in_order : IsInOrder (run_calls calls start)
+  in_order =
+      order_same _ _ (run_same calls start start refl)
+      (holds-in-order _ (holds_run (events_in calls) start holds))
+
+  pub linked_calls : (run_calls calls start).honest ≡ true
+      → is_clean (run_calls calls start) ≡ true
+      → IsLink (run_calls calls start).a (run_calls calls start).b
+      × IsLink (run_calls calls start).b (run_calls calls start).a
+  linked_calls h c =
+      let p = run_calls calls start in
+      let q = run (events_in calls) start in
+      let e = run_same calls start start refl in
+      links_same p q e
+      (holds-linked q (holds_run (events_in calls) start holds) (sym (honest_same p q e) ∙ h)
+      (sym (clean_same p q e) ∙ c))
+
+  pub quiet_calls : (end : End) (bytes : List ℕ) → is_clean (run_calls calls start) ≡ true
+      → (after_call end (Arrive bytes) (run_calls calls start)).honest ≡ true
+      → All (λ n. tells_restart n ≡ false) (notices_at bytes (at end (run_calls calls start)))
+  quiet_calls end bytes c h =
+      quiet_same end bytes (run_calls calls start) (run (events_in calls) start)
+      (run_same calls start start refl) (holds_run (events_in calls) start holds) c h
+
+  pub once_clean : start.a.starts + starts_in (calls_at A calls) ≤ 1
+      → start.b.starts + starts_in (calls_at B calls) ≤ 1
+      → (run_calls calls start).honest ≡ true → is_clean (run_calls calls start) ≡ true
+  once_clean at_a at_b h = clean_calls calls start start refl holds at_a at_b h
 
 -- ---- from two new stations
 
@@ -240,8 +279,7 @@ pub calls_in_order : (first second : Config) (calls : List (End × Call))
     → first_refusal first ≡ None → first_refusal second ≡ None
     → IsInOrder (run_calls calls (new_pair first second))
 calls_in_order first second calls f g =
-    order_same _ _ (run_same calls (new_pair first second) (new_pair first second) refl)
-    (run-in-order _ (run-of first second (events_in calls) f g))
+    in_order (new_pair first second) (holds-new first second f g) calls
 
 pub calls_linked : (first second : Config) (calls : List (End × Call)) → first_refusal first ≡ None
     → first_refusal second ≡ None → (run_calls calls (new_pair first second)).honest ≡ true
@@ -250,12 +288,7 @@ pub calls_linked : (first second : Config) (calls : List (End × Call)) → firs
     × IsLink (run_calls calls (new_pair first second)).b
     (run_calls calls (new_pair first second)).a
 calls_linked first second calls f g h c =
-    let p = run_calls calls (new_pair first second) in
-    let q = run (events_in calls) (new_pair first second) in
-    let e = run_same calls (new_pair first second) (new_pair first second) refl in
-    links_same p q e
-    (run-linked q (run-of first second (events_in calls) f g) (sym (honest_same p q e) ∙ h)
-    (sym (clean_same p q e) ∙ c))
+    linked_calls (new_pair first second) (holds-new first second f g) calls h c
 
 pub calls_quiet : (first second : Config) (calls : List (End × Call)) (end : End) (bytes : List ℕ)
     → first_refusal first ≡ None → first_refusal second ≡ None
@@ -264,16 +297,12 @@ pub calls_quiet : (first second : Config) (calls : List (End × Call)) (end : En
     → All (λ n. tells_restart n ≡ false)
     (notices_at bytes (at end (run_calls calls (new_pair first second))))
 calls_quiet first second calls end bytes f g c h =
-    quiet_same end bytes (run_calls calls (new_pair first second))
-    (run (events_in calls) (new_pair first second))
-    (run_same calls (new_pair first second) (new_pair first second) refl)
-    (run-of first second (events_in calls) f g) c h
+    quiet_calls (new_pair first second) (holds-new first second f g) calls end bytes c h
 
 pub calls_clean : (first second : Config) (calls : List (End × Call)) → first_refusal first ≡ None
     → first_refusal second ≡ None → IsStartedOnce calls
     → (run_calls calls (new_pair first second)).honest ≡ true
     → is_clean (run_calls calls (new_pair first second)) ≡ true
 calls_clean first second calls f g once h =
-    clean_calls calls (new_pair first second) (new_pair first second) refl
-    (run-new first second f g (new_pair first second) refl) (omega (arith, once.at_a))
-    (omega (arith, once.at_b)) h
+    once_clean (new_pair first second) (holds-new first second f g) calls
+    (omega (arith, once.at_a)) (omega (arith, once.at_b)) h

@@ -5,12 +5,12 @@ use Rattle.std.proofs.Common.{option_to_list}
 use Rattle.ddcmp_input.specs.declared.entry.Entry.{Entry}
 use Rattle.ddcmp_input.specs.declared.entry.Entry.TheVariants.{Message, NotHexadecimal, TooLong}
 use Rattle.ddcmp_input.specs.declared.entry.Entry.TheVariants.{Command, Empty}
-use Rattle.ddcmp_station.specs.Linking.{LinkView, after_frame}
+use Rattle.ddcmp_station.specs.Linking.{LinkView, after_frame, after_taking}
 use Rattle.ddcmp_io.specs.declared.carrier.End.{End}
 use Rattle.ddcmp_io.specs.declared.carrier.End.TheVariants.{A, B}
 use Rattle.ddcmp_streams.specs.Messages.{message_in, after_input, entries_of_input, after_last}
 use Rattle.ddcmp_streams.specs.Messages.{entry_of_last}
-use Rattle.ddcmp_session.specs.Session.{SessionView, takes_end}
+use Rattle.ddcmp_session.specs.Session.{SessionView, taken_at_once, taken_when_written, takes_end}
 use Rattle.ddcmp_laws.specs.Links.{LinkStep, IsHistory, after_history, after_step}
 use Rattle.ddcmp_laws.specs.Links.{Links, after_steps, starts_in_call, link_starts}
 use Rattle.ddcmp_laws.specs.LinkLines.{AreLinkCalls}
@@ -18,7 +18,7 @@ use Rattle.ddcmp_session.specs.Calls.{SessionCall, InputRead, InputEnded, Connec
 use Rattle.ddcmp_session.specs.Calls.{Received, Filled, LineTook, TimedOut, TimePassed, Delivered}
 use Rattle.ddcmp_session.specs.Calls.{OutputTook}
 use Rattle.ddcmp_session.specs.Calls.{Closed, SessionDoes, SessionStep}
-use Rattle.ddcmp_laws.specs.Sessions.{offers_of, frames_put, link_steps_of}
+use Rattle.ddcmp_laws.specs.Sessions.{offers_of, frames_put, link_steps_of, takes_put}
 use Rattle.ddcmp_laws.specs.Pipe.{Made, Sessions, session_at}
 use Rattle.ddcmp_laws.specs.Pipe.{after_session_at, AreSessionCalls, after_sessions, steps_at_end}
 use Rattle.ddcmp_laws.specs.Pipe.{link_steps_at, connects_in_call, connects}
@@ -141,6 +141,11 @@ unfolding starts_in_steps frames_put
 frames_start_none zero d = refl
 frames_start_none (suc n) d = let e = frames_start_none n (after_frame d) in omega (arith, e)
 
+pub takes_start_none : (n : ℕ) (d : LinkView) → starts_in_steps (takes_put n d) ≡ 0
+unfolding starts_in_steps takes_put
+takes_start_none zero d = refl
+takes_start_none (suc n) d = let e = takes_start_none n (after_taking d) in omega (arith, e)
+
 pub offers_start_none : (es : List Entry) (message : List ℕ) (d : LinkView)
     → starts_in_steps (offers_of es message d) ≡ 0
 unfolding starts_in_steps
@@ -176,9 +181,9 @@ call_starts (Filled frames) s new = frames_start_none frames s.link
 call_starts (LineTook n) s new = refl
 call_starts (TimedOut now) s new = refl
 call_starts TimePassed s new = refl
-call_starts (Delivered true) s new = refl
+call_starts (Delivered true) s new = takes_start_none (taken_at_once s) s.link
 call_starts (Delivered false) s new = refl
-call_starts (OutputTook n) s new = refl
+call_starts (OutputTook n) s new = takes_start_none (taken_when_written n s) s.link
 call_starts (Closed left over r) s new = refl
 
 pub own_a : (xs : List LinkStep) (rest : List (End × LinkStep))

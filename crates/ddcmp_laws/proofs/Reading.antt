@@ -36,7 +36,9 @@ use Rattle.ddcmp_laws.proofs.Inputs.{read_by, read_more, after_more, read_fits}
 use Rattle.ddcmp_laws.proofs.Inputs.{IfMessage}
 use Rattle.ddcmp_laws.proofs.Limits.{accepts, both, longest_of, offered_longest}
 use Rattle.ddcmp_laws.proofs.Holding.{Holds, Leads, link_history, no_input, parts, quiet_mail}
-use Rattle.ddcmp_laws.proofs.Holding.{quiet_mail_more, same_parts, session_parts, text_on}
+use Rattle.ddcmp_laws.proofs.Holding.{same_parts, session_parts, text_on}
+use Rattle.ddcmp_laws.proofs.Inboxes.{adds-same, inbox_in, offered-inbox}
+use Rattle.ddcmp_laws.proofs.Queues.{IsKept, queued_kept, taken_kept, taken_of}
 
 -- ---- what is read of the input
 
@@ -150,6 +152,36 @@ unfinished_mode s = by (is_message_unfinished s.messages)
     by true = refl
     by false = refl
 
+-- nor is a message taken
+abbrev SameCount : SessionView → SessionView → Type 0
+SameCount s new = new.unwritten ≡ s.unwritten
+
+entered_count : (es : List Entry) (s : SessionView) → SameCount s (after_entries es s)
+entered_count [] s = refl
+entered_count (Message ∷ rest) s = by (is_held s)
+  where
+    by : (held : Bool) → SameCount s (after_message held s)
+    by true = refl
+    by false = refl
+entered_count (Command ∷ rest) s = by (command_in s.messages)
+  where
+    by : (c : command.the_data) → SameCount s (after_command c s)
+    by command.Ready = refl
+    by command.Restart = refl
+    by command.Report = refl
+    by command.Quit = refl
+    by command.Unknown = refl
+entered_count (NotHexadecimal ∷ rest) s = refl
+entered_count (TooLong ∷ rest) s = refl
+entered_count (Empty ∷ rest) s = refl
+
+unfinished_count : (s : SessionView) → SameCount s (after_unfinished s)
+unfinished_count s = by (is_message_unfinished s.messages)
+  where
+    by : (b : Bool) → SameCount s (cond b (record s { was_refused = true }) s)
+    by true = refl
+    by false = refl
+
 -- what reading needs of what was read
 pub record HasRead (f : MessageForm) (max : ℕ) (h : SessionHistory) (used : List ℕ)
     (es : List Entry)
@@ -158,6 +190,7 @@ pub record HasRead (f : MessageForm) (max : ℕ) (h : SessionHistory) (used : Li
   pub output : new.output ≡ h.session.output
   pub mode : new.options.maintenance ≡ h.session.options.maintenance
   pub going : new.is_read ≡ false → h.session.is_read ≡ false
+  pub left : new.unwritten ≡ h.session.unwritten
   pub link : IsEntered es message h.session.link new.link
   pub fits : IfMessage es (Fits max message)
   pub takes : IfMessage es (takes_message h.session.link ≡ true)
@@ -172,6 +205,26 @@ entered_longest (TooLong ∷ rest) message old new e = ap longest_of e
 entered_longest (Empty ∷ rest) message old new e = ap longest_of e
 entered_longest (Command ∷ rest) message old new e = ap longest_of e
 
+entered_inbox : (es : List Entry) (message : List ℕ) (old new : LinkView)
+    → IsEntered es message old new → inbox_in new ≡ inbox_in old
+entered_inbox [] message old new e = ap inbox_in e
+entered_inbox (Message ∷ rest) message old new e = ap inbox_in e ∙ offered-inbox message old
+entered_inbox (NotHexadecimal ∷ rest) message old new e = ap inbox_in e
+entered_inbox (TooLong ∷ rest) message old new e = ap inbox_in e
+entered_inbox (Empty ∷ rest) message old new e = ap inbox_in e
+entered_inbox (Command ∷ rest) message old new e = ap inbox_in e
+
+read_kept : (f : MessageForm) (max : ℕ) (h : SessionHistory) (used : List ℕ) (es : List Entry)
+    (message : List ℕ) (new : SessionView) → HasRead f max h used es message new
+    → IsKept h.session h.shown new (h.shown ++ [])
+read_kept f max h used es message new r = record {
+  left = r.left;
+  inbox =
+      adds-same (inbox_in h.session.link) (inbox_in new.link)
+      (entered_inbox es message h.session.link new.link r.link);
+  mail = quiet_mail h.shown;
+}
+
 pub read_holds : {told : Bool} (f : MessageForm) (max : ℕ) (h : SessionHistory) (used : List ℕ)
     (es : List Entry) (message : List ℕ) (new : SessionView) → Holds f max h
     → HasRead f max h used es message new → Holds f max
@@ -185,6 +238,9 @@ read_holds {told} f max h used es message new k r = record {
   text = text_on f max h new k r.output;
   of_data = r.mode ∙ k.of_data;
   plain = k.plain;
+  queued =
+      queued_kept h.session new h.shown (h.shown ++ []) (read_kept f max h used es message new r)
+      k.queued;
 }
 
 pub offered_is : (es : List Entry) (message : List ℕ) (d : LinkView)
@@ -212,6 +268,9 @@ unfolding after_history
 read_leads f max h used es message new k holds r =
     by es r.link r.fits r.takes r.more
   where
+    kept : IsKept h.session h.shown new (h.shown ++ [])
+    kept = read_kept f max h used es message new r
+
     quiet : new.link ≡ h.session.link
         → messages_of f max (h.input ++ used) ≡ messages_of f max h.input ++ []
         → Leads [] (link_history f max h k) f max (after_reading h used new)
@@ -220,7 +279,8 @@ read_leads f max h used es message new k holds r =
       (
         k,
         λ i. parts (sym e i) (sym (append-nil h.used) i) (sym (append-nil h.gone) i)
-            (sym (more ∙ append-nil (messages_of f max h.input)) i) (sym (quiet_mail h.shown) i) k,
+            (sym (more ∙ append-nil (messages_of f max h.input)) i)
+            (sym (taken_kept h.session new h.shown (h.shown ++ []) kept) i) k,
       ),
     )
 
@@ -238,7 +298,8 @@ read_leads f max h used es message new k holds r =
             (accepts h.session.link message takes
             (subst (λ n. Fits n message) (sym holds.longest) fit))
             ∙ sym more)
-            (sym (quiet_mail_more h.shown)),
+            (append-nil (taken_of h.session h.shown)
+            ∙ sym (taken_kept h.session new h.shown (h.shown ++ []) kept)),
       ),
     )
 
@@ -329,6 +390,10 @@ reading_input f max h used new k t =
           ∙ entered_mode (entries_of_input used h.session.messages)
           (record h.session { messages = after_input used h.session.messages });
       going = λ going. sym e.3 ∙ going;
+      left =
+          ap (λ (x : SessionView). x.unwritten) t.state
+          ∙ entered_count (entries_of_input used h.session.messages)
+          (record h.session { messages = after_input used h.session.messages });
       link = e.2;
       fits = r.0;
       takes = r.1;
@@ -420,6 +485,9 @@ ended_reads f max h new k takes is =
           ap (λ (x : SessionView). x.options.maintenance) is ∙ unfinished_mode mid
           ∙ entered_mode es last;
       going = λ _. going;
+      left =
+          ap (λ (x : SessionView). x.unwritten) is ∙ unfinished_count mid
+          ∙ entered_count es last;
       link =
           entered_same es (message_in (after_last m)) h.session.link mid.link new.link
           (ap (λ (x : SessionView). x.link) is ∙ u.2) e.2;

@@ -5,7 +5,6 @@ use Rattle.std.specs.Prelude.{◌&&◌, ◌||◌, is_some, not}
 use Rattle.ddcmp_proto.specs.Config.{first_refusal}
 use Rattle.ddcmp_station.specs.Linking.{carries_message, carries_refusal, owes_ack, puts_frame}
 use Rattle.ddcmp_io.specs.declared.carrier.End.{End}
-use Rattle.ddcmp_pair.specs.Run.{new_pair}
 use Rattle.ddcmp_session.specs.Session.{SessionView, IsFilled}
 use Rattle.ddcmp_session.specs.Calls.{SessionStep}
 use Rattle.ddcmp_laws.specs.PairCalls.{run_calls}
@@ -13,10 +12,12 @@ use Rattle.ddcmp_laws.specs.Links.{Links, after_steps}
 use Rattle.ddcmp_laws.specs.LinkLines.{AreLinkCalls, calls_of_steps, LinksAreUp, LinkIsAsleep}
 use Rattle.ddcmp_laws.specs.LinkLines.{LinkIsDelivered}
 use Rattle.ddcmp_laws.specs.Pipe.{Made, Sessions, new_sessions, links_made, AreSessionCalls}
+use Rattle.ddcmp_laws.specs.Pipe.{pair_made}
 use Rattle.ddcmp_laws.specs.Pipe.{after_sessions, link_steps_at, AreConnectedOnce}
 use Rattle.ddcmp_laws.specs.SessionSleep.{SessionsAreUp, SessionIsAsleep, SessionIsDelivered}
 use Rattle.ddcmp_laws.proofs.Pipes.{Keeps, keeps_steps, links_of}
-use Rattle.ddcmp_laws.proofs.Outcomes.{made_links, new_hold, are_once, links_after}
+use Rattle.ddcmp_laws.proofs.Outcomes.{made_links, made_start, new_hold, are_once, links_after}
+use Rattle.ddcmp_laws.proofs.Queues.{all_of}
 use Rattle.ddcmp_laws.proofs.Sleeping.{asleep_a, asleep_b}
 
 none-paused : (o q : Option ℕ) (b c d : Bool) → o ≡ None → q ≡ None
@@ -46,7 +47,7 @@ module _ (first second : Made) (steps : List (End × SessionStep))
     (does : AreSessionCalls steps (new_sessions first second))
     (honest : (run_calls
     (calls_of_steps (link_steps_at steps (new_sessions first second)) (links_made first second))
-    (new_pair first.options.config second.options.config)).honest ≡ true)
+    (pair_made first second)).honest ≡ true)
     (once : AreConnectedOnce steps) where
   keeps : Keeps first second steps (new_sessions first second) 0 0
   keeps =
@@ -75,25 +76,29 @@ module _ (first second : Made) (steps : List (End × SessionStep))
   slumber_a up z = by
       (subst (λ (q : Links). LinksAreUp q → LinkIsAsleep q.a.link
       → LinkIsDelivered q.a q.b) same
-      (asleep_a first.options.config second.options.config first.options.timer_ms
-      second.options.timer_ms first.line second.line
-      (link_steps_at steps (new_sessions first second)) f g are honest
+      (asleep_a (pair_made first second) (links_made first second) (made_start first second f g).is
+      (link_steps_at steps (new_sessions first second)) are honest
       (are_once first second steps once))
       (record { a = up.a; b = up.b }) (link-asleep ended.a.session z))
     where
       by : LinkIsDelivered links.a links.b → SessionIsDelivered first ended.a ended.b
-      by d = record { runs = d.runs; received = d.received }
+      by d = record {
+        runs = d.runs;
+        received = all_of ended.b.session ended.b.shown keeps.2.1.queued ∙ d.received;
+      }
 
   pub slumber_b : SessionsAreUp ended → SessionIsAsleep ended.b.session
       → SessionIsDelivered second ended.b ended.a
   slumber_b up z = by
       (subst (λ (q : Links). LinksAreUp q → LinkIsAsleep q.b.link
       → LinkIsDelivered q.b q.a) same
-      (asleep_b first.options.config second.options.config first.options.timer_ms
-      second.options.timer_ms first.line second.line
-      (link_steps_at steps (new_sessions first second)) f g are honest
+      (asleep_b (pair_made first second) (links_made first second) (made_start first second f g).is
+      (link_steps_at steps (new_sessions first second)) are honest
       (are_once first second steps once))
       (record { a = up.a; b = up.b }) (link-asleep ended.b.session z))
     where
       by : LinkIsDelivered links.b links.a → SessionIsDelivered second ended.b ended.a
-      by d = record { runs = d.runs; received = d.received }
+      by d = record {
+        runs = d.runs;
+        received = all_of ended.a.session ended.a.shown keeps.2.0.queued ∙ d.received;
+      }

@@ -5,12 +5,12 @@ use Rattle.std.proofs.Common.{append-nil, option_to_list}
 use Rattle.ddcmp_input.specs.declared.entry.Entry.{Entry}
 use Rattle.ddcmp_input.specs.declared.entry.Entry.TheVariants.{Message, NotHexadecimal, TooLong}
 use Rattle.ddcmp_input.specs.declared.entry.Entry.TheVariants.{Command, Empty}
-use Rattle.ddcmp_station.specs.Linking.{LinkView, after_frame}
+use Rattle.ddcmp_station.specs.Linking.{LinkView, after_frame, after_taking}
 use Rattle.ddcmp_io.specs.declared.carrier.End.{End}
 use Rattle.ddcmp_io.specs.declared.carrier.End.TheVariants.{A, B}
 use Rattle.ddcmp_streams.specs.Messages.{message_in, after_input, entries_of_input, after_last}
 use Rattle.ddcmp_streams.specs.Messages.{entry_of_last}
-use Rattle.ddcmp_session.specs.Session.{SessionView, takes_end}
+use Rattle.ddcmp_session.specs.Session.{SessionView, taken_at_once, taken_when_written, takes_end}
 use Rattle.ddcmp_laws.specs.Prefix.{Begins}
 use Rattle.ddcmp_laws.specs.Links.{LinkHistory, LinkStep, IsHistory, after_history, after_step}
 use Rattle.ddcmp_laws.specs.Links.{LinkCall, Starts, BeginsAnew, Halts, Wakes, Offers, FillsOne}
@@ -20,7 +20,7 @@ use Rattle.ddcmp_session.specs.Calls.{SessionCall, InputRead, InputEnded, Connec
 use Rattle.ddcmp_session.specs.Calls.{Received, Filled, LineTook, TimedOut, TimePassed, Delivered}
 use Rattle.ddcmp_session.specs.Calls.{OutputTook}
 use Rattle.ddcmp_session.specs.Calls.{Closed, SessionDoes, SessionStep}
-use Rattle.ddcmp_laws.specs.Sessions.{link_step, offers_of, frames_put, link_steps_of}
+use Rattle.ddcmp_laws.specs.Sessions.{link_step, offers_of, frames_put, link_steps_of, takes_put}
 use Rattle.ddcmp_laws.specs.Pipe.{Made, Sessions, session_at}
 use Rattle.ddcmp_laws.specs.Pipe.{after_session_at, steps_at_end}
 use Rattle.ddcmp_laws.specs.Pipe.{link_steps_at}
@@ -44,6 +44,11 @@ pub frames_still : (n : ℕ) (d : LinkView) → AreStill (frames_put n d)
 unfolding frames_put
 frames_still zero d = tt
 frames_still (suc n) d = (tt, frames_still n (after_frame d))
+
+pub takes_still : (n : ℕ) (d : LinkView) → AreStill (takes_put n d)
+unfolding takes_put
+takes_still zero d = tt
+takes_still (suc n) d = (tt, takes_still n (after_taking d))
 
 pub offers_still : (es : List Entry) (message : List ℕ) (d : LinkView)
     → AreStill (offers_of es message d)
@@ -133,9 +138,9 @@ shape (Filled frames) s new = inl (frames_still frames s.link)
 shape (LineTook n) s new = inr (link_step (IsSent n) new, refl)
 shape (TimedOut now) s new = inl (tt, tt)
 shape TimePassed s new = inl tt
-shape (Delivered true) s new = inl (tt, tt)
+shape (Delivered true) s new = inl (takes_still (taken_at_once s) s.link)
 shape (Delivered false) s new = inl tt
-shape (OutputTook n) s new = inl tt
+shape (OutputTook n) s new = inl (takes_still (taken_when_written n s) s.link)
 shape (Closed left over r) s new = inl (tt, tt)
 
 pub steps_a : (xs : List LinkStep) (ys : List (End × LinkStep)) (q : Links) → Shape xs

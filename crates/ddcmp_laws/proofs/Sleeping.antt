@@ -14,16 +14,14 @@ use Rattle.ddcmp_core.specs.Table.{next, next_by, next_frame, next_maintenance, 
 use Rattle.ddcmp_core.specs.Table.{is_on}
 use Rattle.ddcmp_core.specs.Table.{has_room, Frame, Strt, Stack, Maint, Limits, StationState}
 use Rattle.ddcmp_proto.specs.Bytes.{frame_on_line}
-use Rattle.ddcmp_proto.specs.Config.{first_refusal}
-use Rattle.ddcmp_proto.specs.declared.config.Config.{Config}
 use Rattle.ddcmp_io.specs.declared.carrier.End.{End}
-use Rattle.ddcmp_pair.specs.InOrder.{IsRun}
+use Rattle.ddcmp_pair.proofs.Ready.{Holding}
 use Rattle.ddcmp_pair.specs.Recovery.{IsDelivered}
-use Rattle.ddcmp_pair.specs.Run.{EndState, PairState, handed_up, line_bytes, is_clean, new_pair}
+use Rattle.ddcmp_pair.specs.Run.{EndState, PairState, handed_up, line_bytes, is_clean}
 use Rattle.ddcmp_pair.specs.Run.{run}
 use Rattle.ddcmp_station.specs.Linking.{frame_of_link, fits}
 use Rattle.ddcmp_station.specs.Linking.{is_held_back, is_nak_for_buffer, wants_bytes}
-use Rattle.ddcmp_laws.proofs.Waiting.{sleeps-a, sleeps-b}
+use Rattle.ddcmp_laws.proofs.Waiting.{holding_run, sleeps-a, sleeps-b}
 use Rattle.ddcmp_laws.specs.PairCalls.{Call, noted, after_arm_here, events_in, run_calls}
 use Rattle.ddcmp_laws.specs.Links.{LinkStep, LinkHistory, Links, IsSameEnd, AreStartedOnce}
 use Rattle.ddcmp_laws.specs.Links.{new_links, after_steps, received}
@@ -31,7 +29,7 @@ use Rattle.ddcmp_laws.specs.LinkLines.{AreLinkCalls, calls_of_steps, LinksAreUp,
 use Rattle.ddcmp_laws.specs.LinkLines.{LinkIsDelivered}
 use Rattle.ddcmp_laws.proofs.PairCallLaws.{run_same, honest_same, clean_same}
 use Rattle.ddcmp_laws.proofs.Stations.{note, frame_armed}
-use Rattle.ddcmp_laws.proofs.TwoLinks.{AreSame, acknowledged_to_a, acknowledged_to_b}
+use Rattle.ddcmp_laws.proofs.TwoLinks.{AreSame, IsStart, acknowledged_to_a, acknowledged_to_b}
 use Rattle.ddcmp_laws.proofs.TwoLinks.{all_acknowledged_a, all_acknowledged_b, clean, ends}
 
 -- ---- of one link
@@ -176,49 +174,36 @@ delivered_links x y h k s t d = record {
   acknowledged = sym s.acknowledged ∙ d.acknowledged ∙ ap length s.given;
 }
 
-module _ (first second : Config) (ms other_ms : ℕ) (line other_line : ReaderView)
-    (steps : List (End × LinkStep)) (f : first_refusal first ≡ None)
-    (g : first_refusal second ≡ None)
-    (o : AreLinkCalls steps (new_links first ms line second other_ms other_line))
-    (honest : (run_calls (calls_of_steps steps
-    (new_links first ms line second other_ms other_line)) (new_pair first second)).honest ≡ true)
-    (once : AreStartedOnce steps)
-    (up : LinksAreUp (after_steps steps (new_links first ms line second other_ms other_line))) where
+module _ (start : PairState) (begun : Links) (is : IsStart start begun)
+    (steps : List (End × LinkStep)) (o : AreLinkCalls steps begun)
+    (honest : (run_calls (calls_of_steps steps begun) start).honest ≡ true)
+    (once : AreStartedOnce steps) (up : LinksAreUp (after_steps steps begun)) where
   abbrev links : Links
-  links = after_steps steps (new_links first ms line second other_ms other_line)
+  links = after_steps steps begun
 
   abbrev calls : List (End × Call)
-  calls = calls_of_steps steps (new_links first ms line second other_ms other_line)
+  calls = calls_of_steps steps begun
 
   abbrev p : PairState
-  p = run_calls calls (new_pair first second)
+  p = run_calls calls start
 
   abbrev q : PairState
-  q = run (events_in calls) (new_pair first second)
+  q = run (events_in calls) start
 
   same : AreSame p links
-  same = ends first second ms other_ms line other_line steps f g o honest once
+  same = ends start begun is steps o honest once
 
   noted_same : noted p ≡ noted q
-  noted_same = run_same calls (new_pair first second) (new_pair first second) refl
+  noted_same = run_same calls start start refl
 
-  is_run : IsRun q
-  is_run = record {
-    first = first;
-    second = second;
-    first_made = f;
-    second_made = g;
-    events = events_in calls;
-    leads = refl;
-  }
+  held_on : Holding q
+  held_on = holding_run (events_in calls) start is.holding
 
   honest_run : q.honest ≡ true
   honest_run = sym (honest_same p q noted_same) ∙ honest
 
   clean_run : is_clean q ≡ true
-  clean_run =
-      sym (clean_same p q noted_same)
-      ∙ clean first second ms other_ms line other_line steps f g o honest once
+  clean_run = sym (clean_same p q noted_same) ∙ clean start begun is steps o honest once
 
   up_a : q.a.core.station.state ≢ Halted
   up_a e =
@@ -241,17 +226,15 @@ module _ (first second : Config) (ms other_ms : ℕ) (line other_line : ReaderVi
           (record {
             runs = h.0;
             received =
-                acknowledged_to_b first second ms other_ms line other_line steps f g o honest once
-                h.1;
+                acknowledged_to_b start begun is steps o honest once h.1;
             acknowledged =
-                all_acknowledged_a first second ms other_ms line other_line steps f g o honest once
-                h.1;
+                all_acknowledged_a start begun is steps o honest once h.1;
           })
       by (inl n) =
           (delivered_links p.a p.b links.a links.b same.a same.b
           (delivered_same p.a p.b q.a q.b (ap (λ (r : PairState). r.a) noted_same)
           (ap (λ (r : PairState). r.b) noted_same)
-          (sleeps-a q is_run honest_run clean_run up_a up_b
+          (sleeps-a q held_on honest_run clean_run up_a up_b
           (quiet_same p.a q.a (ap (λ (r : PairState). r.a) noted_same) n.no_frame)
           (same_off p.a.core.station.timer q.a.core.station.timer
           (ap (λ (r : PairState). r.a.core.station.timer) noted_same) n.no_timer))))
@@ -265,17 +248,15 @@ module _ (first second : Config) (ms other_ms : ℕ) (line other_line : ReaderVi
           (record {
             runs = h.0;
             received =
-                acknowledged_to_a first second ms other_ms line other_line steps f g o honest once
-                h.1;
+                acknowledged_to_a start begun is steps o honest once h.1;
             acknowledged =
-                all_acknowledged_b first second ms other_ms line other_line steps f g o honest once
-                h.1;
+                all_acknowledged_b start begun is steps o honest once h.1;
           })
       by (inl n) =
           (delivered_links p.b p.a links.b links.a same.b same.a
           (delivered_same p.b p.a q.b q.a (ap (λ (r : PairState). r.b) noted_same)
           (ap (λ (r : PairState). r.a) noted_same)
-          (sleeps-b q is_run honest_run clean_run up_a up_b
+          (sleeps-b q held_on honest_run clean_run up_a up_b
           (quiet_same p.b q.b (ap (λ (r : PairState). r.b) noted_same) n.no_frame)
           (same_off p.b.core.station.timer q.b.core.station.timer
           (ap (λ (r : PairState). r.b.core.station.timer) noted_same) n.no_timer))))

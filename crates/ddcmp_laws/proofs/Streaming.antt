@@ -6,7 +6,7 @@ use Rattle.ddcmp_io.specs.declared.carrier.End.{End}
 use Rattle.ddcmp_pair.specs.declared.event.Event.{Event}
 use Rattle.ddcmp_pair.specs.Run.{PairState, after_event, run, new_pair}
 use Rattle.ddcmp_laws.specs.Faithful.{IsFaithful, StaysFaithful}
-use Rattle.ddcmp_laws.proofs.FaithfulLaws.{faithful_is_honest}
+use Rattle.ddcmp_laws.proofs.FaithfulLaws.{IsStraight, straight_run, well_new}
 use Rattle.ddcmp_laws.specs.PairCalls.{Call, Start, Halt, Send, Poll, Arrive, Expire, Take, Arm}
 use Rattle.ddcmp_laws.specs.PairCalls.{Ask}
 use Rattle.ddcmp_laws.specs.PairCalls.{after_call, run_calls, events_of, events_in, noted}
@@ -52,12 +52,17 @@ stays_faithful (step ∷ rest) p q e o =
     (faithful_same (after_call step.0 step.1 p) (run (events_of step.0 step.1) q) f o.0))
     (stays_faithful rest (after_call step.0 step.1 p) (run (events_of step.0 step.1) q) f o.1)
 
+pub streams_straight : (start : PairState) → IsStraight start → (calls : List (End × Call))
+    → OverStreams calls start → (run_calls calls start).honest ≡ true
+streams_straight start straight calls o =
+    ap (λ (p : PairState). p.honest) (run_same calls start start refl)
+    ∙ (straight_run (events_in calls) start (stays_faithful calls start start refl o)
+    straight).honest
+
 pub streams_honest : (first second : Config) (calls : List (End × Call))
     → first_refusal first ≡ None → first_refusal second ≡ None
     → OverStreams calls (new_pair first second)
     → (run_calls calls (new_pair first second)).honest ≡ true
 streams_honest first second calls f g o =
-    ap (λ (p : PairState). p.honest)
-    (run_same calls (new_pair first second) (new_pair first second) refl)
-    ∙ faithful_is_honest first second (events_in calls) f g
-    (stays_faithful calls (new_pair first second) (new_pair first second) refl o)
+    streams_straight (new_pair first second)
+    (record { a = well_new first f; b = well_new second g; honest = refl }) calls o

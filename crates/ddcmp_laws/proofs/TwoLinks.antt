@@ -13,8 +13,9 @@ use Rattle.ddcmp_core.specs.Core.{CoreView}
 use Rattle.ddcmp_station.specs.Linking.{LinkView, polls, delivered}
 use Rattle.ddcmp_io.specs.declared.carrier.End.{End}
 use Rattle.ddcmp_io.specs.declared.carrier.End.TheVariants.{A, B}
-use Rattle.ddcmp_pair.specs.InOrder.{Delivers}
+use Rattle.ddcmp_pair.specs.InOrder.{Delivers, DeliversBothWays}
 use Rattle.ddcmp_pair.specs.Run.{EndState, PairState, new_pair, is_clean}
+use Rattle.ddcmp_pair.proofs.Ready.{Holding}
 use Rattle.ddcmp_laws.specs.Faithful.{written, IsFaithful}
 use Rattle.ddcmp_laws.specs.Prefix.{Begins}
 use Rattle.ddcmp_laws.specs.PairCalls.{Call, Poll, Expire, after_calls_here, after_call, run_calls}
@@ -27,10 +28,12 @@ use Rattle.ddcmp_laws.specs.Links.{after_step_at, AreStreams, LinkOverStreams, a
 use Rattle.ddcmp_laws.specs.Links.{starts_in_call, count_if, link_starts, AreStartedOnce}
 use Rattle.ddcmp_laws.specs.Links.{new_links, received, LinkReaches, IsKeptOverStreams}
 use Rattle.ddcmp_laws.specs.LinkLines.{AreLinkCalls, calls_of_steps, IsKeptOverHonestLines}
-use Rattle.ddcmp_laws.proofs.PairCallLaws.{calls_in_order, calls_clean}
-use Rattle.ddcmp_laws.proofs.Acknowledged.{IsAcknowledged, calls_acknowledged, all_up}
+use Rattle.ddcmp_laws.proofs.PairCallLaws.{in_order, once_clean}
+use Rattle.ddcmp_laws.proofs.Acknowledged.{IsAcknowledged, acknowledged_calls, all_up}
 use Rattle.ddcmp_laws.proofs.Acknowledged.{first_of_three}
-use Rattle.ddcmp_laws.proofs.Streaming.{streams_honest}
+use Rattle.ddcmp_laws.proofs.FaithfulLaws.{IsStraight, well_new}
+use Rattle.ddcmp_laws.proofs.Streaming.{streams_straight}
+use Rattle.ddcmp_laws.proofs.Waiting.{new_holding}
 use Rattle.ddcmp_laws.proofs.InTurn.{at_one, own_a, own_b, other_a, other_b, begins_more, over_a}
 use Rattle.ddcmp_laws.proofs.InTurn.{over_b}
 use Rattle.ddcmp_laws.proofs.LinkCalls.{step_same, new_same}
@@ -262,74 +265,63 @@ reaches x y h k s t d =
           omega (arith, e, f, g);
     }
 
-pub clean_of : (first second : Config) (steps : List (End × LinkStep)) (q : Links)
-    → first_refusal first ≡ None → first_refusal second ≡ None → AreStartedOnce steps
-    → (run_calls (calls_of_steps steps q) (new_pair first second)).honest ≡ true
-    → is_clean (run_calls (calls_of_steps steps q) (new_pair first second)) ≡ true
-clean_of first second steps q f g once honest =
-    calls_clean first second (calls_of_steps steps q) f g (record {
-      at_a = let e = starts_a steps q in let h = once.at_a in omega (arith, e, h);
-      at_b = let e = starts_b steps q in let h = once.at_b in omega (arith, e, h);
-    }) honest
+-- two stations and their links, of which neither has started
+pub record IsStart (p : PairState) (q : Links) : Type 0 where
+  pub same : AreSame p q
+  pub holding : Holding p
+  pub none_a : p.a.starts ≡ 0
+  pub none_b : p.b.starts ≡ 0
 
-module _ (first second : Config) (ms other_ms : ℕ) (line other_line : ReaderView)
-    (steps : List (End × LinkStep)) (f : first_refusal first ≡ None)
-    (g : first_refusal second ≡ None)
-    (o : AreLinkCalls steps (new_links first ms line second other_ms other_line))
-    (honest : (run_calls (calls_of_steps steps
-    (new_links first ms line second other_ms other_line)) (new_pair first second)).honest ≡ true)
+module _ (start : PairState) (links : Links) (is : IsStart start links)
+    (steps : List (End × LinkStep)) (o : AreLinkCalls steps links)
+    (honest : (run_calls (calls_of_steps steps links) start).honest ≡ true)
     (once : AreStartedOnce steps) where
-  abbrev links : Links
-  links = new_links first ms line second other_ms other_line
-
   abbrev calls : List (End × Call)
   calls = calls_of_steps steps links
 
-  pub clean : is_clean (run_calls calls (new_pair first second)) ≡ true
-  clean = clean_of first second steps links f g once honest
+  pub clean : is_clean (run_calls calls start) ≡ true
+  clean =
+      once_clean start is.holding.holds calls
+      (let e = starts_a steps links in let h = once.at_a in let n = is.none_a in
+      omega (arith, e, h, n))
+      (let e = starts_b steps links in let h = once.at_b in let n = is.none_b in
+      omega (arith, e, h, n)) honest
 
-  pub ends : AreSame (run_calls calls (new_pair first second)) (after_steps steps links)
-  ends =
-      steps_same steps links (new_pair first second)
-      (record { a = new_same first ms line; b = new_same second other_ms other_line }) o
+  pub ends : AreSame (run_calls calls start) (after_steps steps links)
+  ends = steps_same steps links start is.same o
+
+  both : DeliversBothWays (run_calls calls start)
+  both = (in_order start is.holding.holds calls).where_clean honest clean
 
   pub reaches_b : LinkReaches (after_steps steps links).a (after_steps steps links).b
-  reaches_b =
-      reaches _ _ _ _ ends.a ends.b
-      ((calls_in_order first second calls f g).where_clean honest clean).a_to_b
+  reaches_b = reaches _ _ _ _ ends.a ends.b both.a_to_b
 
   pub reaches_a : LinkReaches (after_steps steps links).b (after_steps steps links).a
-  reaches_a =
-      reaches _ _ _ _ ends.b ends.a
-      ((calls_in_order first second calls f g).where_clean honest clean).b_to_a
+  reaches_a = reaches _ _ _ _ ends.b ends.a both.b_to_a
 
   pub acknowledged_to_b : NoneOut (after_steps steps links).a
       → received (after_steps steps links).b ≡ (after_steps steps links).a.accepted
   acknowledged_to_b =
-      acknowledged_all _ _ _ _ ends.a ends.b
-      ((calls_in_order first second calls f g).where_clean honest clean).a_to_b
-      (calls_acknowledged first second calls f g honest clean).0
+      acknowledged_all _ _ _ _ ends.a ends.b both.a_to_b
+      (acknowledged_calls start is.holding.holds calls honest clean).0
 
   pub acknowledged_to_a : NoneOut (after_steps steps links).b
       → received (after_steps steps links).a ≡ (after_steps steps links).b.accepted
   acknowledged_to_a =
-      acknowledged_all _ _ _ _ ends.b ends.a
-      ((calls_in_order first second calls f g).where_clean honest clean).b_to_a
-      (calls_acknowledged first second calls f g honest clean).1
+      acknowledged_all _ _ _ _ ends.b ends.a both.b_to_a
+      (acknowledged_calls start is.holding.holds calls honest clean).1
 
   pub all_acknowledged_a : NoneOut (after_steps steps links).a
       → (after_steps steps links).a.acknowledged ≡ length (after_steps steps links).a.accepted
   all_acknowledged_a =
-      counted_all _ _ _ ends.a
-      ((calls_in_order first second calls f g).where_clean honest clean).a_to_b
-      (calls_acknowledged first second calls f g honest clean).0
+      counted_all _ _ _ ends.a both.a_to_b
+      (acknowledged_calls start is.holding.holds calls honest clean).0
 
   pub all_acknowledged_b : NoneOut (after_steps steps links).b
       → (after_steps steps links).b.acknowledged ≡ length (after_steps steps links).b.accepted
   all_acknowledged_b =
-      counted_all _ _ _ ends.b
-      ((calls_in_order first second calls f g).where_clean honest clean).b_to_a
-      (calls_acknowledged first second calls f g honest clean).1
+      counted_all _ _ _ ends.b both.b_to_a
+      (acknowledged_calls start is.holding.holds calls honest clean).1
 
   pub all_to_b : delivered (after_steps steps links).a.link ≡ true
       → received (after_steps steps links).b ≡ (after_steps steps links).a.accepted
@@ -339,6 +331,29 @@ module _ (first second : Config) (ms other_ms : ℕ) (line other_line : ReaderVi
       → received (after_steps steps links).a ≡ (after_steps steps links).b.accepted
   all_to_a e = acknowledged_to_a (none_out (after_steps steps links).b e)
 
+-- two new ones
+pub new_start : (first second : Config) (ms other_ms : ℕ) (line other_line : ReaderView)
+    → first_refusal first ≡ None → first_refusal second ≡ None
+    → IsStart (new_pair first second) (new_links first ms line second other_ms other_line)
+new_start first second ms other_ms line other_line f g = record {
+  same = record { a = new_same first ms line; b = new_same second other_ms other_line };
+  holding = new_holding first second f g;
+  none_a = refl;
+  none_b = refl;
+}
+
+-- what holds of links over honest lines
+abbrev pub FromStart : (Links → Type 0) → Type 0
+FromStart Promise = (start : PairState) (links : Links) → IsStart start links
+    → (steps : List (End × LinkStep)) → AreLinkCalls steps links
+    → (run_calls (calls_of_steps steps links) start).honest ≡ true → AreStartedOnce steps
+    → Promise (after_steps steps links)
+
+pub from_new : (Promise : Links → Type 0) → FromStart Promise → IsKeptOverHonestLines Promise
+from_new Promise promise first second ms other_ms line other_line steps f g o honest once =
+    promise (new_pair first second) (new_links first ms line second other_ms other_line)
+    (new_start first second ms other_ms line other_line f g) steps o honest once
+
 -- ---- a stream is an honest line
 
 stream_calls : (steps : List (End × LinkStep)) (q : Links) → LinkOverStreams steps q
@@ -347,14 +362,37 @@ stream_calls [] q o = tt
 stream_calls (step ∷ rest) q o =
     (o.0, stream_calls rest (after_step_at step.0 step.1 q) o.2)
 
-pub kept : (P : Links → Type 0) → IsKeptOverHonestLines P → IsKeptOverStreams P
+-- over streams, from two sound stations whose links have moved no bytes
+pub record IsFreshStart (p : PairState) (q : Links) : Type 0 where
+  pub is : IsStart p q
+  pub straight : IsStraight p
+  pub to_a : Begins q.a.used (written p.b)
+  pub to_b : Begins q.b.used (written p.a)
+
+abbrev pub StreamsFrom : (Links → Type 0) → Type 0
+StreamsFrom Promise = (start : PairState) (links : Links) → IsFreshStart start links
+    → (steps : List (End × LinkStep)) → LinkOverStreams steps links → AreStartedOnce steps
+    → Promise (after_steps steps links)
+
+pub streams_from : (Promise : Links → Type 0) → FromStart Promise → StreamsFrom Promise
+streams_from Promise promise start links fresh steps o once =
+    promise start links fresh.is steps (stream_calls steps links o)
+    (streams_straight start fresh.straight (calls_of_steps steps links)
+    (over_steps steps links start fresh.is.same
+    (record { to_a = fresh.to_a; to_b = fresh.to_b }) o)) once
+
+pub new_fresh : (first second : Config) (ms other_ms : ℕ) (line other_line : ReaderView)
+    → first_refusal first ≡ None → first_refusal second ≡ None
+    → IsFreshStart (new_pair first second) (new_links first ms line second other_ms other_line)
+new_fresh first second ms other_ms line other_line f g = record {
+  is = new_start first second ms other_ms line other_line f g;
+  straight = record { a = well_new first f; b = well_new second g; honest = refl };
+  to_a = (written (new_pair first second).b, refl);
+  to_b = (written (new_pair first second).a, refl);
+}
+
+pub kept : (P : Links → Type 0) → FromStart P → IsKeptOverStreams P
 kept P promise first second ms other_ms line other_line steps f g o once =
-    let links = new_links first ms line second other_ms other_line in
-    promise first second ms other_ms line other_line steps f g (stream_calls steps links o)
-    (streams_honest first second (calls_of_steps steps links) f g
-    (over_steps steps links (new_pair first second)
-    (record { a = new_same first ms line; b = new_same second other_ms other_line })
-    (record {
-      to_a = (written (new_pair first second).b, refl);
-      to_b = (written (new_pair first second).a, refl);
-    }) o)) once
+    streams_from P promise (new_pair first second)
+    (new_links first ms line second other_ms other_line)
+    (new_fresh first second ms other_ms line other_line f g) steps o once

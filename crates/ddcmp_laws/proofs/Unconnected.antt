@@ -288,8 +288,16 @@ received-none used text old new d was =
 
 delivered-none : (text : List ℕ) (old new : SessionView) → HasDelivered old new → IsIdle old
     → AddsNone (Delivered true) text old new
-delivered-none text old new d was = no (sym (ap first_message was.inbox) ∙ d.wrote.1)
+delivered-none text old new d was =
+    no
+    (sym (ap (λ xs. first_message (drop old.unwritten xs)) was.inbox
+    ∙ ap first_message (drop-none old.unwritten))
+    ∙ d.wrote.1)
   where
+    drop-none : (n : ℕ) → drop n ([] : List (List ℕ)) ≡ []
+    drop-none zero = refl
+    drop-none (suc n) = refl
+
     no : {P : Type 0} {message : List ℕ} → None ≡ Some message → P
     no e = cc
 
@@ -377,8 +385,9 @@ call-none (Delivered false) none text old new d was = record {
 call-none (OutputTook n) none text old new d was = record {
   idle =
       same-link old new
-      (same-at (λ x. x.has_line) new (record old { output = after_taken n old.output }) d)
-      (ap (λ (x : SessionView). x.link) d) (ap (λ (x : SessionView). x.course.has_run) d) was;
+      (same-at (λ x. x.has_line) new (after_output n old) d)
+      (ap (λ (x : SessionView). x.link) d ∙ takes_none (taken_when_written n old) old.link was.inbox)
+      (ap (λ (x : SessionView). x.course.has_run) d) was;
   used = refl;
   gone = refl;
   input = refl;

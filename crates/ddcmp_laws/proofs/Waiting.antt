@@ -1,22 +1,27 @@
 -- An end that sleeps has nothing left to be done.
 use Rattle.std.proofs.Common.{◌≡◌, ◌≢◌, ◌⊎◌, inl, inr, ℕ, ◌<◌, true, false, List}
-use Rattle.std.proofs.Common.{[], length, None, arith}
+use Rattle.std.proofs.Common.{[], ◌∷◌, length, None, arith}
 use Rattle.ddcmp_core.specs.declared.state.State.TheVariants.{Halted, Running}
 use Rattle.ddcmp_core.specs.declared.state.Timer.TheVariants.{Off}
 use Rattle.ddcmp_core.specs.Numbers.{next_number}
 use Rattle.ddcmp_core.specs.Core.{IsTimed}
 use Rattle.ddcmp_core.specs.Table.{StationState}
-use Rattle.ddcmp_pair.specs.InOrder.{IsRun}
 use Rattle.ddcmp_pair.specs.Recovery.{IsDelivered}
-use Rattle.ddcmp_pair.specs.Run.{EndState, PairState, handed_up, is_clean, line_bytes}
+use Rattle.ddcmp_pair.specs.Run.{EndState, PairState, after_event, handed_up, is_clean, line_bytes}
+use Rattle.ddcmp_pair.specs.Run.{new_pair, run}
+use Rattle.ddcmp_pair.specs.declared.event.Event.{Event}
+use Rattle.ddcmp_proto.specs.Config.{first_refusal}
+use Rattle.ddcmp_proto.specs.declared.config.Config.{Config}
+use Rattle.ddcmp_pair.proofs.Alone.{alone-after, alone-begun}
+use Rattle.ddcmp_pair.proofs.Ordered.{holds-after, holds-new}
 use Rattle.ddcmp_pair.proofs.Numbering.{next_is}
-use Rattle.ddcmp_pair.proofs.Ready.{kept}
+use Rattle.ddcmp_pair.proofs.Ready.{Holding, holding-kept}
 use Rattle.ddcmp_pair.proofs.Relation.{face, Counts}
 use Rattle.ddcmp_pair.proofs.Steady.{Shows}
 use Rattle.ddcmp_laws.proofs.Hearing.{sight}
 use Rattle.ddcmp_laws.proofs.Starting.{Idles, i_starts, i_runs}
 use Rattle.ddcmp_laws.proofs.Delivering.{Both}
-use Rattle.ddcmp_laws.proofs.Rounding.{run-alone, idles, base-of, counted-of, back-to, delivered-to}
+use Rattle.ddcmp_laws.proofs.Rounding.{idles, base-of, counted-of, back-to, delivered-to}
 
 -- if the timer is off and there is nothing to send, all was acknowledged
 all-told : (s : StationState) (w : ℕ) (given : List (List ℕ)) (acked sent next up : ℕ)
@@ -65,13 +70,26 @@ waits-for-none x y h t (i_runs p r f room) o =
     let c = h.numbers.sent_given in
     delivered-to x y h p (omega (arith, all, low, high, c)) (omega (arith, all, low, high, c))
 
-module _ (p : PairState) (r : IsRun p) (h : p.honest ≡ true) (c : is_clean p ≡ true)
+-- what holds of two stations after a run
+pub holding_run : (events : List Event) (p : PairState) → Holding p → Holding (run events p)
+unfolding run
+holding_run [] p h = h
+holding_run (e ∷ rest) p h =
+    holding_run rest (after_event e p)
+    (record { holds = holds-after e p h.holds; alone = alone-after e p h.alone })
+
+pub new_holding : (first second : Config) → first_refusal first ≡ None
+    → first_refusal second ≡ None → Holding (new_pair first second)
+new_holding first second f g =
+    record { holds = holds-new first second f g; alone = alone-begun first second }
+
+module _ (p : PairState) (r : Holding p) (h : p.honest ≡ true) (c : is_clean p ≡ true)
     (wa : p.a.core.station.state ≢ Halted) (wb : p.b.core.station.state ≢ Halted) where
   from-a : Shows p.a p.b
-  from-a = kept.from_a p r h c (record { a = wa; b = wb })
+  from-a = holding-kept.from_a p r h c (record { a = wa; b = wb })
 
   from-b : Shows p.b p.a
-  from-b = kept.from_b p r h c (record { a = wa; b = wb })
+  from-b = holding-kept.from_b p r h c (record { a = wa; b = wb })
 
   both : Both (face p.a) (face p.b) [] []
   both =
@@ -84,9 +102,9 @@ module _ (p : PairState) (r : IsRun p) (h : p.honest ≡ true) (c : is_clean p �
 
   pub sleeps-a : line_bytes p.a ≡ None → p.a.core.station.timer ≡ Off → IsDelivered p.a p.b
   sleeps-a n o =
-      waits-for-none p.a p.b from-a (run-alone p r).a.timed (idles p.a p.b [] [] both n) o
+      waits-for-none p.a p.b from-a r.alone.a.timed (idles p.a p.b [] [] both n) o
 
   pub sleeps-b : line_bytes p.b ≡ None → p.b.core.station.timer ≡ Off → IsDelivered p.b p.a
   sleeps-b n o =
-      waits-for-none p.b p.a from-b (run-alone p r).b.timed
+      waits-for-none p.b p.a from-b r.alone.b.timed
       (idles p.b p.a [] [] (back-to p.a p.b both) n) o

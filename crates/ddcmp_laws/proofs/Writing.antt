@@ -162,7 +162,7 @@ writes_step f step h does w = by step.call step.session does
       text = text_stays f h new w (ap (λ (x : SessionView). x.output) d.stays);
     }
     by (Delivered true) new d =
-        let first = first_message h.session.link.station.core.station.inbox in
+        let first = next_mail h.session in
         record {
           kind = ap (λ (x : SessionView). form_of x.messages) d.stays ∙ w.kind;
           text = writes f h.written h.shown (map Mail (option_to_list first)) h.session.output

@@ -5,15 +5,15 @@ use Rattle.ddcmp_input.specs.InBinary.{behind_length}
 use Rattle.ddcmp_core.specs.Table.{after_halt}
 use Rattle.ddcmp_proto.specs.Bytes.{after_piece, notices_of_piece}
 use Rattle.ddcmp_station.specs.Linking.{LinkView, with_state, after_frames, after_sent}
-use Rattle.ddcmp_station.specs.Linking.{after_taking}
 use Rattle.ddcmp_io.specs.declared.carrier.End.{End}
 use Rattle.ddcmp_io.specs.declared.carrier.End.TheVariants.{A, B}
 use Rattle.ddcmp_streams.specs.declared.messages.MessageForm.TheVariants as form
 use Rattle.ddcmp_io.specs.declared.line_kind.LineKind.TheVariants.{Connect}
 use Rattle.ddcmp_streams.specs.declared.options.Options.{Options}
-use Rattle.ddcmp_io.specs.Queue.{after_pushed, after_taken}
+use Rattle.ddcmp_io.specs.Queue.{after_pushed}
 use Rattle.ddcmp_session.specs.Session.{SessionView, form_of, after_input_read, after_input_end}
-use Rattle.ddcmp_session.specs.Session.{is_delivered, after_connected, after_timeout}
+use Rattle.ddcmp_session.specs.Session.{after_output, after_queued, is_delivered, after_connected}
+use Rattle.ddcmp_session.specs.Session.{after_timeout}
 use Rattle.ddcmp_session.specs.Session.{course_received, lost_among, lost_at_end, lost_by_end}
 use Rattle.ddcmp_session.specs.Course.{lost_more}
 use Rattle.ddcmp_laws.specs.Story.{strt_bytes, stack_bytes, first_bytes, ack_1_bytes}
@@ -63,10 +63,10 @@ session_after (Filled frames) h =
 session_after (LineTook n) h = record h.session { link = after_sent n h.session.link }
 session_after (TimedOut now) h = after_timeout now h.session
 session_after TimePassed h = h.session
-session_after (Delivered true) h = after_shown (Delivered true) h
-    (record h.session { link = after_taking h.session.link })
+session_after (Delivered true) h =
+    after_shown (Delivered true) h (after_queued h.session)
 session_after (Delivered false) h = h.session
-session_after (OutputTook n) h = record h.session { output = after_taken n h.session.output }
+session_after (OutputTook n) h = after_output n h.session
 session_after (Closed left over r) h = after_shown (Closed left over r) h
     (record h.session {
       link = with_state (after_halt h.session.link.station.core.station) h.session.link;
@@ -101,11 +101,12 @@ small_options = record {
   report = 0;
   form = form.Binary;
   maintenance = false;
+  acknowledge_early = false;
   stay = false;
   awaits_end = true;
   again = false;
   counters = false;
-  trace = false;
+  trace = None;
   clock = false;
   json = false;
 }
@@ -138,8 +139,9 @@ pipe_calls =
     ++ carried_from_b 8 stack_bytes
     ++ (A, InputRead (behind_length abc)) ∷ []
     ++ carried_from_a 13 first_bytes
+    ++ (B, Delivered true) ∷ (B, OutputTook 5) ∷ []
     ++ carried_from_b 8 ack_1_bytes
-    ++ (A, InputEnded) ∷ (B, Delivered true) ∷ (B, OutputTook 5) ∷ []
+    ++ (A, InputEnded) ∷ []
 
 abbrev pub pipe_steps : ReaderView → ReaderView → List (End × SessionStep)
 pipe_steps line other_line = steps_by pipe_calls (small_sessions line other_line)

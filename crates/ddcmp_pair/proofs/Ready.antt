@@ -75,7 +75,7 @@ pub record Holding (p : PairState) : Type 0 where
   pub holds : Holds p
   pub alone : BothAlone p
 
-holding-kept : IsKept (λ p. Holding p)
+pub holding-kept : IsKept (λ p. Holding p)
 holding-kept = record {
   event = λ e p h. record { holds = holds-after e p h.holds; alone = alone-after e p h.alone };
   from_a =

@@ -1,5 +1,5 @@
 -- The text of a received message that was queued.
-use Rattle.std.proofs.Common.{◌≡◌, ap, sym, subst, ◌∙◌, ℕ, List, ◌++◌, length, take, drop, ◌≤◌}
+use Rattle.std.proofs.Common.{◌≡◌, ap, subst, ◌∙◌, ℕ, List, ◌++◌, length, take, drop, ◌≤◌}
 use Rattle.std.proofs.Common.{Some, arith}
 use Rattle.std.proofs.Math.Seq.{take-append_seam}
 use Rattle.ddcmp_window.specs.Store.{with_front}

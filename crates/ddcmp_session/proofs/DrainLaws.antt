@@ -1,5 +1,5 @@
 -- What draining an output leaves as it is.
-use Rattle.std.proofs.Common.{◌≡◌, ◌∙◌, ap, sym, refl, Bool, true, false, cond, length}
+use Rattle.std.proofs.Common.{◌≡◌, ◌∙◌, ap, refl, Bool, true, false, cond, length}
 use Rattle.std.specs.Prelude.{◌&&◌, ◌==◌}
 use Rattle.ddcmp_station.specs.Linking.{LinkView, OutboxView}
 use Rattle.ddcmp_session.specs.Course.{lost_more}

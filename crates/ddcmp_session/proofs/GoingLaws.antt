@@ -6,7 +6,7 @@ use Rattle.std.proofs.Common.{false, List, [], ◌∷◌, ◌++◌, Option, Some
 use Rattle.std.proofs.Common.{append_assoc, append-nil, cond}
 use Rattle.ddcmp_session.specs.Devices.{HasReported, IsOfRun, AreOfRun, Reports}
 use Rattle.ddcmp_session.specs.Traffic.{Becomes, Traffic, after_fault, after_line_read, after_wait}
-use Rattle.std.specs.Prelude.{if◌then◌else◌, ◌||◌}
+use Rattle.std.specs.Prelude.{◌||◌}
 use Rattle.ddcmp_frame.specs.Reader.{StandsFor}
 use Rattle.ddcmp_station.specs.Linking.{after_frames}
 use Rattle.ddcmp_session.specs.Text.{Wrote, mail_text}

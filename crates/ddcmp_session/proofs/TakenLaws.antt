@@ -1,5 +1,5 @@
 -- Messages that are taken from a link, and the session after that.
-use Rattle.std.proofs.Common.{◌≡◌, ◌∙◌, ◌⊎◌, inl, inr, ap, sym, subst, refl, ℕ, zero, suc, ◌+◌, ◌-◌}
+use Rattle.std.proofs.Common.{◌≡◌, ◌∙◌, inl, inr, ap, sym, refl, ℕ, zero, suc, ◌+◌, ◌-◌}
 use Rattle.std.proofs.Common.{◌<◌, ◌≤◌, Bool, true, false, cond, List, [], ◌∷◌, length, drop, arith}
 use Rattle.std.proofs.Common.{Some, None}
 use Rattle.std.specs.Prelude.{◌&&◌, ◌==◌, min, nat_le, slice_index_or}
@@ -11,7 +11,7 @@ use Rattle.ddcmp_session.specs.Devices.{HoldsMail, OnlyDelivers}
 use Rattle.ddcmp_session.specs.Finishing.{HasRoomIfEmpty, IsDrained}
 use Rattle.ddcmp_session.specs.Session.{SessionView, after_output, after_queued, after_takes}
 use Rattle.ddcmp_session.specs.Session.{is_written, one_queued, taken_at_once, taken_when_written}
-use Rattle.ddcmp_session.specs.Session.{next_mail, room_for_mail, with_taken}
+use Rattle.ddcmp_session.specs.Session.{room_for_mail, with_taken}
 
 -- ---- what stays of a link
 
@@ -110,9 +110,9 @@ module _ (n : ℕ) (old mid : SessionView) (o : QueueView)
       }
   of-all b e m = λ i. record (m i) {
     link = (ap (λ (s : SessionView). s.link) m ∙ ap (λ (c : Bool).
-    after_takes (cond c old.unwritten 0) old.link) (sym e)) i;
+        after_takes (cond c old.unwritten 0) old.link) (sym e)) i;
     unwritten = (ap (λ (s : SessionView). s.unwritten) m ∙ ap (λ (c : Bool).
-    old.unwritten - cond c old.unwritten 0) (sym e)) i;
+        old.unwritten - cond c old.unwritten 0) (sym e)) i;
     output = (is ∙ ap (λ (s : SessionView). after_taken most s.output) m) i;
   }
 

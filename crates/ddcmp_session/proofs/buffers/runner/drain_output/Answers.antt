@@ -148,10 +148,11 @@ returns-then-not-wait-clause-drains g c =
 
 pub returns-then-is_written-clause-drained : goal.returns-then-is_written-clause-drained
 returns-then-is_written-clause-drained g c = λ e.
-    written-out _ (sym c.is_written.ensures ∙ c.if-is_written.true)
+    written-out c.deliver_all-delivered.new.session.state
+    (sym c.is_written.ensures ∙ c.if-is_written.true)
 
 pub returns-then-is_written-clause-emptied : goal.returns-then-is_written-clause-emptied
 returns-then-is_written-clause-emptied g c = λ e.
-    is-drained _ (sym c.is_written.ensures ∙ c.if-is_written.true)
-    (c.deliver_all-delivered.ensures.left c.if-not-delivered.false)
-    (c.deliver_all-delivered.ensures.emptied c.if-not-delivered.false)
+    is-drained c.deliver_all-delivered.new.session.state
+    (sym c.is_written.ensures ∙ c.if-is_written.true)
+    (c.if-not-delivered.ensures.left refl) (c.if-not-delivered.ensures.emptied refl)

@@ -1,7 +1,7 @@
 use Rattle.std.proofs.Common.{◌∙◌, ap, sym, subst, refl, true, false}
 use Rattle.ddcmp_streams.specs.Options.{takes_at_once}
 use Rattle.ddcmp_session.specs.Logged.{LoggedSession}
-use Rattle.ddcmp_session.specs.Session.{SessionView, form_of, next_mail, with_taken}
+use Rattle.ddcmp_session.specs.Session.{SessionView, form_of, with_taken}
 use Rattle.ddcmp_session.specs.Text.{Wrote, mail_text}
 use Rattle.ddcmp_session.specs.contracts.session.Session as session
 use Rattle.ddcmp_session.proofs.DeliverLaws.{writes-settled}

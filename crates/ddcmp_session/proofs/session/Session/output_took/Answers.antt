@@ -14,7 +14,7 @@ returns-clause-state c =
     let waiting : c.waiting-queued.result.now ≡ old.output.waiting =
     c.waiting-queued.ensures ∙ ap (λ (s : LoggedSession). s.state.output.waiting) c.self.view_is in
     let output : c.took.new.self
-        ≡ after_taken (min c.args.n (length old.output.waiting)) mid.output =
+    ≡ after_taken (min c.args.n (length old.output.waiting)) mid.output =
     c.took.ensures.taken
     ∙ ap (λ k. after_taken k mid.output)
     (c.min.ensures ∙ ap (λ xs. min c.args.n (length xs)) waiting) in
