@@ -1,5 +1,5 @@
 -- One run of two sessions, written out: both are connected, and one message is transferred.
-use Rattle.std.specs.Prelude.{◌≡◌, refl, ℕ, true, false, List, [], ◌∷◌, ◌++◌}
+use Rattle.std.specs.Prelude.{◌≡◌, refl, ℕ, true, false, None, List, [], ◌∷◌, ◌++◌}
 use Rattle.ddcmp_frame.specs.Reader.{ReaderView}
 use Rattle.ddcmp_input.specs.InBinary.{behind_length}
 use Rattle.ddcmp_core.specs.Table.{after_halt}
