@@ -52,7 +52,7 @@ def test_traced_as_objects():
     told = [json.loads(it) for it in one.err.decode().split("\n") if it.startswith("{")]
     assert all(re.fullmatch(r"\d{4}-\d\d-\d\dT[\d:.]{12}Z", it["time"]) for it in told)
     assert all(it["ms"] < 10_000 for it in told)
-    named = [(it.get("from"), it["item"], it.get("reason")) for it in told]
+    named = [(it.get("from"), it.get("item"), it.get("reason")) for it in told]
     for it in ((">", "STRT", None), (None, "timer", None), ("<", "STACK", None),
                ("<", "header check", None), (">", "NAK", "header check")):
         assert it in named, named
@@ -68,7 +68,7 @@ def test_traced_as_a_ladder():
     arrows = [it.split(" ", 1)[1] for it in one.err.decode().split("\n") if "|" in it]
     assert {len(it) for it in arrows} == {78}
     assert [re.sub("[ -]+", " ", it) for it in arrows] == [
-        "| STRT >|", "|< STACK |", "|< DATA num=1 resp=0 3 bytes |", "| ACK resp=1 >|"]
+        "| STRT >|", "|< STACK |", "|< DATA 1 resp=0 (3 bytes) |", "| ACK resp=1 >|"]
 
 
 def drawn_line():
@@ -88,7 +88,7 @@ def drawn_line():
 @pytest.mark.parametrize("form", [(), ("--json",)])
 def test_trace_discarded(form):
     """What --trace tells of a line is what `explain --discarded` tells of its bytes, but for SYN
-    bytes alone; also as JSON."""
+    and DEL bytes alone; also as JSON."""
     one, peer = linked("--trace", *form, "--timer-ms", "60000")
     line = drawn_line()
     with peer:
@@ -102,7 +102,7 @@ def test_trace_discarded(form):
     discarded = re.compile(r'{"offset":(\d+),"discarded":(\d+)}' if form
                            else r"(\d+) discarded (\d+)")
     fill = {it for it in items if (found := discarded.fullmatch(it))
-            and not line[int(found[1]):int(found[1]) + int(found[2])].strip(b"\x96")}
+            and not line[int(found[1]):int(found[1]) + int(found[2])].strip(b"\x96\xff")}
     wanted = [it for it in items if it not in fill and "unfinished" not in it]
     assert len(fill) >= 5 and sum("discarded" in it for it in wanted) >= 20
     assert told == wanted

@@ -61,6 +61,7 @@ def stopped(kind, output, form, how, path):
             reading = None
         else:
             receiver, reading = into_pipe(Link, there, *words, stdin=subprocess.DEVNULL)
+        assert receiver.waits(lambda it: b"\n" in it.err, 10), receiver
         sender = Link(here, "--timer-ms", "100", "--attempts", "5")
         assert sender.waits(lambda it: b"Running" in it.out, 10), sender
         sender.give(digits(SENT))
@@ -94,7 +95,8 @@ def test_sleeping_reader():
     without using the processor, and is given up by nobody; then nothing is missing."""
     with line_of("tcp") as (there, here):
         one, reading = into_pipe(Link, there, "--stay")
-        two = Link(here, "--stay", "--timer-ms", "100", "--attempts", "10")
+        assert one.waits(lambda it: b"\n" in it.err, 10), one
+        two = Link(here, "--stay", "--timer-ms", "100")
         two.give(digits(SENT), close=False)
         own = messages_of(2000, 300)
         one.give(digits(own), close=False)
