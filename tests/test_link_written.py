@@ -65,7 +65,7 @@ def stopped(kind, output, form, how, path):
         sender = Link(here, "--timer-ms", "100", "--attempts", "5")
         assert sender.waits(lambda it: b"Running" in it.out, 10), sender
         sender.give(digits(SENT))
-        seconds = drawn.uniform(0.01, 0.5)
+        seconds = drawn.uniform(0.05, 0.8)
         got = reads(reading, output, seconds) if reading else time.sleep(seconds)
         receiver.run.send_signal(how)
         receiver.ended(10)
