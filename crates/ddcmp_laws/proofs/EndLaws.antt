@@ -178,7 +178,7 @@ drop-more n xs = ap (λ k. drop k xs) (omega arith) ∙ by n xs
     by zero xs = refl
     by (suc n) [] = none n
       where
-        none : (n : ℕ) → drop (suc (suc n)) ([] : List (List ℕ)) ≡ drop 1 (drop (suc n) [])
+        none : (n : ℕ) → drop {A = List ℕ} (suc (suc n)) [] ≡ drop 1 (drop (suc n) [])
         none n = refl
     by (suc n) (x ∷ xs) = by n xs
 

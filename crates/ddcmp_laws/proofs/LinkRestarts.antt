@@ -191,6 +191,7 @@ FromKept Promise = (start : PairState) (links : Links) → AreSame start links �
     → Promise (after_links steps links)
 
 pub from_kept : (Promise : Links → Type 0) → FromKept Promise → IsKeptAnew Promise
+unfolding run_station_calls
 from_kept Promise promise first second ms other_ms line other_line steps f g o honest clean =
     promise (new_pair first second) (new_links first ms line second other_ms other_line)
     (record { a = new_same first ms line; b = new_same second other_ms other_line })
