@@ -15,7 +15,7 @@ use Rattle.ddcmp_laws.specs.LastConnection.{StartsEach}
 use Rattle.ddcmp_laws.specs.Pipe.{Made, links_made, pair_made}
 use Rattle.ddcmp_laws.specs.SessionRuns.{Ran, RanTogether, calls_of}
 use Rattle.ddcmp_laws.specs.Sessions.{link_steps_of}
-use Rattle.ddcmp_laws.proofs.Anew.{Stays, both, follows, since, since_first, stays_first}
+use Rattle.ddcmp_laws.proofs.Anew.{none_yet, Rest, Stays, both, follows, since, since_first, stays_first}
 use Rattle.ddcmp_laws.proofs.FrameSteps.{AreOverFrames, Inv}
 use Rattle.ddcmp_laws.proofs.FramesAtA.{frames-a}
 use Rattle.ddcmp_laws.proofs.FramesAtB.{frames-b}
@@ -29,7 +29,7 @@ use Rattle.ddcmp_session.specs.Connections.{AreDone}
 use Rattle.ddcmp_session.specs.Calls.{SessionStep}
 
 frames-run : (first second : Made) (steps : List (End × SessionStep)) (c : Connections)
-    (p : PairState) (j k : ℕ) → first_refusal first.options.config ≡ None
+    (p : PairState) (j k : Rest) → first_refusal first.options.config ≡ None
     → first_refusal second.options.config ≡ None → Inv first second c p j k
     → AreCalls steps c → Stays first c.a → Stays second c.b → AreOverFrames first second steps c
     → StartsEach (calls_of A steps) c.a → StartsEach (calls_of B steps) c.b
@@ -78,7 +78,7 @@ pub record RanOverFrames (a b : Ran) : Type 0 where
 begins-so : (first second : Made) → first_refusal first.options.config ≡ None
     → first_refusal second.options.config ≡ None
     → Inv first second (first_connections first second)
-    (pair_made first second) 0 0
+    (pair_made first second) none_yet none_yet
 unfolding run_station_calls
 begins-so first second f g =
     let start = made_start first second f g in
@@ -106,13 +106,13 @@ frames-together a b f g done_a done_b once_a once_b ran =
     ordered steps p (subst (λ xs. AreDone xs p.a) (sym ran.of_a) done_a)
     (subst (λ xs. AreDone xs p.b) (sym ran.of_b) done_b) in
     let start = pair_made a.made b.made in
-    let made : links_made a.made b.made ≡ both a.made b.made p 0 0 =
+    let made : links_made a.made b.made ≡ both a.made b.made p none_yet none_yet =
     λ i. record { a = since_first a.made i; b = since_first b.made i } in
     let out : Out (run_station_calls
     (calls_of_links (link_steps steps p) (links_made a.made b.made)) start) =
     subst (λ (q : Links). Out (run_station_calls (calls_of_links (link_steps steps p) q) start))
     (sym made)
-    (frames-run a.made b.made steps p start 0 0 f g (begins-so a.made b.made f g) order.0
+    (frames-run a.made b.made steps p start none_yet none_yet f g (begins-so a.made b.made f g) order.0
     (stays_first a.made) (stays_first b.made) ran.frames
     (subst (λ xs. StartsEach xs p.a) (sym ran.of_a) (starts-each a done_a once_a))
     (subst (λ xs. StartsEach xs p.b) (sym ran.of_b) (starts-each b done_b once_b))) in

@@ -13,7 +13,7 @@ use Rattle.ddcmp_laws.specs.Connections.{first_connection, first_connections, li
 use Rattle.ddcmp_laws.specs.LastConnection.{RanOverConnections, StartsLast}
 use Rattle.ddcmp_laws.specs.Pipe.{Made, links_made, pair_made}
 use Rattle.ddcmp_laws.specs.SessionRuns.{Ran, RanTogether}
-use Rattle.ddcmp_laws.proofs.Anew.{both, since_first, stays_first}
+use Rattle.ddcmp_laws.proofs.Anew.{none_yet, both, since_first, stays_first}
 use Rattle.ddcmp_laws.proofs.LastConnection.{Out, last-run}
 use Rattle.ddcmp_laws.proofs.LastSteps.{Inv}
 use Rattle.ddcmp_laws.proofs.RunLaws.{ordered}
@@ -21,7 +21,7 @@ use Rattle.ddcmp_laws.proofs.RunLaws.{ordered}
 begins-so : (first second : Made) (steps : List (End × SessionStep))
     → first_refusal first.options.config ≡ None → first_refusal second.options.config ≡ None
     → Inv first second steps (first_connections first second)
-    (pair_made first second) 0 0
+    (pair_made first second) none_yet none_yet
 unfolding run_station_calls
 begins-so first second steps f g =
     let start = made_start first second f g in
@@ -49,13 +49,13 @@ runs-together a b f g done_a done_b ready_a ready_b ran =
     ordered steps p (subst (λ xs. AreDone xs p.a) (sym ran.of_a) done_a)
     (subst (λ xs. AreDone xs p.b) (sym ran.of_b) done_b) in
     let start = pair_made a.made b.made in
-    let made : links_made a.made b.made ≡ both a.made b.made p 0 0 =
+    let made : links_made a.made b.made ≡ both a.made b.made p none_yet none_yet =
     λ i. record { a = since_first a.made i; b = since_first b.made i } in
     let out : Out (run_station_calls
     (calls_of_links (link_steps steps p) (links_made a.made b.made)) start) =
     subst (λ (q : Links). Out (run_station_calls (calls_of_links (link_steps steps p) q) start))
     (sym made)
-    (last-run a.made b.made steps p start 0 0 f g (begins-so a.made b.made steps f g) order.0
+    (last-run a.made b.made steps p start none_yet none_yet f g (begins-so a.made b.made steps f g) order.0
     (stays_first a.made) (stays_first b.made) ran.streams
     (subst (λ xs. StartsLast xs p.a) (sym ran.of_a) ready_a)
     (subst (λ xs. StartsLast xs p.b) (sym ran.of_b) ready_b)) in

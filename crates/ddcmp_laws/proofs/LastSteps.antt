@@ -43,7 +43,7 @@ use Rattle.ddcmp_session.specs.Connections.{Connection, after_step}
 use Rattle.ddcmp_laws.specs.Connections.{Connections}
 use Rattle.ddcmp_laws.specs.Pipe.{Made, connects, connects_in_call}
 use Rattle.ddcmp_laws.specs.Sessions.{frames_put, link_steps_of, offers_of, takes_put}
-use Rattle.ddcmp_laws.proofs.Anew.{both}
+use Rattle.ddcmp_laws.proofs.Anew.{Rest, both}
 use Rattle.ddcmp_laws.proofs.LastCalls.{AreCalmSteps, IsFinal}
 use Rattle.ddcmp_laws.proofs.Losing.{none-out}
 
@@ -228,7 +228,7 @@ calm-steps (Closed left over r) i s new = (tt, tt)
 -- A pair of two sessions, before these calls. An end that isn't connected again is well, and was
 -- started once; if neither is, the line is honest.
 pub record Inv (first second : Made) (steps : List (End × SessionStep)) (c : Connections)
-    (p : PairState) (j k : ℕ) : Type 0 where
+    (p : PairState) (j k : Rest) : Type 0 where
   pub same : AreSame p (both first second c j k)
   pub kept : Kept p
   pub limits_a : p.a.core.limits ≡ limits_of first.options.config
