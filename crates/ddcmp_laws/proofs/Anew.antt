@@ -9,14 +9,13 @@ use Rattle.ddcmp_input.specs.declared.entry.Entry.TheVariants.{Command, Empty}
 use Rattle.std.specs.Prelude.{◌||◌}
 use Rattle.ddcmp_proto.specs.Config.{first_refusal}
 use Rattle.ddcmp_input.specs.InBinary.{in_binary}
-use Rattle.ddcmp_station.specs.Linking.{LinkView, after_frame, anew, delivered}
+use Rattle.ddcmp_station.specs.Linking.{LinkView, after_frame, after_taking, anew}
 use Rattle.ddcmp_io.specs.declared.carrier.End.{End}
 use Rattle.ddcmp_io.specs.declared.carrier.End.TheVariants.{A, B}
 use Rattle.ddcmp_pair.specs.Prefix.{IsPrefixOf}
-use Rattle.ddcmp_pair.specs.Run.{new_pair, is_clean}
 use Rattle.ddcmp_streams.specs.Messages.{message_in, after_input, entries_of_input, after_last}
 use Rattle.ddcmp_streams.specs.Messages.{entry_of_last}
-use Rattle.ddcmp_session.specs.Session.{SessionView, takes_end}
+use Rattle.ddcmp_session.specs.Session.{SessionView, taken_at_once, taken_when_written, takes_end}
 use Rattle.ddcmp_laws.specs.Links.{LinkCall, Starts, BeginsAnew, Halts, Wakes, Offers, FillsOne}
 use Rattle.ddcmp_laws.specs.Links.{IsSent, Feeds, Takes, LinkHistory, LinkStep, Links, link_at}
 use Rattle.ddcmp_laws.specs.Links.{IsHistory, after_history, LinkReaches, HasDone, used_by}
@@ -25,19 +24,18 @@ use Rattle.ddcmp_laws.specs.Links as links
 use Rattle.ddcmp_laws.specs.LinkRestarts.{history_by, AreCallsOfLinks, after_links}
 use Rattle.ddcmp_laws.specs.LinkRestarts.{calls_of_links, history_at}
 use Rattle.ddcmp_laws.specs.LinkRestarts as restarts
-use Rattle.ddcmp_laws.specs.StationRuns.{run_station_calls}
-use Rattle.ddcmp_laws.proofs.LinkRestarts.{anew-to-b, anew-to-a, anew-all-to-b, anew-all-to-a}
-use Rattle.ddcmp_laws.proofs.LinkRestarts.{anew-acknowledged-to-b, anew-acknowledged-to-a}
-use Rattle.ddcmp_laws.proofs.TwoLinks.{NoneOut}
+use Rattle.ddcmp_laws.proofs.Inboxes.{anew-inbox}
+use Rattle.ddcmp_laws.proofs.Queues.{taken_of}
+use Rattle.ddcmp_laws.proofs.Texts.{mail_more}
 use Rattle.ddcmp_session.specs.Calls.{SessionCall, InputRead, InputEnded, Connected, LineEnded}
 use Rattle.ddcmp_session.specs.Calls.{Received, Filled, LineTook, TimedOut, TimePassed, Delivered}
 use Rattle.ddcmp_session.specs.Calls.{OutputTook}
 use Rattle.ddcmp_session.specs.Calls.{Closed, SessionDoes, SessionStep}
-use Rattle.ddcmp_session.specs.Calls.{after_session_step}
+use Rattle.ddcmp_session.specs.Calls.{after_session_step, shown_in}
 use Rattle.ddcmp_session.specs.Session.{after_connected, starts}
 use Rattle.ddcmp_laws.specs.Sessions.{messages_of, mail_in, link_steps_of, offers_of, frames_put}
-use Rattle.ddcmp_laws.specs.Sessions.{texts_of}
-use Rattle.ddcmp_laws.specs.Pipe.{Made, links_made, steps_at_end, undelivered}
+use Rattle.ddcmp_laws.specs.Sessions.{link_step, takes_put, texts_of}
+use Rattle.ddcmp_laws.specs.Pipe.{Made, link_made_of, steps_at_end}
 use Rattle.ddcmp_session.specs.Connections as connections
 use Rattle.ddcmp_session.specs.Connections.{Connection, Does, after_step, after_all}
 use Rattle.ddcmp_laws.specs.Connections.{Connections, first_connection, first_connections, at}
@@ -50,15 +48,16 @@ use Rattle.ddcmp_laws.proofs.Holding.{Holds, link_history, parts}
 use Rattle.ddcmp_laws.proofs.Outcomes.{binary_more, last_true}
 use Rattle.ddcmp_laws.proofs.Texts.{IsText, only_mail}
 use Rattle.ddcmp_laws.proofs.LinkSteps.{begins, step_leads, link_only, same_link, with_line}
-use Rattle.ddcmp_laws.proofs.LinkSteps.{holds_with_line, connected_is, course_connected}
+use Rattle.ddcmp_laws.proofs.LinkSteps.{holds_with_line, connected_is, course_connected, kept_link}
+use Rattle.ddcmp_laws.proofs.LinkSteps.{same_inbox}
 
 -- ---- calls of a link that don't begin it anew
 
-abbrev IsCalm : LinkCall → Type 0
+abbrev pub IsCalm : LinkCall → Type 0
 IsCalm BeginsAnew = ⊥
 IsCalm _ = Unit {0}
 
-abbrev AreCalm : List LinkStep → Type 0
+abbrev pub AreCalm : List LinkStep → Type 0
 AreCalm [] = Unit {0}
 AreCalm (x ∷ xs) = IsCalm x.call × AreCalm xs
 
@@ -113,6 +112,11 @@ unfolding frames_put
 frames_calm zero d = tt
 frames_calm (suc n) d = (tt, frames_calm n (after_frame d))
 
+takes_calm : (n : ℕ) (d : LinkView) → AreCalm (takes_put n d)
+unfolding takes_put
+takes_calm zero d = tt
+takes_calm (suc n) d = (tt, takes_calm n (after_taking d))
+
 offers_calm : (es : List Entry) (message : List ℕ) (new : LinkView)
     → AreCalm (offers_of es message new)
 offers_calm [] message new = tt
@@ -124,24 +128,27 @@ offers_calm (Command ∷ rest) message new = tt
 
 -- ---- what came before is left out
 
--- what some calls lead to, if these messages were accepted and taken before
-abbrev Shifts : List LinkStep → List (List ℕ) → List (List ℕ) → LinkHistory → LinkHistory → Type 0
-Shifts xs a t big small =
-    (x : List (List ℕ)) × (y : List (List ℕ)) × (k : ℕ)
+-- What some calls lead to, if these messages were accepted before; what they take is the same
+-- whatever was taken before.
+abbrev Shifts : List LinkStep → List (List ℕ) → List (List ℕ) → List (List ℕ) → LinkHistory
+    → LinkHistory → Type 0
+Shifts xs a t y big small =
+    (x : List (List ℕ)) × (more : List (List ℕ)) × (k : ℕ)
     × (after_history xs small
-    ≡ parts (after_history xs big).link (after_history xs big).used (after_history xs big).gone x y
-    k)
+    ≡ parts (after_history xs big).link (after_history xs big).used (after_history xs big).gone x
+    (y ++ more) k)
     × ((after_history xs big).accepted ≡ a ++ x)
-    × ((after_history xs big).taken ≡ t ++ y)
+    × ((after_history xs big).taken ≡ t ++ more)
 
 shift : (xs : List LinkStep) (d : LinkView) (u g : List ℕ) (a x t y : List (List ℕ)) (j k : ℕ)
-    → IsHistory xs (parts d u g (a ++ x) (t ++ y) j)
+    → IsHistory xs (parts d u g (a ++ x) t j)
     → IsHistory xs (parts d u g x y k)
-    × Shifts xs a t (parts d u g (a ++ x) (t ++ y) j) (parts d u g x y k)
+    × Shifts xs a t y (parts d u g (a ++ x) t j) (parts d u g x y k)
 unfolding after_history
-shift [] d u g a x t y j k h = (tt, (x, y, k, refl, refl, refl))
+shift [] d u g a x t y j k h =
+    (tt, (x, [], k, ap (λ z. parts d u g x z k) (sym (append-nil y)), refl, sym (append-nil t)))
 shift (s ∷ xs) d u g a x t y j k h =
-    let big = parts d u g (a ++ x) (t ++ y) j in
+    let big = parts d u g (a ++ x) t j in
     let small = parts d u g x y k in
     let acc = accepted_by s.call d in
     let tk = taken_by s.call d in
@@ -149,24 +156,50 @@ shift (s ∷ xs) d u g a x t y j k h =
     let n = k + acknowledged_after s.call small in
     let e
     : links.after_step s big
-    ≡ parts s.link (u ++ used_by s.call) (g ++ gone_by s.call d) (a ++ (x ++ acc))
-    (t ++ (y ++ tk)) m =
+    ≡ parts s.link (u ++ used_by s.call) (g ++ gone_by s.call d) (a ++ (x ++ acc)) (t ++ tk) m =
     λ i. parts s.link (u ++ used_by s.call) (g ++ gone_by s.call d) (append_assoc a x acc i)
-    (append_assoc t y tk i) m in
+    (t ++ tk) m in
     let r =
-    shift xs s.link (u ++ used_by s.call) (g ++ gone_by s.call d) a (x ++ acc) t (y ++ tk) m n
-    (subst (IsHistory xs) e h.1) in (
+    shift xs s.link (u ++ used_by s.call) (g ++ gone_by s.call d) a (x ++ acc) (t ++ tk) (y ++ tk)
+    m n (subst (IsHistory xs) e h.1) in
+    let z = subst (λ l. Shifts xs a (t ++ tk) (y ++ tk) l (links.after_step s small)) (sym e) r.1 in (
       (h.0, r.0),
-      subst (λ l. Shifts xs a t l (links.after_step s small)) (sym e) r.1,
+      (
+        z.0,
+        tk ++ z.1,
+        z.2,
+        z.3
+            ∙ ap
+            (λ w. parts (after_history xs (links.after_step s big)).link
+            (after_history xs (links.after_step s big)).used
+            (after_history xs (links.after_step s big)).gone z.0 w z.2) (append_assoc y tk z.1),
+        z.4,
+        z.5 ∙ append_assoc t tk z.1,
+      ),
     )
 
 -- ---- one session
 
+-- What the history of its link has since it was connected, beside what that of the session has: the
+-- messages that were taken, and how many it reported acknowledged.
+pub record Rest : Type 0 where
+  pub taken : List (List ℕ)
+  pub told : ℕ
+
+abbrev pub none_yet : Rest
+none_yet = record { taken = []; told = 0 }
+
 -- the history of its link since it was connected
-abbrev pub since : Made → Connection → ℕ → LinkHistory
+abbrev pub since : Made → Connection → Rest → LinkHistory
 since made c k =
-    parts c.history.session.link c.history.used c.history.gone (read_since made c)
-    (delivered_since c) k
+    parts c.history.session.link c.history.used c.history.gone (read_since made c) k.taken k.told
+
+-- Of the messages that it had delivered before, some were taken before, and these weren't. The
+-- messages taken since come after the former.
+pub record IsSince (c : Connection) (k : Rest) (waited : List (List ℕ)) : Type 0 where
+  pub before : List (List ℕ)
+  pub taken : taken_of c.history.session c.history.shown ≡ before ++ k.taken
+  pub begun : mail_in c.shown_before ≡ before ++ waited
 
 -- what stays
 pub record Stays (made : Made) (c : Connection) : Type 0 where
@@ -177,20 +210,33 @@ pub record Stays (made : Made) (c : Connection) : Type 0 where
   pub delivered : mail_in c.history.shown ≡ mail_in c.shown_before ++ delivered_since c
 
 -- a call of a session leads its link from one history since it was connected to the next
-abbrev pub Follows : Made → List LinkStep → Connection → ℕ → Connection → Type 0
+abbrev pub Follows : Made → List LinkStep → Connection → Rest → Connection → Type 0
 Follows made xs c k next =
     AreDone xs (since made c k)
-    × ((m : ℕ) × (after_done xs (since made c k) ≡ since made next m))
+    × ((m : Rest) × (after_done xs (since made c k) ≡ since made next m))
     × Stays made next
+
+-- and if it isn't connected, those that weren't taken stay so
+pub record FollowsOn (made : Made) (xs : List LinkStep) (c : Connection) (k : Rest)
+    (next : Connection) : Type 0 where
+  pub done : AreDone xs (since made c k)
+  pub rest : Rest
+  pub after : after_done xs (since made c k) ≡ since made next rest
+  pub stays : Stays made next
+  pub since_then : (waited : List (List ℕ)) → IsSince c k waited → IsSince next rest waited
+
+abbrev as_follows : {made : Made} {xs : List LinkStep} {c : Connection} {k : Rest}
+    {next : Connection} → FollowsOn made xs c k next → Follows made xs c k next
+as_follows f = (f.done, (f.rest, f.after), f.stays)
 
 pub left_out : (a b x : List (List ℕ)) → b ≡ a ++ x → drop (length a) b ≡ x
 left_out a b x e = ap (drop (length a)) e ∙ drop-append_seam a x
 
 -- a call that doesn't connect it
-goes_on : (made : Made) (one : SessionStep) (c : Connection) (k : ℕ)
+pub goes_on : (made : Made) (one : SessionStep) (c : Connection) (k : Rest)
     → SessionDoes one.call c.history.used c.history.session one.session → Stays made c
     → AreCalm (link_steps_of one.call c.history.session one.session.link)
-    → Follows made (link_steps_of one.call c.history.session one.session.link) c k
+    → FollowsOn made (link_steps_of one.call c.history.session one.session.link) c k
     (record c { history = after_session_step one c.history })
 goes_on made one c k does stays is_calm =
     let f = made.options.form in
@@ -199,48 +245,59 @@ goes_on made one c k does stays is_calm =
     let next : Connection = record c { history = after_session_step one c.history } in
     let before = messages_of f max c.input_before in
     let shown = mail_in c.shown_before in
-    let s = step_leads f max one c.history k does stays.holds in
-    let big = link_history f max c.history k in
+    let was = taken_of c.history.session c.history.shown in
+    let s = step_leads f max one c.history k.told does stays.holds in
+    let big = link_history f max c.history k.told in
     let e
     : big
     ≡ parts c.history.session.link c.history.used c.history.gone
-    (before ++ read_since made c) (shown ++ delivered_since c) k =
-    λ i. parts c.history.session.link c.history.used c.history.gone (stays.read i)
-    (stays.delivered i) k in
+    (before ++ read_since made c) was k.told =
+    λ i. parts c.history.session.link c.history.used c.history.gone (stays.read i) was k.told in
     let r =
-    shift xs c.history.session.link c.history.used c.history.gone before (read_since made c) shown
-    (delivered_since c) k k (subst (IsHistory xs) e s.0.0) in
-    let moved = subst (λ l. Shifts xs before shown l (since made c k)) (sym e) r.1 in
+    shift xs c.history.session.link c.history.used c.history.gone before (read_since made c) was
+    k.taken k.told k.told (subst (IsHistory xs) e s.0.0) in
+    let moved = subst (λ l. Shifts xs before was k.taken l (since made c k)) (sym e) r.1 in
     let small = since made c k in
     let x = moved.0 in
-    let y = moved.1 in
-    let m = moved.2 in
+    let m : Rest = record { taken = k.taken ++ moved.1; told = moved.2 } in
     let after
     : after_history xs small
-    ≡ parts next.history.session.link next.history.used next.history.gone x y m =
+    ≡ parts next.history.session.link next.history.used next.history.gone x m.taken m.told =
     moved.3
-    ∙ ap (λ (l : LinkHistory). parts l.link l.used l.gone x y m) s.0.1.1 in
+    ∙ ap (λ (l : LinkHistory). parts l.link l.used l.gone x m.taken m.told) s.0.1.1 in
     let read : messages_of f max next.history.input ≡ before ++ x =
     ap (λ (l : LinkHistory). l.accepted) (sym s.0.1.1) ∙ moved.4 in
-    let taken : mail_in next.history.shown ≡ shown ++ y =
-    ap (λ (l : LinkHistory). l.taken) (sym s.0.1.1) ∙ moved.5 in
     let x_is = left_out before (messages_of f max next.history.input) x read in
-    let y_is = left_out shown (mail_in next.history.shown) y taken in
-    let calls = calm xs small is_calm r.0 in (
-      calls.0,
-      (
-        m,
-        calls.1
-            ∙ after
-            ∙ (λ i. parts next.history.session.link next.history.used next.history.gone
-            (sym x_is i) (sym y_is i) m),
-      ),
-      record {
+    let mail =
+    mail_more c.history.shown (shown_in one.call c.history.used c.history.session)
+    ∙ ap (λ ms. ms ++ mail_in (shown_in one.call c.history.used c.history.session)) stays.delivered
+    ∙ append_assoc shown (delivered_since c)
+    (mail_in (shown_in one.call c.history.used c.history.session)) in
+    let y =
+    delivered_since c ++ mail_in (shown_in one.call c.history.used c.history.session) in
+    let y_is = left_out shown (mail_in next.history.shown) y mail in
+    let calls = calm xs small is_calm r.0 in
+    record {
+      done = calls.0;
+      rest = m;
+      after =
+          calls.1
+          ∙ after
+          ∙ (λ i. parts next.history.session.link next.history.used next.history.gone
+          (sym x_is i) m.taken m.told);
+      stays = record {
         holds = s.1;
         read = read ∙ ap (λ z. before ++ z) (sym x_is);
-        delivered = taken ∙ ap (λ z. shown ++ z) (sym y_is);
-      },
-    )
+        delivered = mail ∙ ap (λ z. shown ++ z) (sym y_is);
+      };
+      since_then = λ waited q. record {
+        before = q.before;
+        taken =
+            ap (λ (l : LinkHistory). l.taken) (sym s.0.1.1) ∙ moved.5
+            ∙ ap (λ ms. ms ++ moved.1) q.taken ∙ append_assoc q.before k.taken moved.1;
+        begun = q.begun;
+      };
+    }
 
 all_left_out : (a : List (List ℕ)) → drop (length a) a ≡ []
 all_left_out a = left_out a a [] (sym (append-nil a))
@@ -249,11 +306,15 @@ none_since : (a : List (List ℕ)) → a ≡ a ++ drop (length a) a
 none_since a = sym (append-nil a) ∙ ap (λ x. a ++ x) (sym (all_left_out a))
 
 -- a call that does
-begins_anew : (made : Made) (new : SessionView) (c : Connection) (k : ℕ)
+pub record BegunAnew (made : Made) (new : SessionView) (c : Connection) (k : Rest) : Type 0 where
+  pub done : AreDone (link_step BeginsAnew new.link ∷ []) (since made c k)
+  pub after : after_done (link_step BeginsAnew new.link ∷ []) (since made c k)
+      ≡ since made (after_step (record { call = Connected; session = new }) c) none_yet
+  pub stays : Stays made (after_step (record { call = Connected; session = new }) c)
+
+pub begins_anew : (made : Made) (new : SessionView) (c : Connection) (k : Rest)
     → new ≡ after_connected new.link.station.line c.history.session
-    → Stays made c
-    → Follows made (link_steps_of Connected c.history.session new.link) c k
-    (after_step (record { call = Connected; session = new }) c)
+    → Stays made c → BegunAnew made new c k
 unfolding after_done
 begins_anew made new c k is stays =
     let f = made.options.form in
@@ -263,72 +324,118 @@ begins_anew made new c k is stays =
     let same = connected_is h.session new stays.holds.of_data is in
     let course = course_connected h.session in
     let input = messages_of f max (h.input ++ []) in
-    let mail = mail_in (h.shown ++ []) in (
-      (ap (λ (x : SessionView). x.link) same, tt),
-      (
-        0,
-        λ i. parts new.link [] [] (sym (all_left_out input) i) (sym (all_left_out mail) i) 0,
-      ),
-      record {
+    let mail = mail_in (h.shown ++ []) in
+    record {
+      done = (ap (λ (x : SessionView). x.link) same, tt);
+      after = λ i. parts new.link [] [] (sym (all_left_out input) i) [] 0;
+      stays = record {
         holds =
             link_only f max (with_line b course h) new [] []
             (holds_with_line f max b course h stays.holds)
             (same_link (with_line b course h).session new
             (anew new.link.station.line h.session.link) same)
-            (ap (λ (x : SessionView). x.link.station.core.limits.longest) same);
+            (ap (λ (x : SessionView). x.link.station.core.limits.longest) same)
+            (kept_link (with_line b course h).session new h.shown
+            (anew new.link.station.line h.session.link) same
+            (same_inbox h.session.link (anew new.link.station.line h.session.link)
+            (anew-inbox new.link.station.line h.session.link)));
         read = none_since input;
         delivered = none_since mail;
-      },
-    )
+      };
+    }
 
-pub follows : (made : Made) (one : SessionStep) (c : Connection) (k : ℕ)
+-- the calls of a link that any other call makes
+abbrev pub NotConnected : SessionCall → Type 0
+NotConnected Connected = ⊥
+NotConnected _ = Unit {0}
+
+pub calm_of : (call : SessionCall) → NotConnected call → (s : SessionView) (new : LinkView)
+    → AreCalm (link_steps_of call s new)
+calm_of Connected i s new = absurd i
+calm_of (InputRead used) i s new =
+    offers_calm (entries_of_input used s.messages) (message_in (after_input used s.messages)) new
+calm_of InputEnded i s new = by (takes_end s)
+  where
+    by : (w : Bool)
+        → AreCalm
+        (cond w
+        (offers_of (option_to_list (entry_of_last s.messages)) (message_in (after_last s.messages))
+        new) [])
+    by true =
+        offers_calm (option_to_list (entry_of_last s.messages))
+        (message_in (after_last s.messages)) new
+    by false = tt
+calm_of (LineEnded r) i s new = (tt, tt)
+calm_of (Received used) i s new = (tt, tt)
+calm_of (Filled n) i s new = frames_calm n s.link
+calm_of (LineTook n) i s new = (tt, tt)
+calm_of (TimedOut now) i s new = (tt, tt)
+calm_of TimePassed i s new = tt
+calm_of (Delivered true) i s new = takes_calm (taken_at_once s) s.link
+calm_of (Delivered false) i s new = tt
+calm_of (OutputTook n) i s new = takes_calm (taken_when_written n s) s.link
+calm_of (Closed left over r) i s new = (tt, tt)
+
+pub follows : (made : Made) (one : SessionStep) (c : Connection) (k : Rest)
     → Does one.call c.history.used c.history.session one.session → Stays made c
     → Follows made (link_steps_of one.call c.history.session one.session.link) c k
     (after_step one c)
 follows made one c k does stays = by one.call one.session does
   where
-    ended : (w : Bool) (new : SessionView)
-        → AreCalm
-        (cond w
-        (offers_of (option_to_list (entry_of_last c.history.session.messages))
-        (message_in (after_last c.history.session.messages)) new.link) [])
-    ended true new =
-        offers_calm (option_to_list (entry_of_last c.history.session.messages))
-        (message_in (after_last c.history.session.messages)) new.link
-    ended false new = tt
-
     by : (call : SessionCall) (new : SessionView)
         → Does call c.history.used c.history.session new
         → Follows made (link_steps_of call c.history.session new.link) c k
         (after_step (record { call = call; session = new }) c)
+    by Connected new d =
+        let b = begins_anew made new c k d stays in (b.done, (none_yet, b.after), b.stays)
     by (InputRead used) new d =
-        goes_on made (record { call = InputRead used; session = new }) c k d stays
-        (offers_calm (entries_of_input used c.history.session.messages)
-        (message_in (after_input used c.history.session.messages)) new.link)
+        as_follows
+        (goes_on made (record { call = InputRead used; session = new }) c k d stays
+        (calm_of (InputRead used) tt c.history.session new.link))
     by InputEnded new d =
-        goes_on made (record { call = InputEnded; session = new }) c k d stays
-        (ended (takes_end c.history.session) new)
-    by Connected new d = begins_anew made new c k d stays
+        as_follows
+        (goes_on made (record { call = InputEnded; session = new }) c k d stays
+        (calm_of InputEnded tt c.history.session new.link))
     by (LineEnded r) new d =
-        goes_on made (record { call = LineEnded r; session = new }) c k d stays (tt, tt)
+        as_follows
+        (goes_on made (record { call = LineEnded r; session = new }) c k d stays
+        (calm_of (LineEnded r) tt c.history.session new.link))
     by (Received used) new d =
-        goes_on made (record { call = Received used; session = new }) c k d stays (tt, tt)
+        as_follows
+        (goes_on made (record { call = Received used; session = new }) c k d stays
+        (calm_of (Received used) tt c.history.session new.link))
     by (Filled n) new d =
-        goes_on made (record { call = Filled n; session = new }) c k d stays
-        (frames_calm n c.history.session.link)
+        as_follows
+        (goes_on made (record { call = Filled n; session = new }) c k d stays
+        (calm_of (Filled n) tt c.history.session new.link))
     by (LineTook n) new d =
-        goes_on made (record { call = LineTook n; session = new }) c k d stays (tt, tt)
+        as_follows
+        (goes_on made (record { call = LineTook n; session = new }) c k d stays
+        (calm_of (LineTook n) tt c.history.session new.link))
     by (TimedOut now) new d =
-        goes_on made (record { call = TimedOut now; session = new }) c k d stays (tt, tt)
-    by TimePassed new d = goes_on made (record { call = TimePassed; session = new }) c k d stays tt
+        as_follows
+        (goes_on made (record { call = TimedOut now; session = new }) c k d stays
+        (calm_of (TimedOut now) tt c.history.session new.link))
+    by TimePassed new d =
+        as_follows
+        (goes_on made (record { call = TimePassed; session = new }) c k d stays
+        (calm_of TimePassed tt c.history.session new.link))
     by (Delivered true) new d =
-        goes_on made (record { call = Delivered true; session = new }) c k d stays (tt, tt)
+        as_follows
+        (goes_on made (record { call = Delivered true; session = new }) c k d stays
+        (calm_of (Delivered true) tt c.history.session new.link))
     by (Delivered false) new d =
-        goes_on made (record { call = Delivered false; session = new }) c k d stays tt
+        as_follows
+        (goes_on made (record { call = Delivered false; session = new }) c k d stays
+        (calm_of (Delivered false) tt c.history.session new.link))
     by (OutputTook n) new d =
-        goes_on made (record { call = OutputTook n; session = new }) c k d stays tt
+        as_follows
+        (goes_on made (record { call = OutputTook n; session = new }) c k d stays
+        (calm_of (OutputTook n) tt c.history.session new.link))
     by (Closed left over r) new d =
-        goes_on made (record { call = Closed left over r; session = new }) c k d stays (tt, tt)
+        as_follows
+        (goes_on made (record { call = Closed left over r; session = new }) c k d stays
+        (calm_of (Closed left over r) tt c.history.session new.link))
 
 -- ---- steps at one end
 
@@ -357,26 +464,26 @@ then_b (x ∷ xs) rest q h more =
 
 -- ---- two sessions
 
-abbrev pub both : Made → Made → Connections → ℕ → ℕ → Links
+abbrev pub both : Made → Made → Connections → Rest → Rest → Links
 both first second p j k = record { a = since first p.a j; b = since second p.b k }
 
-abbrev Keeps : Made → Made → List (End × SessionStep) → Connections → ℕ → ℕ → Type 0
+abbrev pub Keeps : Made → Made → List (End × SessionStep) → Connections → Rest → Rest → Type 0
 Keeps first second steps p j k =
     AreCallsOfLinks (link_steps steps p) (both first second p j k)
-    × ((m : ℕ) × (n : ℕ)
+    × ((m : Rest) × (n : Rest)
     × (after_links (link_steps steps p) (both first second p j k)
     ≡ both first second (after_steps steps p) m n))
     × Stays first (after_steps steps p).a
     × Stays second (after_steps steps p).b
 
-abbrev StepKeeps : Made → Made → End → SessionStep → List (End × SessionStep) → Connections → ℕ → ℕ
-    → Type 0
+abbrev StepKeeps : Made → Made → End → SessionStep → List (End × SessionStep) → Connections → Rest
+    → Rest → Type 0
 StepKeeps first second end one rest p j k =
     AreCallsOfLinks
     (steps_at_end end
     (link_steps_of one.call (at end p).history.session one.session.link)
     ++ link_steps rest (after_step_at end one p)) (both first second p j k)
-    × ((m : ℕ) × (n : ℕ)
+    × ((m : Rest) × (n : Rest)
     × (after_links
     (steps_at_end end
     (link_steps_of one.call (at end p).history.session one.session.link)
@@ -385,7 +492,7 @@ StepKeeps first second end one rest p j k =
     × Stays first (after_steps rest (after_step_at end one p)).a
     × Stays second (after_steps rest (after_step_at end one p)).b
 
-keeps_steps : (first second : Made) (steps : List (End × SessionStep)) (p : Connections) (j k : ℕ)
+pub keeps_steps : (first second : Made) (steps : List (End × SessionStep)) (p : Connections) (j k : Rest)
     → AreCalls steps p → Stays first p.a → Stays second p.b → Keeps first second steps p j k
 unfolding link_steps after_links after_steps
 keeps_steps first second [] p j k does sa sb = (tt, (j, k, refl), sa, sb)
@@ -395,7 +502,7 @@ keeps_steps first second (step ∷ rest) p j k does sa sb =
   where
     by : (end : End) (one : SessionStep)
         → Does one.call (at end p).history.used (at end p).history.session one.session
-        → ((m n : ℕ) → Stays first (after_step_at end one p).a
+        → ((m n : Rest) → Stays first (after_step_at end one p).a
         → Stays second (after_step_at end one p).b
         → Keeps first second rest (after_step_at end one p) m n)
         → StepKeeps first second end one rest p j k
@@ -436,7 +543,7 @@ keeps_steps first second (step ∷ rest) p j k does sa sb =
 
 -- ---- its output
 
-writes_anew : (made : Made) (c : Connection) → Stays made c → WritesAnew made c
+pub writes_anew : (made : Made) (c : Connection) → Stays made c → WritesAnew made c
 writes_anew made c s is =
     s.holds.text
     ∙ ap (λ f. texts_of f c.history.shown) is
@@ -459,7 +566,7 @@ pub stays_all : (made : Made) (steps : List SessionStep) (c : Connection)
 unfolding after_all
 stays_all made [] c does stays = stays
 stays_all made (step ∷ rest) c does stays =
-    stays_all made rest (after_step step c) does.1 (follows made step c 0 does.0 stays).2
+    stays_all made rest (after_step step c) does.1 (follows made step c none_yet does.0 stays).2
 
 pub text_of_all : (made : Made) (steps : List SessionStep)
     → connections.AreDone steps (first_connection made)
@@ -471,158 +578,18 @@ text_of_all made steps does =
     (stays_all made steps (first_connection made) does (stays_first made)).holds.text
 
 pub since_first : (made : Made)
-    → links.new_history made.options.config made.options.timer_ms made.line
-    ≡ since made (first_connection made) 0
+    → link_made_of made ≡ since made (first_connection made) none_yet
 since_first made =
     (begins made.options made.kind made.line made.plain).1
     ∙ (λ i. parts (first_connection made).history.session.link [] []
     (e (messages_of made.options.form made.options.config.max [])
     (ap (λ (l : LinkHistory). l.accepted) begun) i)
-    (e (mail_in []) (ap (λ (l : LinkHistory). l.taken) begun) i) 0)
+    (ap (λ (l : LinkHistory). l.taken) begun i) 0)
   where
     begun
         : link_history made.options.form made.options.config.max (first_connection made).history 0
-        ≡ links.new_history made.options.config made.options.timer_ms made.line
+        ≡ link_made_of made
     begun = sym (begins made.options made.kind made.line made.plain).1
 
     e : (a : List (List ℕ)) → a ≡ [] → a ≡ drop (length a) a
     e a none = none ∙ sym (all_left_out a)
-
--- If nothing is left to be acknowledged, the other has received all.
-abbrev pub AcknowledgedAnew : Made → Connection → Connection → Type 0
-AcknowledgedAnew made giver taker =
-    giver.history.session.link.station.core.station.out ≡ []
-    → delivered_since taker ++ undelivered taker.history ≡ read_since made giver
-
-module _ (first second : Made) (steps : List (End × SessionStep))
-    (f : first_refusal first.options.config ≡ None) (g : first_refusal second.options.config ≡ None)
-    (does : AreCalls steps (first_connections first second))
-    (honest : (run_station_calls
-    (calls_of_links (link_steps steps (first_connections first second)) (links_made first second))
-    (new_pair first.options.config second.options.config)).honest ≡ true)
-    (clean : is_clean
-    (run_station_calls
-    (calls_of_links (link_steps steps (first_connections first second)) (links_made first second))
-    (new_pair first.options.config second.options.config)) ≡ true) where
-  made_links : links_made first second ≡ both first second (first_connections first second) 0 0
-  made_links = λ i. record { a = since_first first i; b = since_first second i }
-
-  keeps : Keeps first second steps (first_connections first second) 0 0
-  keeps =
-      keeps_steps first second steps (first_connections first second) 0 0 does (stays_first first)
-      (stays_first second)
-
-  are : AreCallsOfLinks (link_steps steps (first_connections first second))
-      (links_made first second)
-  are =
-      subst (AreCallsOfLinks (link_steps steps (first_connections first second))) (sym made_links)
-      keeps.0
-
-  done : after_links (link_steps steps (first_connections first second))
-      (links_made first second)
-      ≡ both first second (after_steps steps (first_connections first second)) keeps.1.0
-      keeps.1.1
-  done =
-      ap (after_links (link_steps steps (first_connections first second))) made_links
-      ∙ keeps.1.2
-
-  first_of : {giver taker : LinkHistory} → LinkReaches giver taker
-      → IsPrefixOf taker.taken giver.accepted
-  first_of {giver} {taker} r =
-      let inbox = taker.link.station.core.station.inbox in (
-        inbox ++ r.order.0,
-        sym (append_assoc taker.taken inbox r.order.0) ∙ r.order.1,
-      )
-
-  pub pipes_anew_b : PipesAnew first (after_steps steps (first_connections first second)).a
-      (after_steps steps (first_connections first second)).b
-  pipes_anew_b =
-      first_of
-      (subst (λ q. LinkReaches q.a q.b) done
-      (anew-to-b first.options.config second.options.config first.options.timer_ms
-      second.options.timer_ms first.line second.line
-      (link_steps steps (first_connections first second)) f g are honest clean))
-
-  pub pipes_anew_a : PipesAnew second (after_steps steps (first_connections first second)).b
-      (after_steps steps (first_connections first second)).a
-  pipes_anew_a =
-      first_of
-      (subst (λ q. LinkReaches q.b q.a) done
-      (anew-to-a first.options.config second.options.config first.options.timer_ms
-      second.options.timer_ms first.line second.line
-      (link_steps steps (first_connections first second)) f g are honest clean))
-
-  pub pipes_all_anew_b
-      : PipesAllAnew first (after_steps steps (first_connections first second)).a
-      (after_steps steps (first_connections first second)).b
-  pipes_all_anew_b over =
-      let s = (after_steps steps (first_connections first second)).a.history.session in
-      subst (λ (q : Links). delivered q.a.link ≡ true → received q.b ≡ q.a.accepted) done
-      (anew-all-to-b first.options.config second.options.config first.options.timer_ms
-      second.options.timer_ms first.line second.line
-      (link_steps steps (first_connections first second)) f g are honest clean)
-      (last_true s.is_read (delivered s.link) over)
-
-  pub pipes_all_anew_a
-      : PipesAllAnew second (after_steps steps (first_connections first second)).b
-      (after_steps steps (first_connections first second)).a
-  pipes_all_anew_a over =
-      let s = (after_steps steps (first_connections first second)).b.history.session in
-      subst (λ (q : Links). delivered q.b.link ≡ true → received q.a ≡ q.b.accepted) done
-      (anew-all-to-a first.options.config second.options.config first.options.timer_ms
-      second.options.timer_ms first.line second.line
-      (link_steps steps (first_connections first second)) f g are honest clean)
-      (last_true s.is_read (delivered s.link) over)
-
-  pub acknowledged_anew_b
-      : AcknowledgedAnew first (after_steps steps (first_connections first second)).a
-      (after_steps steps (first_connections first second)).b
-  acknowledged_anew_b none =
-      subst (λ (q : Links). NoneOut q.a → received q.b ≡ q.a.accepted) done
-      (anew-acknowledged-to-b first.options.config second.options.config first.options.timer_ms
-      second.options.timer_ms first.line second.line
-      (link_steps steps (first_connections first second)) f g are honest clean)
-      (ap length none)
-
-  pub acknowledged_anew_a
-      : AcknowledgedAnew second (after_steps steps (first_connections first second)).b
-      (after_steps steps (first_connections first second)).a
-  acknowledged_anew_a none =
-      subst (λ (q : Links). NoneOut q.b → received q.a ≡ q.b.accepted) done
-      (anew-acknowledged-to-a first.options.config second.options.config first.options.timer_ms
-      second.options.timer_ms first.line second.line
-      (link_steps steps (first_connections first second)) f g are honest clean)
-      (ap length none)
-
-  pub closed_anew_b
-      : PipesClosedAnew first (after_steps steps (first_connections first second)).a
-      (after_steps steps (first_connections first second)).b
-  closed_anew_b left over r closed is none =
-      let s = (after_steps steps (first_connections first second)).a.history.session in
-      let nothing = closed-none left over r s closed is none
-      (counts-anew-a steps (first_connections first second) does (new-counts first)) in
-      (acknowledged_anew_b nothing.0, nothing.1, nothing.2)
-
-  pub closed_anew_a
-      : PipesClosedAnew second (after_steps steps (first_connections first second)).b
-      (after_steps steps (first_connections first second)).a
-  closed_anew_a left over r closed is none =
-      let s = (after_steps steps (first_connections first second)).b.history.session in
-      let nothing = closed-none left over r s closed is none
-      (counts-anew-b steps (first_connections first second) does (new-counts second)) in
-      (acknowledged_anew_a nothing.0, nothing.1, nothing.2)
-
-  -- what stays of each
-  pub stays_a : Stays first (after_steps steps (first_connections first second)).a
-  stays_a = keeps.2
-
-  pub stays_b : Stays second (after_steps steps (first_connections first second)).b
-  stays_b = keeps.3
-
-  pub writes_anew_a : WritesAnew first (after_steps steps (first_connections first second)).a
-  writes_anew_a =
-      writes_anew first (after_steps steps (first_connections first second)).a keeps.2
-
-  pub writes_anew_b : WritesAnew second (after_steps steps (first_connections first second)).b
-  writes_anew_b =
-      writes_anew second (after_steps steps (first_connections first second)).b keeps.3

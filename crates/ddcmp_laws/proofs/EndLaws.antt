@@ -5,6 +5,7 @@ use Rattle.std.proofs.Common.{List, [], ◌∷◌, ◌++◌, map, take, drop, Op
 use Rattle.std.proofs.Common.{option_to_list}
 use Rattle.std.proofs.Common.{append_assoc, append-nil}
 use Rattle.std.proofs.lemmas.List.{take-append-drop}
+use Rattle.std.proofs.Math.Seq.{drop-nil}
 use Rattle.ddcmp_frame.specs.Reader.{StandsFor}
 use Rattle.ddcmp_io.specs.Queue.{QueueView}
 use Rattle.ddcmp_station.specs.Linking.{LinkView}
@@ -177,7 +178,7 @@ drop-more n xs = ap (λ k. drop k xs) (omega arith) ∙ by n xs
     by zero xs = refl
     by (suc n) [] = none n
       where
-        none : (n : ℕ) → drop (suc (suc n)) ([] : List (List ℕ)) ≡ drop 1 (drop (suc n) [])
+        none : (n : ℕ) → drop {A = List ℕ} (suc (suc n)) [] ≡ drop 1 (drop (suc n) [])
         none n = refl
     by (suc n) (x ∷ xs) = by n xs
 
@@ -272,16 +273,12 @@ abbrev Only : List ℕ → SessionView → SessionView → Type 0
 Only taken old new =
     (taken ++ new.output.waiting ≡ old.output.waiting) × (new.link ≡ old.link)
 
-drop-none : (n : ℕ) → drop n ([] : List (List ℕ)) ≡ []
-drop-none zero = refl
-drop-none (suc n) = refl
-
 only_one : (call : SessionCall) (old new : SessionView) → IsDelivery call
     → SessionDoes call [] old new → old.link.station.core.station.inbox ≡ []
     → Only (written_in call old) old new
 only_one (Delivered true) old new of d none =
     absurd (empty (sym (ap (λ xs. first_message (drop old.unwritten xs)) none
-    ∙ ap first_message (drop-none old.unwritten)) ∙ d.wrote.1))
+    ∙ ap first_message (drop-nil old.unwritten)) ∙ d.wrote.1))
   where
     empty : ◌≡◌ {A = Option (List ℕ)} None (Some d.wrote.0) → ⊥
     empty e = cc

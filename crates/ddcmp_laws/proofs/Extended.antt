@@ -2,11 +2,11 @@
 use Rattle.std.proofs.Common.{◌≡◌, ◌∙◌, ap, sym, subst, refl, ℕ, Bool, true, false, List, [], ◌∷◌}
 use Rattle.std.proofs.Common.{◌++◌, append_assoc, append-nil, None}
 use Rattle.ddcmp_frame.specs.Reader.{StandsFor}
-use Rattle.ddcmp_station.specs.Linking.{LinkView}
+use Rattle.ddcmp_session.proofs.TakenLaws.{takes-line}
 use Rattle.ddcmp_streams.specs.declared.messages.MessageForm.TheVariants as form
 use Rattle.ddcmp_streams.specs.declared.options.Options.{Options}
 use Rattle.ddcmp_session.specs.Traffic.{LineLog, Traffic}
-use Rattle.ddcmp_session.specs.Session.{SessionView, form_of}
+use Rattle.ddcmp_session.specs.Session.{SessionView, form_of, taken_at_once, taken_when_written}
 use Rattle.ddcmp_session.specs.Calls.{Closed, Connected, Delivered, Filled, InputEnded, InputRead}
 use Rattle.ddcmp_session.specs.Calls.{IsSessionHistory, LineEnded, LineTook, OutputTook, Received}
 use Rattle.ddcmp_session.specs.Calls.{SessionCall, SessionDoes, SessionHistory, SessionStep}

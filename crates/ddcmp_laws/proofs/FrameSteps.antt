@@ -13,7 +13,7 @@ use Rattle.ddcmp_laws.specs.Connections.{Connections, after_step_at}
 use Rattle.ddcmp_laws.specs.Links.{IsSameEnd, LinkHistory}
 use Rattle.ddcmp_laws.specs.Pipe.{Made}
 use Rattle.ddcmp_laws.specs.StationRuns.{has_heard_none}
-use Rattle.ddcmp_laws.proofs.Anew.{both}
+use Rattle.ddcmp_laws.proofs.Anew.{Rest, both}
 use Rattle.ddcmp_laws.proofs.FaithfulLaws.{begins_among}
 use Rattle.ddcmp_laws.proofs.LastCalls.{IsFinal}
 use Rattle.ddcmp_laws.proofs.StationRuns.{Kept}
@@ -36,7 +36,7 @@ AreOverFrames first second (step ∷ rest) p =
     AreFrames first second (after_step_at step.0 step.1 p)
     × AreOverFrames first second rest (after_step_at step.0 step.1 p)
 
-pub record Inv (first second : Made) (c : Connections) (p : PairState) (j k : ℕ) : Type 0 where
+pub record Inv (first second : Made) (c : Connections) (p : PairState) (j k : Rest) : Type 0 where
   pub same : AreSame p (both first second c j k)
   pub kept : Kept p
   pub limits_a : p.a.core.limits ≡ limits_of first.options.config

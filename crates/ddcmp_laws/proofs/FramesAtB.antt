@@ -32,7 +32,7 @@ use Rattle.ddcmp_laws.specs.Connections.{Connections, after_step_at}
 use Rattle.ddcmp_laws.specs.LastConnection.{StartsIf}
 use Rattle.ddcmp_laws.specs.Pipe.{Made}
 use Rattle.ddcmp_laws.specs.Sessions.{link_step, link_steps_of}
-use Rattle.ddcmp_laws.proofs.Anew.{Follows, after_done, since}
+use Rattle.ddcmp_laws.proofs.Anew.{Rest, Follows, after_done, since}
 use Rattle.ddcmp_laws.proofs.LastCalls.{AreCalmSteps, IsFinal, pair-after, steps-calm}
 use Rattle.ddcmp_laws.proofs.LastCalls.{steps-kept}
 use Rattle.ddcmp_laws.proofs.LastSteps.{calm-steps, sound-anew, starts-empty}
@@ -40,7 +40,7 @@ use Rattle.ddcmp_laws.proofs.NoisyReads.{among-more, none-good, straight-at-b}
 use Rattle.ddcmp_laws.proofs.FrameSteps.{AreFrames, Inv, among-sent, heard-none}
 
 module _ (first second : Made) (call : SessionCall) (new : SessionView)
-    (c : Connections) (p : PairState) (j k : ℕ)
+    (c : Connections) (p : PairState) (j k : Rest)
     (inv : Inv first second c p j k)
     (f : Follows second (link_steps_of call c.b.history.session new.link) c.b k
     (after_step (record { call = call; session = new }) c.b)) where
@@ -71,7 +71,7 @@ module _ (first second : Made) (call : SessionCall) (new : SessionView)
       }
 
 module _ (first second : Made) (used : List ℕ) (new : SessionView)
-    (c : Connections) (p : PairState) (j k : ℕ)
+    (c : Connections) (p : PairState) (j k : Rest)
     (inv : Inv first second c p j k)
     (f : Follows second (link_step (Feeds used) new.link ∷ []) c.b k
     (after_step (record { call = Received used; session = new }) c.b))
@@ -143,7 +143,7 @@ module _ (first second : Made) (used : List ℕ) (new : SessionView)
   }
 
 module _ (first second : Made) (new : SessionView)
-    (c : Connections) (p : PairState) (j k : ℕ)
+    (c : Connections) (p : PairState) (j k : Rest)
     (inv : Inv first second c p j k)
     (f : Follows second (link_step BeginsAnew new.link ∷ []) c.b k
     (after_step (record { call = Connected; session = new }) c.b))
@@ -196,7 +196,7 @@ module _ (first second : Made) (new : SessionView)
   }
 
 pub frames-b : (first second : Made) (call : SessionCall) (new : SessionView)
-    (c : Connections) (p : PairState) (j k : ℕ)
+    (c : Connections) (p : PairState) (j k : Rest)
     → Inv first second c p j k
     → (f : Follows second (link_steps_of call c.b.history.session new.link) c.b k
     (after_step (record { call = call; session = new }) c.b))

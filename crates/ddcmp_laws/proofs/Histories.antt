@@ -1,17 +1,18 @@
 -- Histories of a session.
 use Rattle.std.proofs.Common.{◌≡◌, ℕ, false, List, [], ◌∷◌}
-use Rattle.std.proofs.Common.{◌++◌, refl, sym, ◌∙◌, ap, subst}
+use Rattle.std.proofs.Common.{◌++◌, refl, sym, ◌∙◌, ap, subst, take}
 use Rattle.std.proofs.Common.{append_assoc, append-nil}
 use Rattle.ddcmp_frame.specs.Reader.{ReaderView}
 use Rattle.ddcmp_io.specs.declared.line_kind.LineKind.{LineKind}
 use Rattle.ddcmp_streams.specs.declared.options.Options.{Options}
 use Rattle.ddcmp_streams.specs.declared.messages.MessageForm.{MessageForm}
-use Rattle.ddcmp_laws.specs.Links.{LinkHistory, LinkStep, new_history}
+use Rattle.ddcmp_laws.specs.Links.{LinkHistory, LinkStep}
 use Rattle.ddcmp_laws.specs.Links.{after_step, IsHistory, after_history, offered_in_call}
 use Rattle.ddcmp_laws.specs.Links.{offered_in}
 use Rattle.ddcmp_session.specs.Calls.{SessionHistory, new_session, SessionStep}
 use Rattle.ddcmp_session.specs.Calls.{after_session_step, IsSessionHistory, after_session_steps}
-use Rattle.ddcmp_laws.specs.Sessions.{IsPlain, messages_of, link_steps_of, link_steps_in, IsOfLink}
+use Rattle.ddcmp_laws.specs.Sessions.{IsPlain, history_begun, messages_of, link_steps_of}
+use Rattle.ddcmp_laws.specs.Sessions.{link_steps_in, IsOfLink}
 use Rattle.ddcmp_laws.proofs.Holding.{Holds, Leads, StepLeads, link_history}
 use Rattle.ddcmp_laws.proofs.LinkSteps.{begins, step_leads}
 
@@ -80,15 +81,18 @@ module _ (o : Options) (kind : LineKind) (line : ReaderView) (steps : List Sessi
       history_leads o.form o.config.max steps (new_session o kind line) 0 does
       (begins o kind line plain).0
 
+  abbrev ended : SessionHistory
+  ended = after_session_steps steps (new_session o kind line)
+
   pub are_calls : IsHistory (link_steps_in steps (new_session o kind line))
-      (new_history o.config o.timer_ms line)
+      (history_begun o line)
   are_calls =
       subst (IsHistory (link_steps_in steps (new_session o kind line)))
       (sym (begins o kind line plain).1) leads.0.0
 
   pub are_same : IsOfLink o.form o.config.max (after_session_steps steps (new_session o kind line))
       (after_history (link_steps_in steps (new_session o kind line))
-      (new_history o.config o.timer_ms line))
+      (history_begun o line))
   are_same =
       let e =
       ap (after_history (link_steps_in steps (new_session o kind line)))
@@ -99,7 +103,11 @@ module _ (o : Options) (kind : LineKind) (line : ReaderView) (steps : List Sessi
         used = ap (λ (l : LinkHistory). l.used) e;
         gone = ap (λ (l : LinkHistory). l.gone) e;
         accepted = ap (λ (l : LinkHistory). l.accepted) e;
-        taken = ap (λ (l : LinkHistory). l.taken) e;
+        taken =
+            ap
+            (λ (l : LinkHistory). l.taken
+            ++ take ended.session.unwritten ended.session.link.station.core.station.inbox) e
+            ∙ sym leads.1.queued.is;
       }
 
   pub are_offered : offered_in (link_steps_in steps (new_session o kind line))

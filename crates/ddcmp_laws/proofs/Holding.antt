@@ -130,6 +130,12 @@ takes_inbox (suc n) d =
     ∙ takes_inbox n (after_taking d)
     ∙ drop-one-more d.station.core.station.inbox n
 
+pub takes_state : (n : ℕ) (d : LinkView)
+    → (after_takes n d).station.core.station.state ≡ d.station.core.station.state
+unfolding after_takes
+takes_state zero d = refl
+takes_state (suc n) d = takes_state n d
+
 pub takes_longest : (n : ℕ) (d : LinkView)
     → (after_takes n d).station.core.limits.longest ≡ d.station.core.limits.longest
 unfolding after_takes

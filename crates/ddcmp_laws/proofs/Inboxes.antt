@@ -37,39 +37,39 @@ adds-then a b c first second = (
   second.1 ∙ ap (λ xs. xs ++ second.0) first.1 ∙ append_assoc a first.0 second.0,
 )
 
-pub adds-on : (l : Limits) (s : StationState) (h : Received) → Adds s.inbox (on l s h).inbox
-unfolding on
-adds-on l s h = by s.state h
-  where
-    Grows : StationState → Type 0
-    Grows u = Adds s.inbox u.inbox
+record Grown (s u : StationState) : Type 0 where
+  adds : Adds s.inbox u.inbox
 
-    same : (u : StationState) → u.inbox ≡ s.inbox → Grows u
-    same u e = adds-same s.inbox u.inbox e
+grown : (l : Limits) (s : StationState) (h : Received) → Grown s (on l s h)
+unfolding on
+grown l s h = by s.state h
+  where
+    same : (u : StationState) → u.inbox ≡ s.inbox → Grown s u
+    same u e = record { adds = adds-same s.inbox u.inbox e }
 
     more-if : (message : List ℕ) (b : Bool) (u : StationState)
-        → u.inbox ≡ cond b (s.inbox ++ message ∷ []) s.inbox → Grows u
-    more-if message true u e = (message ∷ [], e)
+        → u.inbox ≡ cond b (s.inbox ++ message ∷ []) s.inbox → Grown s u
+    more-if message true u e = record { adds = (message ∷ [], e) }
     more-if message false u e = same u e
 
-    started : (b : Bool) → Grows (cond b (after_startup s) s)
+    started : (b : Bool) → Grown s (cond b (after_startup s) s)
     started true = same _ refl
     started false = same _ refl
 
     started-data : (resp num : ℕ) (message : List ℕ) (b : Bool)
-        → Grows (cond b (on_data l (after_startup s) resp num message) s)
+        → Grown s (cond b (on_data l (after_startup s) resp num message) s)
     started-data resp num message true = more-if message (takes_data l s num) _ refl
     started-data resp num message false = same _ refl
 
-    strt : (b : Bool) → Grows (cond b (after_restart s) (after_halt s))
+    strt : (b : Bool) → Grown s (cond b (after_restart s) (after_halt s))
     strt true = same _ refl
     strt false = same _ refl
 
-    nak : (resp : ℕ) (b : Bool) → Grows (nak_by s resp b)
+    nak : (resp : ℕ) (b : Bool) → Grown s (nak_by s resp b)
     nak resp true = same _ refl
     nak resp false = same _ refl
 
-    in-halted : (h : Received) → Grows (on_by Halted l s h)
+    in-halted : (h : Received) → Grown s (on_by Halted l s h)
     in-halted (Good (Acked resp)) = same _ refl
     in-halted (Good (Naked why resp)) = same _ refl
     in-halted (Good (Data resp num message)) = same _ refl
@@ -82,7 +82,7 @@ adds-on l s h = by s.state h
     in-halted (TooLong b) = same _ refl
     in-halted BadFormat = same _ refl
 
-    in-istart : (h : Received) → Grows (on_by IStart l s h)
+    in-istart : (h : Received) → Grown s (on_by IStart l s h)
     in-istart (Good (Acked resp)) = same _ refl
     in-istart (Good (Naked why resp)) = same _ refl
     in-istart (Good (Data resp num message)) = same _ refl
@@ -95,7 +95,7 @@ adds-on l s h = by s.state h
     in-istart (TooLong b) = same _ refl
     in-istart BadFormat = same _ refl
 
-    in-astart : (h : Received) → Grows (on_by AStart l s h)
+    in-astart : (h : Received) → Grown s (on_by AStart l s h)
     in-astart (Good (Acked resp)) = started (resp == 0)
     in-astart (Good (Naked why resp)) = same _ refl
     in-astart (Good (Data resp num message)) = started-data resp num message (resp == 0)
@@ -108,7 +108,7 @@ adds-on l s h = by s.state h
     in-astart (TooLong b) = same _ refl
     in-astart BadFormat = same _ refl
 
-    in-running : (h : Received) → Grows (on_by Running l s h)
+    in-running : (h : Received) → Grown s (on_by Running l s h)
     in-running (Good (Acked resp)) = same _ refl
     in-running (Good (Naked why resp)) = nak resp (is_within s.a resp s.n)
     in-running (Good (Data resp num message)) = more-if message (takes_data l s num) _ refl
@@ -121,7 +121,7 @@ adds-on l s h = by s.state h
     in-running (TooLong b) = same _ refl
     in-running BadFormat = same _ refl
 
-    in-maintenance : (h : Received) → Grows (on_by Maintenance l s h)
+    in-maintenance : (h : Received) → Grown s (on_by Maintenance l s h)
     in-maintenance (Good (Acked resp)) = same _ refl
     in-maintenance (Good (Naked why resp)) = same _ refl
     in-maintenance (Good (Data resp num message)) = same _ refl
@@ -134,12 +134,15 @@ adds-on l s h = by s.state h
     in-maintenance (TooLong b) = same _ refl
     in-maintenance BadFormat = same _ refl
 
-    by : (p : State) (h : Received) → Grows (on_by p l s h)
+    by : (p : State) (h : Received) → Grown s (on_by p l s h)
     by Halted h = in-halted h
     by IStart h = in-istart h
     by AStart h = in-astart h
     by Running h = in-running h
     by Maintenance h = in-maintenance h
+
+pub adds-on : (l : Limits) (s : StationState) (h : Received) → Adds s.inbox (on l s h).inbox
+adds-on l s h = (grown l s h).adds
 
 adds-items : (given : List ReadItem) (k : CoreView)
     → Adds k.station.inbox (after_items given k).station.inbox

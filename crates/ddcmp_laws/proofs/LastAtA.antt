@@ -30,7 +30,7 @@ use Rattle.ddcmp_laws.specs.Connections.{Connections, after_step_at}
 use Rattle.ddcmp_laws.specs.LastConnection.{EndOverStreams, StartsIf}
 use Rattle.ddcmp_laws.specs.Pipe.{Made, connects, connects_in_call}
 use Rattle.ddcmp_laws.specs.Sessions.{link_step, link_steps_of}
-use Rattle.ddcmp_laws.proofs.Anew.{Follows, after_done, since}
+use Rattle.ddcmp_laws.proofs.Anew.{Rest, Follows, after_done, since}
 use Rattle.ddcmp_laws.proofs.LastCalls.{AreCalmSteps, IsFinal, pair-after, steps-calm}
 use Rattle.ddcmp_laws.proofs.LastCalls.{steps-kept}
 use Rattle.ddcmp_laws.proofs.LastSteps.{Inv, after-same, arrive-none, back-none, calm-steps}
@@ -60,7 +60,7 @@ quiet-a ((A, one) ∷ rest) c e n over =
     ∙ quiet-a rest (after_step_at A one c) (omega (arith, e)) (λ f. n (omega (arith, f))) over.1)
 
 module _ (first second : Made) (call : SessionCall) (new : SessionView)
-    (rest : List (End × SessionStep)) (c : Connections) (p : PairState) (j k : ℕ)
+    (rest : List (End × SessionStep)) (c : Connections) (p : PairState) (j k : Rest)
     (inv : Inv first second ((A, record { call = call; session = new }) ∷ rest) c p j k)
     (f : Follows first (link_steps_of call c.a.history.session new.link) c.a j
     (after_step (record { call = call; session = new }) c.a)) where
@@ -94,7 +94,7 @@ module _ (first second : Made) (call : SessionCall) (new : SessionView)
       }
 
 module _ (first second : Made) (used : List ℕ) (new : SessionView)
-    (rest : List (End × SessionStep)) (c : Connections) (p : PairState) (j k : ℕ)
+    (rest : List (End × SessionStep)) (c : Connections) (p : PairState) (j k : Rest)
     (inv : Inv first second ((A, record { call = Received used; session = new }) ∷ rest) c p j k)
     (f : Follows first (link_step (Feeds used) new.link ∷ []) c.a j
     (after_step (record { call = Received used; session = new }) c.a))
@@ -192,7 +192,7 @@ module _ (first second : Made) (used : List ℕ) (new : SessionView)
       final d (inr n) = fed-none-fa d n
 
 module _ (first second : Made) (new : SessionView)
-    (rest : List (End × SessionStep)) (c : Connections) (p : PairState) (j k : ℕ)
+    (rest : List (End × SessionStep)) (c : Connections) (p : PairState) (j k : Rest)
     (inv : Inv first second ((A, record { call = Connected; session = new }) ∷ rest) c p j k)
     (f : Follows first (link_step BeginsAnew new.link ∷ []) c.a j
     (after_step (record { call = Connected; session = new }) c.a))
@@ -244,7 +244,7 @@ module _ (first second : Made) (new : SessionView)
   }
 
 pub step-a : (first second : Made) (call : SessionCall) (new : SessionView)
-    (rest : List (End × SessionStep)) (c : Connections) (p : PairState) (j k : ℕ)
+    (rest : List (End × SessionStep)) (c : Connections) (p : PairState) (j k : Rest)
     → Inv first second ((A, record { call = call; session = new }) ∷ rest) c p j k
     → (f : Follows first (link_steps_of call c.a.history.session new.link) c.a j
     (after_step (record { call = call; session = new }) c.a))

@@ -30,7 +30,7 @@ use Rattle.ddcmp_laws.specs.Connections.{Connections, after_step_at}
 use Rattle.ddcmp_laws.specs.LastConnection.{EndOverStreams, StartsIf}
 use Rattle.ddcmp_laws.specs.Pipe.{Made, connects, connects_in_call}
 use Rattle.ddcmp_laws.specs.Sessions.{link_step, link_steps_of}
-use Rattle.ddcmp_laws.proofs.Anew.{Follows, after_done, since}
+use Rattle.ddcmp_laws.proofs.Anew.{Rest, Follows, after_done, since}
 use Rattle.ddcmp_laws.proofs.LastCalls.{AreCalmSteps, IsFinal, pair-after, steps-calm}
 use Rattle.ddcmp_laws.proofs.LastCalls.{steps-kept}
 use Rattle.ddcmp_laws.proofs.LastSteps.{Inv, after-same, arrive-none, back-none, calm-steps}
@@ -60,7 +60,7 @@ quiet-b ((B, one) ∷ rest) c e n over =
     ∙ quiet-b rest (after_step_at B one c) (omega (arith, e)) (λ f. n (omega (arith, f))) over.1)
 
 module _ (first second : Made) (call : SessionCall) (new : SessionView)
-    (rest : List (End × SessionStep)) (c : Connections) (p : PairState) (j k : ℕ)
+    (rest : List (End × SessionStep)) (c : Connections) (p : PairState) (j k : Rest)
     (inv : Inv first second ((B, record { call = call; session = new }) ∷ rest) c p j k)
     (f : Follows second (link_steps_of call c.b.history.session new.link) c.b k
     (after_step (record { call = call; session = new }) c.b)) where
@@ -94,7 +94,7 @@ module _ (first second : Made) (call : SessionCall) (new : SessionView)
       }
 
 module _ (first second : Made) (used : List ℕ) (new : SessionView)
-    (rest : List (End × SessionStep)) (c : Connections) (p : PairState) (j k : ℕ)
+    (rest : List (End × SessionStep)) (c : Connections) (p : PairState) (j k : Rest)
     (inv : Inv first second ((B, record { call = Received used; session = new }) ∷ rest) c p j k)
     (f : Follows second (link_step (Feeds used) new.link ∷ []) c.b k
     (after_step (record { call = Received used; session = new }) c.b))
@@ -192,7 +192,7 @@ module _ (first second : Made) (used : List ℕ) (new : SessionView)
       final d (inr n) = fed-none-fb d n
 
 module _ (first second : Made) (new : SessionView)
-    (rest : List (End × SessionStep)) (c : Connections) (p : PairState) (j k : ℕ)
+    (rest : List (End × SessionStep)) (c : Connections) (p : PairState) (j k : Rest)
     (inv : Inv first second ((B, record { call = Connected; session = new }) ∷ rest) c p j k)
     (f : Follows second (link_step BeginsAnew new.link ∷ []) c.b k
     (after_step (record { call = Connected; session = new }) c.b))
@@ -244,7 +244,7 @@ module _ (first second : Made) (new : SessionView)
   }
 
 pub step-b : (first second : Made) (call : SessionCall) (new : SessionView)
-    (rest : List (End × SessionStep)) (c : Connections) (p : PairState) (j k : ℕ)
+    (rest : List (End × SessionStep)) (c : Connections) (p : PairState) (j k : Rest)
     → Inv first second ((B, record { call = call; session = new }) ∷ rest) c p j k
     → (f : Follows second (link_steps_of call c.b.history.session new.link) c.b k
     (after_step (record { call = call; session = new }) c.b))

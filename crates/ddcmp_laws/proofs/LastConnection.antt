@@ -15,7 +15,7 @@ use Rattle.ddcmp_laws.specs.LastConnection.{EndOverStreams, StartsLast}
 use Rattle.ddcmp_laws.specs.Pipe.{Made, connects}
 use Rattle.ddcmp_laws.specs.SessionRuns.{calls_of}
 use Rattle.ddcmp_laws.specs.Sessions.{link_steps_of}
-use Rattle.ddcmp_laws.proofs.Anew.{Stays, both, follows, since}
+use Rattle.ddcmp_laws.proofs.Anew.{Rest, Stays, both, follows, since}
 use Rattle.ddcmp_laws.proofs.LastCalls.{leads-a, leads-b, pair-after}
 use Rattle.ddcmp_laws.proofs.LastSteps.{Inv}
 use Rattle.ddcmp_laws.proofs.LastAtA.{step-a}
@@ -34,7 +34,7 @@ connected-at B ((A, step) ∷ rest) = let e = connected-at B rest in omega (arit
 connected-at B ((B, step) ∷ rest) = let e = connected-at B rest in omega (arith, e)
 
 pub last-run : (first second : Made) (steps : List (End × SessionStep)) (c : Connections)
-    (p : PairState) (j k : ℕ) → first_refusal first.options.config ≡ None
+    (p : PairState) (j k : Rest) → first_refusal first.options.config ≡ None
     → first_refusal second.options.config ≡ None → Inv first second steps c p j k
     → AreCalls steps c → Stays first c.a → Stays second c.b → EndOverStreams steps c
     → StartsLast (calls_of A steps) c.a → StartsLast (calls_of B steps) c.b

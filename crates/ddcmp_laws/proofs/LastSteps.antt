@@ -24,7 +24,7 @@ use Rattle.ddcmp_proto.proofs.FeedLaws.{after_piece-none, notices_of_piece-none}
 use Rattle.ddcmp_io.specs.declared.carrier.End.{End}
 use Rattle.ddcmp_io.specs.declared.carrier.End.TheVariants.{A, B}
 use Rattle.ddcmp_pair.specs.Run.{EndState, PairState, after_arrival_here, notices_at, restarts_in}
-use Rattle.ddcmp_station.specs.Linking.{LinkView, after_frame}
+use Rattle.ddcmp_station.specs.Linking.{LinkView, after_frame, after_taking}
 use Rattle.ddcmp_laws.specs.Faithful.{written}
 use Rattle.ddcmp_laws.specs.Prefix.{Begins}
 use Rattle.ddcmp_laws.proofs.FaithfulLaws.{sound_made}
@@ -35,15 +35,15 @@ use Rattle.ddcmp_laws.proofs.StationRuns.{Kept}
 use Rattle.ddcmp_laws.proofs.TwoLinks.{AreSame}
 use Rattle.ddcmp_streams.specs.Messages.{after_input, after_last, entries_of_input, entry_of_last}
 use Rattle.ddcmp_streams.specs.Messages.{message_in}
-use Rattle.ddcmp_session.specs.Session.{SessionView, starts, takes_end}
+use Rattle.ddcmp_session.specs.Session.{SessionView, starts, taken_at_once, taken_when_written, takes_end}
 use Rattle.ddcmp_session.specs.Calls.{Closed, Connected, Delivered, Filled, InputEnded, LineEnded}
 use Rattle.ddcmp_session.specs.Calls.{LineTook, OutputTook, Received, SessionCall, SessionStep}
 use Rattle.ddcmp_session.specs.Calls.{TimePassed, TimedOut, InputRead, after_session_step}
 use Rattle.ddcmp_session.specs.Connections.{Connection, after_step}
 use Rattle.ddcmp_laws.specs.Connections.{Connections}
 use Rattle.ddcmp_laws.specs.Pipe.{Made, connects, connects_in_call}
-use Rattle.ddcmp_laws.specs.Sessions.{frames_put, link_steps_of, offers_of}
-use Rattle.ddcmp_laws.proofs.Anew.{both}
+use Rattle.ddcmp_laws.specs.Sessions.{frames_put, link_steps_of, offers_of, takes_put}
+use Rattle.ddcmp_laws.proofs.Anew.{Rest, both}
 use Rattle.ddcmp_laws.proofs.LastCalls.{AreCalmSteps, IsFinal}
 use Rattle.ddcmp_laws.proofs.Losing.{none-out}
 
@@ -228,7 +228,7 @@ calm-steps (Closed left over r) i s new = (tt, tt)
 -- A pair of two sessions, before these calls. An end that isn't connected again is well, and was
 -- started once; if neither is, the line is honest.
 pub record Inv (first second : Made) (steps : List (End × SessionStep)) (c : Connections)
-    (p : PairState) (j k : ℕ) : Type 0 where
+    (p : PairState) (j k : Rest) : Type 0 where
   pub same : AreSame p (both first second c j k)
   pub kept : Kept p
   pub limits_a : p.a.core.limits ≡ limits_of first.options.config

@@ -71,6 +71,7 @@ pub mod StationRuns
 pub mod LinkRestarts
 pub mod Acted
 pub mod Anew
+mod AnewPipes
 pub mod ConnectionLaws
 pub mod EachLine
 pub mod EndLaws

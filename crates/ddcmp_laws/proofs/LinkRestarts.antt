@@ -12,6 +12,7 @@ use Rattle.ddcmp_proto.specs.StationCalls.{StationCall}
 use Rattle.ddcmp_station.specs.Linking.{LinkView, started, anew, delivered}
 use Rattle.ddcmp_io.specs.declared.carrier.End.{End}
 use Rattle.ddcmp_io.specs.declared.carrier.End.TheVariants.{A, B}
+use Rattle.ddcmp_pair.specs.InOrder.{DeliversBothWays}
 use Rattle.ddcmp_pair.specs.Run.{EndState, PairState, new_pair, is_clean}
 use Rattle.ddcmp_laws.specs.Faithful.{bytes_of}
 use Rattle.ddcmp_laws.specs.PairCalls.{Call, Start, Halt, Send, Poll, Arrive, Expire, Take, Arm}
@@ -23,11 +24,12 @@ use Rattle.ddcmp_laws.specs.Links.{LinkStep, after_step, IsSameEnd, Links, new_l
 use Rattle.ddcmp_laws.specs.Links.{LinkReaches, received}
 use Rattle.ddcmp_laws.specs.LinkRestarts.{Does, all_calls, begun_with, history_by, history_at}
 use Rattle.ddcmp_laws.specs.LinkRestarts.{AreCallsOfLinks, at_end, calls_of_links, after_links}
+use Rattle.ddcmp_laws.specs.LinkRestarts.{IsKeptAnew}
 use Rattle.ddcmp_laws.specs.StationRuns.{after_station_call_here, after_station_call}
 use Rattle.ddcmp_laws.specs.StationRuns.{run_station_calls, station_call, has_heard_none}
 use Rattle.ddcmp_laws.proofs.LinkCalls.{step_same, new_same}
 use Rattle.ddcmp_laws.proofs.Acknowledged.{IsAcknowledged}
-use Rattle.ddcmp_laws.proofs.StationRuns.{station-calls-acknowledged, station-calls-in-order}
+use Rattle.ddcmp_laws.proofs.StationRuns.{Kept, kept-acknowledged, kept-calls, kept-in-order}
 use Rattle.ddcmp_laws.proofs.TwoLinks.{AreSame, NoneOut, acknowledged_all, none_out, reaches}
 
 -- ---- calls at one end
@@ -141,50 +143,36 @@ links-same ((B, step) ∷ rest) q p s o =
       a = subst (λ y. IsSameEnd y q.a) (sym k) s.a;
     }) o.1)
 
-module _ (first second : Config) (ms other_ms : ℕ) (line other_line : ReaderView)
-    (steps : List (End × LinkStep)) (f : first_refusal first ≡ None)
-    (g : first_refusal second ≡ None)
-    (o : AreCallsOfLinks steps (new_links first ms line second other_ms other_line))
-    (honest : (run_station_calls (calls_of_links steps
-    (new_links first ms line second other_ms other_line)) (new_pair first second)).honest ≡ true)
-    (clean : is_clean (run_station_calls (calls_of_links steps
-    (new_links first ms line second other_ms other_line)) (new_pair first second)) ≡ true) where
-  abbrev links : Links
-  links = new_links first ms line second other_ms other_line
-
+module _ (start : PairState) (links : Links) (same : AreSame start links) (kept : Kept start)
+    (steps : List (End × LinkStep)) (o : AreCallsOfLinks steps links)
+    (honest : (run_station_calls (calls_of_links steps links) start).honest ≡ true)
+    (clean : is_clean (run_station_calls (calls_of_links steps links) start) ≡ true) where
   abbrev calls : List (End × StationCall)
   calls = calls_of_links steps links
 
-  ends : AreSame (run_station_calls calls (new_pair first second)) (after_links steps links)
-  ends =
-      links-same steps links (new_pair first second)
-      (record { a = new_same first ms line; b = new_same second other_ms other_line }) o
+  ends : AreSame (run_station_calls calls start) (after_links steps links)
+  ends = links-same steps links start same o
+
+  both : DeliversBothWays (run_station_calls calls start)
+  both = (kept-in-order start kept calls).where_clean honest clean
 
   pub anew-to-b : LinkReaches (after_links steps links).a (after_links steps links).b
-  anew-to-b =
-      reaches _ _ _ _ ends.a ends.b
-      ((station-calls-in-order first second calls f g).where_clean honest clean).a_to_b
+  anew-to-b = reaches _ _ _ _ ends.a ends.b both.a_to_b
 
   pub anew-to-a : LinkReaches (after_links steps links).b (after_links steps links).a
-  anew-to-a =
-      reaches _ _ _ _ ends.b ends.a
-      ((station-calls-in-order first second calls f g).where_clean honest clean).b_to_a
+  anew-to-a = reaches _ _ _ _ ends.b ends.a both.b_to_a
 
-  told : IsAcknowledged (run_station_calls calls (new_pair first second)).a
-      × IsAcknowledged (run_station_calls calls (new_pair first second)).b
-  told = station-calls-acknowledged first second calls f g honest clean
+  told : IsAcknowledged (run_station_calls calls start).a
+      × IsAcknowledged (run_station_calls calls start).b
+  told = kept-acknowledged start kept calls honest clean
 
   pub anew-acknowledged-to-b : NoneOut (after_links steps links).a
       → received (after_links steps links).b ≡ (after_links steps links).a.accepted
-  anew-acknowledged-to-b =
-      acknowledged_all _ _ _ _ ends.a ends.b
-      ((station-calls-in-order first second calls f g).where_clean honest clean).a_to_b told.0
+  anew-acknowledged-to-b = acknowledged_all _ _ _ _ ends.a ends.b both.a_to_b told.0
 
   pub anew-acknowledged-to-a : NoneOut (after_links steps links).b
       → received (after_links steps links).a ≡ (after_links steps links).b.accepted
-  anew-acknowledged-to-a =
-      acknowledged_all _ _ _ _ ends.b ends.a
-      ((station-calls-in-order first second calls f g).where_clean honest clean).b_to_a told.1
+  anew-acknowledged-to-a = acknowledged_all _ _ _ _ ends.b ends.a both.b_to_a told.1
 
   pub anew-all-to-b : delivered (after_links steps links).a.link ≡ true
       → received (after_links steps links).b ≡ (after_links steps links).a.accepted
@@ -193,6 +181,21 @@ module _ (first second : Config) (ms other_ms : ℕ) (line other_line : ReaderVi
   pub anew-all-to-a : delivered (after_links steps links).b.link ≡ true
       → received (after_links steps links).a ≡ (after_links steps links).b.accepted
   anew-all-to-a e = anew-acknowledged-to-a (none_out (after_links steps links).b e)
+
+-- what holds of links that restart
+abbrev pub FromKept : (Links → Type 0) → Type 0
+FromKept Promise = (start : PairState) (links : Links) → AreSame start links → Kept start
+    → (steps : List (End × LinkStep)) → AreCallsOfLinks steps links
+    → (run_station_calls (calls_of_links steps links) start).honest ≡ true
+    → is_clean (run_station_calls (calls_of_links steps links) start) ≡ true
+    → Promise (after_links steps links)
+
+pub from_kept : (Promise : Links → Type 0) → FromKept Promise → IsKeptAnew Promise
+unfolding run_station_calls
+from_kept Promise promise first second ms other_ms line other_line steps f g o honest clean =
+    promise (new_pair first second) (new_links first ms line second other_ms other_line)
+    (record { a = new_same first ms line; b = new_same second other_ms other_line })
+    (kept-calls first second [] f g) steps o honest clean
 
 -- ---- a link that restarts on a line that the other end hasn't heard
 

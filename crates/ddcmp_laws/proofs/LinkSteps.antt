@@ -68,7 +68,7 @@ kept_by old new before after left inbox mail =
     record { left = left; inbox = inbox; mail = mail }
 
 -- by a call of the link alone
-kept_link : (old new : SessionView) (shown : List Shown) (d : LinkView)
+pub kept_link : (old new : SessionView) (shown : List Shown) (d : LinkView)
     → new ≡ record old { link = d } → Adds (inbox_in old.link) (inbox_in d)
     → IsKept old shown new (shown ++ [])
 kept_link old new shown d is adds =
@@ -77,7 +77,7 @@ kept_link old new shown d is adds =
     (sym (ap (λ (x : SessionView). x.link) is)) adds)
     (quiet_mail shown)
 
-same_inbox : (old new : LinkView) → inbox_in new ≡ inbox_in old
+pub same_inbox : (old new : LinkView) → inbox_in new ≡ inbox_in old
     → Adds (inbox_in old) (inbox_in new)
 same_inbox old new same = adds-same (inbox_in old) (inbox_in new) same
 

@@ -36,7 +36,6 @@ use Rattle.ddcmp_core.specs.Table.{next_by, on, on_by, outgoing, start_refusal}
 use Rattle.ddcmp_proto.specs.Bytes.{after_item, after_items, items_added, notices_of_piece}
 use Rattle.ddcmp_proto.specs.Bytes.{received_of}
 use Rattle.ddcmp_station.specs.Driving.{core_after_expire, core_after_take_arm, deadline_at, is_due}
-use Rattle.ddcmp_io.specs.Queue.{after_taken}
 use Rattle.ddcmp_station.specs.Linking.{LinkView, after_frame, after_frames, after_offered}
 use Rattle.ddcmp_station.specs.Linking.{after_sent, delivered, is_needed}
 use Rattle.ddcmp_station.specs.Linking.{after_polled, after_wake, polls, state_of, total_plus}
@@ -54,7 +53,10 @@ use Rattle.ddcmp_session.specs.Session.{after_input_end, after_last_line, after_
 use Rattle.ddcmp_session.specs.Session.{after_input_read, after_unfinished, awaits_peer, expires}
 use Rattle.ddcmp_session.specs.Session.{course_received, lost_among, lost_at_end, lost_by_end}
 use Rattle.ddcmp_session.specs.Session.{takes_end, wants_input, wants_line, after_connecting_in}
-use Rattle.ddcmp_session.specs.Session.{anew_in}
+use Rattle.ddcmp_session.specs.Session.{after_output, after_queued, anew_in, taken_at_once}
+use Rattle.ddcmp_session.specs.Session.{taken_when_written}
+use Rattle.ddcmp_session.proofs.TakenLaws.{takes-out}
+use Rattle.ddcmp_laws.proofs.Holding.{takes_state}
 use Rattle.ddcmp_session.specs.Session.{after_offered_in, has_gone, lost_by_start, lost_in}
 use Rattle.ddcmp_session.specs.Session.{starts, takes_in}
 use Rattle.ddcmp_session.specs.Course.{after_looked, after_notice, after_notices, lost_more}
@@ -575,7 +577,7 @@ outcome (Delivered true) text old new d =
     leaves old new
     (same-at (λ x. x.has_line) new to d.stays, same-at (λ x. x.course.lost) new to d.stays)
     (λ halted. (
-      same-at (λ x. (station_of x).state) new to d.stays ∙ takes-state n old.link ∙ halted,
+      same-at (λ x. (station_of x).state) new to d.stays ∙ takes_state n old.link ∙ halted,
       same-at (λ x. (station_of x).out) new to d.stays ∙ takes-out n old.link,
     ))
 outcome (Delivered false) text old new d =
@@ -589,7 +591,7 @@ outcome (OutputTook n) text old new d =
     leaves old new
     (same-at (λ x. x.has_line) new to d, same-at (λ x. x.course.lost) new to d)
     (λ halted. (
-      same-at (λ x. (station_of x).state) new to d ∙ takes-state k old.link ∙ halted,
+      same-at (λ x. (station_of x).state) new to d ∙ takes_state k old.link ∙ halted,
       same-at (λ x. (station_of x).out) new to d ∙ takes-out k old.link,
     ))
 outcome (Closed left over r) text old new d = inr (inl (record {

@@ -15,7 +15,9 @@ use Rattle.ddcmp_io.specs.declared.carrier.End.TheVariants.{A, B}
 use Rattle.ddcmp_core.proofs.Sound.{sound_chosen}
 use Rattle.ddcmp_core.specs.Table.{new_station}
 use Rattle.ddcmp_pair.proofs.Modes.{acts-hold}
+use Rattle.ddcmp_pair.proofs.Ordered.{fresh-new}
 use Rattle.ddcmp_pair.proofs.Ready.{Holding}
+use Rattle.ddcmp_laws.proofs.StationRuns.{IsAlone, Kept, alone-chosen, alone-fresh}
 use Rattle.ddcmp_pair.specs.Choices.{Chooses, after_choice_here, run_acts}
 use Rattle.ddcmp_proto.specs.Config.{limits_of}
 use Rattle.ddcmp_streams.specs.Options.{takes_at_once}
@@ -204,7 +206,7 @@ links_after first second steps =
 
 -- ---- two stations whose links were made
 
-chosen_sound : (made : Made) → first_refusal made.options.config ≡ None
+pub chosen_sound : (made : Made) → first_refusal made.options.config ≡ None
     → IsWell (after_choice_here (not (takes_at_once made.options)) (new_end made.options.config))
 chosen_sound made f = record {
   sound =
@@ -235,6 +237,24 @@ made_holding first second f g =
     acts-hold first.options.config second.options.config
     (Chooses A (not (takes_at_once first.options))
     ∷ Chooses B (not (takes_at_once second.options)) ∷ []) f g
+
+chosen_alone : (made : Made) → first_refusal made.options.config ≡ None
+    → IsAlone (after_choice_here (not (takes_at_once made.options)) (new_end made.options.config))
+chosen_alone made f =
+    alone-chosen (not (takes_at_once made.options)) (new_end made.options.config)
+    (alone-fresh (new_end made.options.config) (fresh-new made.options.config f))
+
+pub made_kept : (first second : Made) → first_refusal first.options.config ≡ None
+    → first_refusal second.options.config ≡ None → Kept (pair_made first second)
+made_kept first second f g = record {
+  pair = pair_made first second;
+  same = refl;
+  keeps = record {
+    holds = (made_holding first second f g).holds;
+    a = chosen_alone first f;
+    b = chosen_alone second g;
+  };
+}
 
 pub made_start : (first second : Made) → first_refusal first.options.config ≡ None
     → first_refusal second.options.config ≡ None

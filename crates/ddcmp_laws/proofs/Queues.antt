@@ -12,7 +12,7 @@ use Rattle.ddcmp_laws.proofs.Inboxes.{Adds}
 
 -- ---- lists
 
-pub take-none : (n : ℕ) → take n ([] : List (List ℕ)) ≡ []
+pub take-none : (n : ℕ) → take {A = List ℕ} n [] ≡ []
 take-none zero = refl
 take-none (suc n) = refl
 
@@ -58,7 +58,7 @@ but_last u mail = take (length mail - u) mail
 
 pub record Queues (u : ℕ) (inbox mail : List (List ℕ)) : Type 0 where
   pub few : u ≤ length inbox
-  pub mail : mail ≡ but_last u mail ++ take u inbox
+  pub is : mail ≡ but_last u mail ++ take u inbox
 
 pub but-none : (mail : List (List ℕ)) → but_last 0 mail ≡ mail
 but-none mail = take-all (length mail - 0) mail (omega arith)
@@ -66,14 +66,14 @@ but-none mail = take-all (length mail - 0) mail (omega arith)
 pub queues-none : (inbox mail : List (List ℕ)) → Queues 0 inbox mail
 queues-none inbox mail = record {
   few = omega arith;
-  mail = sym (but-none mail) ∙ sym (append-nil (but_last 0 mail));
+  is = sym (but-none mail) ∙ sym (append-nil (but_last 0 mail));
 }
 
 pub queues-grown : (u : ℕ) (inbox more mail : List (List ℕ)) → Queues u inbox mail
     → Queues u (inbox ++ more) mail
 queues-grown u inbox more mail q = record {
   few = let few = q.few in let n = length-append inbox more in omega (arith, few, n);
-  mail = q.mail ∙ ap (λ ms. but_last u mail ++ ms) (sym (take-first u inbox more q.few));
+  is = q.is ∙ ap (λ ms. but_last u mail ++ ms) (sym (take-first u inbox more q.few));
 }
 
 pub but-next : (u : ℕ) (mail : List (List ℕ)) (m : List ℕ)
@@ -93,8 +93,8 @@ queues-next u inbox mail m q is =
     let more : u + 1 ≡ suc u = omega arith in
     record {
       few = omega (arith, le);
-      mail =
-          ap (λ ms. ms ++ m ∷ []) q.mail
+      is =
+          ap (λ ms. ms ++ m ∷ []) q.is
           ∙ append_assoc (but_last u mail) (take u inbox) (m ∷ [])
           ∙ ap (λ ms. but_last u mail ++ ms) (sym next.1)
           ∙ ap (λ ms. ms ++ take (suc u) inbox) (sym (but-next u mail m))
@@ -150,7 +150,7 @@ taken_written true old new before after q mail left inbox =
           subst (λ n. Queues n (inbox_of new) (mail_in after)) (sym none)
           (queues-none (inbox_of new) (mail_in after));
       taken =
-          ap (λ n. but_last n (mail_in after)) none ∙ but-none (mail_in after) ∙ mail ∙ q.mail;
+          ap (λ n. but_last n (mail_in after)) none ∙ but-none (mail_in after) ∙ mail ∙ q.is;
     }
 taken_written false old new before after q mail left inbox =
     let same : new.unwritten ≡ old.unwritten = left ∙ omega arith in
@@ -177,7 +177,7 @@ taken_next true old new before after m q is mail left inbox =
           subst (λ n. Queues n (inbox_of new) (mail_in after)) (sym none)
           (queues-none (inbox_of new) (mail_in after));
       taken =
-          ap (λ n. but_last n (mail_in after)) none ∙ but-none (mail_in after) ∙ mail ∙ one.mail
+          ap (λ n. but_last n (mail_in after)) none ∙ but-none (mail_in after) ∙ mail ∙ one.is
           ∙ ap (λ ms. ms ++ take (old.unwritten + 1) (inbox_of old))
           (but-next old.unwritten (mail_in before) m);
     }
@@ -198,7 +198,7 @@ taken_next false old new before after m q is mail left inbox =
 pub all_of : (s : SessionView) (shown : List Shown) → IsQueued s shown
     → mail_in shown ++ drop s.unwritten (inbox_of s) ≡ taken_of s shown ++ inbox_of s
 all_of s shown q =
-    ap (λ ms. ms ++ drop s.unwritten (inbox_of s)) q.mail
+    ap (λ ms. ms ++ drop s.unwritten (inbox_of s)) q.is
     ∙ append_assoc (taken_of s shown) (take s.unwritten (inbox_of s))
     (drop s.unwritten (inbox_of s))
     ∙ ap (λ ms. taken_of s shown ++ ms) (take-append-drop s.unwritten (inbox_of s))

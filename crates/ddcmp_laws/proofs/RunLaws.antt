@@ -33,11 +33,15 @@ use Rattle.ddcmp_laws.specs.EachLine.{DeliversLine, IsReadOverLines, read_over_l
 use Rattle.ddcmp_laws.specs.Loops.{messages_given}
 use Rattle.ddcmp_laws.specs.SessionRuns.{DeliversAll, DeliversFirst, FilesBegin, FilesPass}
 use Rattle.ddcmp_laws.specs.SessionRuns.{Ran, RanTogether, WasEnded, calls_of, given_since, got_to}
-use Rattle.ddcmp_laws.proofs.Anew.{AcknowledgedAnew, Stays, acknowledged_anew_a}
-use Rattle.ddcmp_laws.proofs.Anew.{acknowledged_anew_b, closed_anew_a, closed_anew_b, left_out}
-use Rattle.ddcmp_laws.proofs.Anew.{pipes_anew_a, pipes_anew_b, stays_a, stays_all, stays_b}
+use Rattle.ddcmp_laws.proofs.Anew.{Stays}
+use Rattle.ddcmp_laws.proofs.AnewPipes.{AcknowledgedAnew, acknowledged_anew_a}
+use Rattle.ddcmp_laws.proofs.Anew.{left_out}
+use Rattle.ddcmp_laws.proofs.AnewPipes.{acknowledged_anew_b, closed_anew_a, closed_anew_b}
+use Rattle.ddcmp_laws.proofs.Anew.{stays_all}
+use Rattle.ddcmp_laws.proofs.AnewPipes.{pipes_anew_a, pipes_anew_b, stays_a, stays_b}
 use Rattle.ddcmp_laws.proofs.Anew.{follows}
-use Rattle.ddcmp_laws.proofs.Anew.{stays_first, writes_anew_a, writes_anew_b}
+use Rattle.ddcmp_laws.proofs.Anew.{stays_first}
+use Rattle.ddcmp_laws.proofs.AnewPipes.{writes_anew_a, writes_anew_b}
 use Rattle.ddcmp_laws.proofs.EachLine.{left-with-none, none-in-nothing, read-over-lines}
 use Rattle.ddcmp_laws.proofs.Given.{gave_more, messages_more, no_more, none_unread, unread}
 use Rattle.ddcmp_laws.proofs.Losing.{closed-loses}

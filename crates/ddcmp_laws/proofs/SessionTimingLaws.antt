@@ -2,7 +2,7 @@
 use Rattle.std.proofs.Common.{◌≡◌, ◌≤◌, ◌≢◌, Bool, true, false, ℕ, Option, Some, None, arith, refl}
 use Rattle.std.specs.Prelude.{if◌then◌else◌, ◌&&◌, ◌||◌, not, nat_le}
 use Rattle.ddcmp_station.specs.Linking.{delivered}
-use Rattle.ddcmp_session.specs.Session.{SessionView, is_delivered}
+use Rattle.ddcmp_session.specs.Session.{SessionView, is_awaited, is_delivered}
 use Rattle.ddcmp_session.specs.Timing.{end, had_input, is_done, is_given_up, is_listener, is_spent}
 use Rattle.ddcmp_session.specs.Timing.{lingers_until, run_ends_at, stays}
 use Rattle.ddcmp_session.specs.declared.session.EndReason.{EndReason}
@@ -46,10 +46,16 @@ first-holds : (a b : Bool) → (a && b) ≡ true → a ≡ true
 first-holds true b e = refl
 first-holds false b e = cc
 
-no-stay : (a b c : Bool) → b ≡ true → (a && not (b || c)) ≡ true → ⊥
-no-stay true true c e f = cc
-no-stay false b c e f = cc
-no-stay true false c e f = cc
+no-stay : (a w b c : Bool) → b ≡ true → (a && (w && not (b || c))) ≡ true → ⊥
+no-stay true true true c e f = cc
+no-stay true false b c e f = cc
+no-stay false w b c e f = cc
+no-stay true true false c e f = cc
+
+no-wait : (a w b : Bool) → w ≡ true → (a && (not w && b)) ≡ true → ⊥
+no-wait true true b e f = cc
+no-wait false w b e f = cc
+no-wait true false b e f = cc
 
 done-of : (s : SessionView) → end s ≡ Some Done
     → (is_done s ≡ true) × (nat_le (lingers_until s) s.course.moment ≡ true)
@@ -58,7 +64,7 @@ done-of s e =
     (s.has_line && is_given_up s) (is_done s) (nat_le (lingers_until s) s.course.moment) e
 
 spent-of : (s : SessionView) → end s ≡ Some Done → is_spent s ≡ true
-spent-of s e = first-holds (is_spent s) (not (stays s)) (done-of s e).0
+spent-of s e = first-holds (is_spent s) (not (is_awaited s) && not (stays s)) (done-of s e).0
 
 pub read-of : (s : SessionView) → end s ≡ Some Done → s.is_read ≡ true
 read-of s e = spent-read s.is_read (delivered s.link) s.course.has_run s.has_line (spent-of s e)
@@ -76,5 +82,8 @@ quiet-of s e = over (lingers_until s) s.course.moment (done-of s e).1
 
 pub stays-of : (s : SessionView) → s.options.stay ≡ true → end s ≢ Some Done
 stays-of s stay e =
-    no-stay (is_spent s) s.options.stay (is_listener s.kind && not (had_input s)) stay
-    (done-of s e).0
+    no-stay (is_spent s) (not (is_awaited s)) s.options.stay
+    (is_listener s.kind && not (had_input s)) stay (done-of s e).0
+
+pub waits-of : (s : SessionView) → is_awaited s ≡ true → end s ≢ Some Done
+waits-of s waits e = no-wait (is_spent s) (is_awaited s) (not (stays s)) waits (done-of s e).0

@@ -39,7 +39,7 @@ use Rattle.ddcmp_pair.specs.Run.{EndState, PairState, at, notices_at, with_stati
 use Rattle.ddcmp_pair.specs.Run.{acknowledged_in}
 use Rattle.ddcmp_pair.specs.Run.{after_arrival_here, after_event_here, after_event_at, after_event}
 use Rattle.ddcmp_pair.specs.Run.{clear_refusal, after_clear_by, run, new_end, new_pair, is_clean}
-use Rattle.ddcmp_pair.proofs.Linked.{Linked, linked-turned, linked-event, starts-grow}
+use Rattle.ddcmp_pair.proofs.Linked.{Linked, linked-choose, linked-turned, linked-event, starts-grow}
 use Rattle.ddcmp_pair.proofs.Ordered.{Holds, IsFresh, clean-means, fresh-linked, fresh-new}
 use Rattle.ddcmp_pair.proofs.Ordered.{fresh-cleared, holds-new, holds-at, none-at, delivers}
 use Rattle.ddcmp_pair.proofs.Ordered.{may-clear}
@@ -60,6 +60,7 @@ use Rattle.ddcmp_laws.specs.StationRuns.{after_station_steps}
 use Rattle.ddcmp_laws.specs.StationRuns.{calls_of_stations, AreSameStations, StationReaches}
 use Rattle.ddcmp_laws.proofs.Stations.{again}
 use Rattle.ddcmp_laws.proofs.Calling.{end_again, station_is, accepted, pair_is}
+use Rattle.ddcmp_pair.specs.Choices.{after_choice_here}
 use Rattle.ddcmp_laws.proofs.PairCallLaws.{one_same, order_same, links_same, notices_same}
 use Rattle.ddcmp_laws.proofs.PairCallLaws.{honest_same}
 use Rattle.ddcmp_laws.proofs.PairCallLaws.{clean_same}
@@ -83,7 +84,7 @@ heard-before max text bytes e =
     (sym (ap good_frames_in (items_added-all max text bytes)
     ∙ good_frames_in-append (items max text) (items_added max text bytes)) ∙ e)
 
-alone-fresh : (x : EndState) → IsFresh x → IsAlone x
+pub alone-fresh : (x : EndState) → IsFresh x → IsAlone x
 alone-fresh x f = λ heard once y g. fresh-linked x y f g
 
 alone-hears : (end : End) (bytes : List ℕ) (x : EndState) → IsAlone x
@@ -120,7 +121,7 @@ pub record Keeps (p : PairState) : Type 0 where
   pub a : IsAlone p.a
   pub b : IsAlone p.b
 
-keeps-new : (first second : Config) → first_refusal first ≡ None → first_refusal second ≡ None
+pub keeps-new : (first second : Config) → first_refusal first ≡ None → first_refusal second ≡ None
     → Keeps (new_pair first second)
 keeps-new first second f g = record {
   holds = holds-new first second f g;
@@ -509,12 +510,37 @@ kept-quiet end bytes p k c h =
     (sym (honest_same (after_call end (Arrive bytes) p)
     (run (events_of end (Arrive bytes)) k.pair) same) ∙ honest))
 
+pub kept-in-order : (start : PairState) → Kept start → (calls : List (End × StationCall))
+    → IsInOrder (run_station_calls calls start)
+kept-in-order start kept calls =
+    let k = kept-run calls start kept in order_same _ k.pair k.same (keeps-in-order k.pair k.keeps)
+
+pub kept-acknowledged : (start : PairState) → Kept start → (calls : List (End × StationCall))
+    → (run_station_calls calls start).honest ≡ true
+    → is_clean (run_station_calls calls start) ≡ true
+    → IsAcknowledged (run_station_calls calls start).a
+    × IsAcknowledged (run_station_calls calls start).b
+kept-acknowledged start kept calls h c =
+    let k = kept-run calls start kept in
+    let p = run_station_calls calls start in
+    let q = k.pair in
+    let l =
+    k.keeps.holds.linked (sym (honest_same p q k.same) ∙ h) (sym (clean_same p q k.same) ∙ c) in
+    let both : AllAcknowledged (noted q) =
+    (linked_all q.a q.b l, linked_all q.b q.a (linked-turned q.a q.b l)) in
+    subst AllAcknowledged (sym k.same) both
+
+-- where a user has chosen when messages are acknowledged
+pub alone-chosen : (by_user : Bool) (x : EndState) → IsAlone x
+    → IsAlone (after_choice_here by_user x)
+alone-chosen by_user x a = λ heard once y f. linked-choose by_user x y (a heard once y f)
+
 pub station-calls-in-order : (first second : Config) (calls : List (End × StationCall))
     → first_refusal first ≡ None → first_refusal second ≡ None
     → IsInOrder (run_station_calls calls (new_pair first second))
 station-calls-in-order first second calls f g =
-    let k = kept-calls first second calls f g in
-    order_same _ k.pair k.same (keeps-in-order k.pair k.keeps)
+    kept-in-order (new_pair first second)
+    (record { pair = new_pair first second; same = refl; keeps = keeps-new first second f g }) calls
 
 pub station-calls-linked : (first second : Config) (calls : List (End × StationCall))
     → first_refusal first ≡ None → first_refusal second ≡ None
@@ -530,22 +556,6 @@ station-calls-linked first second calls f g h c =
     links_same p k.pair k.same
     (keeps-linked k.pair k.keeps (sym (honest_same p k.pair k.same) ∙ h)
     (sym (clean_same p k.pair k.same) ∙ c))
-
-pub station-calls-acknowledged : (first second : Config) (calls : List (End × StationCall))
-    → first_refusal first ≡ None → first_refusal second ≡ None
-    → (run_station_calls calls (new_pair first second)).honest ≡ true
-    → is_clean (run_station_calls calls (new_pair first second)) ≡ true
-    → IsAcknowledged (run_station_calls calls (new_pair first second)).a
-    × IsAcknowledged (run_station_calls calls (new_pair first second)).b
-station-calls-acknowledged first second calls f g h c =
-    let k = kept-calls first second calls f g in
-    let p = run_station_calls calls (new_pair first second) in
-    let q = k.pair in
-    let l =
-    k.keeps.holds.linked (sym (honest_same p q k.same) ∙ h) (sym (clean_same p q k.same) ∙ c) in
-    let both : AllAcknowledged (noted q) =
-    (linked_all q.a q.b l, linked_all q.b q.a (linked-turned q.a q.b l)) in
-    subst AllAcknowledged (sym k.same) both
 
 pub station-calls-quiet : (first second : Config) (calls : List (End × StationCall)) (end : End)
     (bytes : List ℕ) → first_refusal first ≡ None → first_refusal second ≡ None

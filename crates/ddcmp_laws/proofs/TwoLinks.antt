@@ -366,8 +366,8 @@ stream_calls (step ∷ rest) q o =
 pub record IsFreshStart (p : PairState) (q : Links) : Type 0 where
   pub is : IsStart p q
   pub straight : IsStraight p
-  pub to_a : Begins q.a.used (written p.b)
-  pub to_b : Begins q.b.used (written p.a)
+  pub to_a : Begins p.a.arrived (written p.b)
+  pub to_b : Begins p.b.arrived (written p.a)
 
 abbrev pub StreamsFrom : (Links → Type 0) → Type 0
 StreamsFrom Promise = (start : PairState) (links : Links) → IsFreshStart start links

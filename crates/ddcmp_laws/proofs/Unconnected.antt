@@ -13,7 +13,6 @@ use Rattle.ddcmp_core.specs.declared.state.Timer.TheVariants as timer
 use Rattle.ddcmp_core.specs.Table.{StationState, after_expire_in, after_expire_with, after_halt}
 use Rattle.ddcmp_core.specs.Table.{is_on, next, next_by, next_frame}
 use Rattle.ddcmp_proto.specs.Bytes.{items_added, notices_of_piece}
-use Rattle.ddcmp_io.specs.Queue.{after_taken}
 use Rattle.ddcmp_station.specs.Driving.{core_after_expire, core_after_take_arm, deadline_at, is_due}
 use Rattle.ddcmp_station.specs.Linking.{LinkView, after_frame, after_frames, after_polled}
 use Rattle.ddcmp_station.specs.Linking.{after_sent, after_wake, frame_of_link, polls}
@@ -21,13 +20,15 @@ use Rattle.ddcmp_station.specs.Driving.{frame_bytes}
 use Rattle.ddcmp_station.specs.Linking.{with_state}
 use Rattle.ddcmp_streams.specs.Messages.{after_input, entries_of_input}
 use Rattle.ddcmp_session.specs.declared.course.Course.{Course}
+use Rattle.ddcmp_session.specs.Course.{after_awaited}
 use Rattle.ddcmp_session.specs.Course.{after_looked, after_moment, after_notices}
 use Rattle.ddcmp_session.specs.Course.{after_opening_failed, after_pauses, after_unheard}
 use Rattle.ddcmp_session.specs.Course.{after_writing}
 use Rattle.ddcmp_session.specs.Course.{expiry_counted}
 use Rattle.ddcmp_session.specs.Session.{SessionView, after_last_line, after_time, after_timeout}
 use Rattle.ddcmp_session.specs.Session.{after_told, after_tried, after_unfinished}
-use Rattle.ddcmp_session.specs.Session.{awaits_peer}
+use Rattle.ddcmp_session.specs.Session.{after_output, awaits_peer, is_awaited, taken_when_written}
+use Rattle.ddcmp_laws.proofs.Holding.{takes_none}
 use Rattle.ddcmp_session.specs.Session.{expires, form_of, is_sending, unless_read, wants_line}
 use Rattle.ddcmp_streams.specs.Options.{report_ms, speed_of}
 use Rattle.ddcmp_session.specs.Timing.{after_failure, after_line, is_listener}
@@ -158,7 +159,7 @@ timed-run now s =
     unheard x = by (wants_line x)
       where
         by : (b : Bool)
-            → (cond b x.course (after_unheard x.course)).has_run
+            → (cond b (after_awaited (is_awaited x) x.course) (after_unheard x.course)).has_run
             ≡ x.course.has_run
         by true = refl
         by false = refl
@@ -291,13 +292,9 @@ delivered-none : (text : List ℕ) (old new : SessionView) → HasDelivered old 
 delivered-none text old new d was =
     no
     (sym (ap (λ xs. first_message (drop old.unwritten xs)) was.inbox
-    ∙ ap first_message (drop-none old.unwritten))
+    ∙ ap first_message (drop-nil old.unwritten))
     ∙ d.wrote.1)
   where
-    drop-none : (n : ℕ) → drop n ([] : List (List ℕ)) ≡ []
-    drop-none zero = refl
-    drop-none (suc n) = refl
-
     no : {P : Type 0} {message : List ℕ} → None ≡ Some message → P
     no e = cc
 

@@ -2,7 +2,6 @@
 use Rattle.std.proofs.Common.{◌≡◌, ◌∙◌, ap, refl, ℕ, Bool, true, false, cond, List, [], ◌∷◌}
 use Rattle.std.proofs.Common.{◌++◌, map, option_to_list}
 use Rattle.ddcmp_frame.specs.Reader.{ReaderView}
-use Rattle.ddcmp_window.specs.Store.{first_message}
 use Rattle.ddcmp_input.specs.declared.entry.Entry.{Entry}
 use Rattle.ddcmp_input.specs.declared.entry.Entry.TheVariants.{Message, NotHexadecimal, TooLong}
 use Rattle.ddcmp_input.specs.declared.entry.Entry.TheVariants.{Empty}
@@ -22,7 +21,7 @@ use Rattle.ddcmp_streams.specs.Messages.{messages_begun, after_input, entries_of
 use Rattle.ddcmp_streams.specs.Messages.{entry_of_last, is_message_unfinished}
 use Rattle.ddcmp_session.specs.Session.{SessionView, form_of, takes_end, after_entries}
 use Rattle.ddcmp_session.specs.Session.{after_last_line, after_unfinished, after_input_end}
-use Rattle.ddcmp_session.specs.Session.{lost_by_end}
+use Rattle.ddcmp_session.specs.Session.{lost_by_end, next_mail}
 use Rattle.ddcmp_session.specs.Text.{reported_lost, mail_text, notices_text}
 use Rattle.ddcmp_session.specs.Calls.{SessionCall, InputRead, InputEnded, Connected, LineEnded}
 use Rattle.ddcmp_session.specs.Calls.{Received, Filled, LineTook, TimedOut, TimePassed, Delivered}

@@ -15,7 +15,7 @@ use Rattle.ddcmp_laws.specs.StationRuns.{run_station_calls}
 use Rattle.ddcmp_session.specs.Calls.{HasClosed, SessionStep}
 use Rattle.ddcmp_session.specs.Connections.{Connection, Does, after_step, first_connection_of}
 use Rattle.ddcmp_laws.specs.Sessions.{messages_of, mail_in, link_steps_of}
-use Rattle.ddcmp_laws.specs.Pipe.{Made, session_of, links_made, steps_at_end, undelivered}
+use Rattle.ddcmp_laws.specs.Pipe.{Made, session_of, links_made, pair_made, steps_at_end, undelivered}
 
 abbrev pub first_connection : Made → Connection
 first_connection made = first_connection_of (session_of made)

@@ -15,15 +15,14 @@ use Rattle.ddcmp_streams.specs.declared.messages.MessageForm.TheVariants as form
 use Rattle.ddcmp_io.specs.declared.line_kind.LineKind.{LineKind}
 use Rattle.ddcmp_streams.specs.Options.{takes_at_once}
 use Rattle.ddcmp_streams.specs.declared.options.Options.{Options}
-use Rattle.ddcmp_session.specs.Session.{SessionView, is_delivered, link_begun, lost_among}
-use Rattle.ddcmp_session.specs.Session.{lost_at_end}
+use Rattle.ddcmp_session.specs.Session.{SessionView, is_delivered, lost_among, lost_at_end}
 use Rattle.ddcmp_laws.specs.PairCalls.{run_calls}
-use Rattle.ddcmp_laws.specs.Links.{LinkHistory, LinkStep, Links, new_history, count_if}
+use Rattle.ddcmp_laws.specs.Links.{LinkHistory, LinkStep, Links, count_if}
 use Rattle.ddcmp_laws.specs.LinkLines.{calls_of_steps}
 use Rattle.ddcmp_session.specs.Calls.{HasClosed, SessionCall, Connected, SessionDoes}
 use Rattle.ddcmp_session.specs.Calls.{SessionHistory}
 use Rattle.ddcmp_session.specs.Calls.{new_session, SessionStep, after_session_step}
-use Rattle.ddcmp_laws.specs.Sessions.{IsPlain, messages_of, mail_in, link_steps_of}
+use Rattle.ddcmp_laws.specs.Sessions.{IsPlain, history_begun, messages_of, mail_in, link_steps_of}
 
 -- how a session of data messages is made
 pub record Made : Type 0 where
@@ -43,11 +42,8 @@ pub record Sessions : Type 0 where
 abbrev pub new_sessions : Made → Made → Sessions
 new_sessions first second = record { a = session_of first; b = session_of second }
 
--- a new link that acknowledges messages when they are taken, unless they are taken at once
 abbrev pub link_made_of : Made → LinkHistory
-link_made_of made = record (new_history made.options.config made.options.timer_ms made.line) {
-  link = link_begun made.options made.line;
-}
+link_made_of made = history_begun made.options made.line
 
 abbrev pub links_made : Made → Made → Links
 links_made first second = record { a = link_made_of first; b = link_made_of second }

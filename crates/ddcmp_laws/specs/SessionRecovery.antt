@@ -3,11 +3,12 @@ use Rattle.std.specs.Prelude.{ℕ, List}
 use Rattle.ddcmp_io.specs.declared.carrier.End.{End}
 use Rattle.ddcmp_session.specs.Calls.{SessionStep}
 use Rattle.ddcmp_laws.specs.Links.{LinkStep}
-use Rattle.ddcmp_laws.specs.LinkSweeps.{LinkLine, LinksLoseNothing, events_of_steps, line_after}
+use Rattle.ddcmp_pair.specs.Run.{run}
+use Rattle.ddcmp_laws.specs.LinkSweeps.{LinkLine, LinksLoseNothing, events_of_steps, line_of}
 use Rattle.ddcmp_laws.specs.Links.{after_steps}
 use Rattle.ddcmp_laws.specs.LossFree.{IsWhole, Line}
 use Rattle.ddcmp_laws.specs.Pipe.{Made, Sessions, after_sessions, link_steps_at, links_made}
-use Rattle.ddcmp_laws.specs.Pipe.{new_sessions}
+use Rattle.ddcmp_laws.specs.Pipe.{new_sessions, pair_made}
 use Rattle.ddcmp_laws.specs.Rests.{IsUnderWay}
 use Rattle.ddcmp_laws.specs.SessionSleep.{SessionIsDelivered}
 use Rattle.ddcmp_laws.specs.Sweeps.{IsRecoveryBySweeps}
@@ -17,11 +18,6 @@ abbrev pub links_before : Made → Made → List (End × SessionStep) → List (
 links_before first second before = link_steps_at before (new_sessions first second)
 
 -- the line between the stations of both after these steps, with these bytes in flight
-abbrev pub line_between : Made → Made → List (End × SessionStep) → List ℕ → List ℕ → Line
-line_between first second before to_a to_b =
-    line_after first.options.config second.options.config (links_before first second before)
-    (links_made first second) to_a to_b
-
 abbrev pub links_between : Made → Made → List (End × SessionStep) → List ℕ → List ℕ → LinkLine
 links_between first second before to_a to_b = record {
   links = after_steps (links_before first second before) (links_made first second);
@@ -29,8 +25,16 @@ links_between first second before to_a to_b = record {
   to_b = to_b;
 }
 
+abbrev pub line_between : Made → Made → List (End × SessionStep) → List ℕ → List ℕ → Line
+line_between first second before to_a to_b =
+    line_of
+    (run (events_of_steps (links_before first second before) (links_made first second))
+    (pair_made first second))
+    (links_between first second before to_a to_b)
+
 -- Two sessions are under way: the line was honest, neither was connected twice, neither is halted,
--- and what is in flight arrives whole. Anything may have been lost.
+-- and what is in flight arrives whole. Anything may have been lost. Both acknowledge messages early
+-- (`IsWhole`).
 pub record SessionsAreUnderWay (first second : Made) (before : List (End × SessionStep))
     (to_a to_b : List ℕ) : Type 0 where
   pub whole : IsWhole (line_between first second before to_a to_b)

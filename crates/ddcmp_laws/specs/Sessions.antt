@@ -4,16 +4,18 @@ use Rattle.std.specs.Prelude.{if◌then◌else◌, drop, length, map, nat_lt, op
 use Rattle.ddcmp_input.specs.declared.entry.Entry.{Entry}
 use Rattle.ddcmp_input.specs.declared.entry.Entry.TheVariants.{Message}
 use Rattle.ddcmp_input.specs.Told.{Told, Got, Refused}
+use Rattle.ddcmp_frame.specs.Reader.{ReaderView}
 use Rattle.ddcmp_station.specs.Linking.{LinkView, after_frame, after_taking}
 use Rattle.ddcmp_streams.specs.declared.messages.MessageForm.{MessageForm}
 use Rattle.ddcmp_streams.specs.declared.options.Options.{Options}
 use Rattle.ddcmp_streams.specs.declared.messages.MessageForm.TheVariants.{Digits, Binary, Events}
 use Rattle.ddcmp_streams.specs.Messages.{message_in, after_input, entries_of_input, after_last}
 use Rattle.ddcmp_streams.specs.Messages.{entry_of_last}
-use Rattle.ddcmp_session.specs.Session.{SessionView, takes_end, taken_at_once, taken_when_written}
+use Rattle.ddcmp_session.specs.Session.{SessionView, link_begun, taken_at_once, taken_when_written}
+use Rattle.ddcmp_session.specs.Session.{takes_end}
 use Rattle.ddcmp_session.specs.Text.{mail_text, notice_text, lost_text, dropped_by, lost_words, notice_words}
 use Rattle.ddcmp_laws.specs.Links.{LinkCall, BeginsAnew, Halts, Wakes, Offers, FillsOne}
-use Rattle.ddcmp_laws.specs.Links.{IsSent, Feeds, Takes, LinkStep, LinkHistory}
+use Rattle.ddcmp_laws.specs.Links.{IsSent, Feeds, Takes, LinkStep, LinkHistory, new_history}
 use Rattle.ddcmp_session.specs.Calls.{SessionCall, InputRead, InputEnded, Connected, LineEnded}
 use Rattle.ddcmp_session.specs.Calls.{Received, Filled, LineTook, TimedOut, TimePassed, Delivered}
 use Rattle.ddcmp_session.specs.Calls.{OutputTook}
@@ -88,6 +90,12 @@ AreShort [] = ⊤
 AreShort (one ∷ rest) = IsShort one × AreShort rest
 
 -- ---- its link
+
+-- the history of the link of a new session, which has chosen when it acknowledges messages
+abbrev pub history_begun : Options → ReaderView → LinkHistory
+history_begun options line = record (new_history options.config options.timer_ms line) {
+  link = link_begun options line;
+}
 
 abbrev pub link_step : LinkCall → LinkView → LinkStep
 link_step call new = record { call = call; link = new }

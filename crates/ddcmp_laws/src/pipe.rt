@@ -2,7 +2,7 @@
 ghost use Rattle.std.specs.Prelude.{◌≡◌, true};
 ghost use Rattle.ddcmp_frame.specs.Reader.{ReaderView};
 ghost use Rattle.ddcmp_io.specs.declared.carrier.End.TheVariants.{A, B};
-ghost use Rattle.ddcmp_pair.specs.Run.{is_clean, new_pair};
+ghost use Rattle.ddcmp_pair.specs.Run.{is_clean};
 ghost use Rattle.ddcmp_laws.specs.PairCalls.{run_calls};
 ghost use Rattle.ddcmp_laws.specs.LinkLines.{calls_of_steps};
 ghost use Rattle.ddcmp_laws.specs.LinkRestarts.{calls_of_links};
@@ -12,7 +12,7 @@ ghost use Rattle.ddcmp_laws.specs.Pipe.{IsKeptByPipes, Pipes, PipesAll, PipesByt
 ghost use Rattle.ddcmp_laws.specs.Pipe.{PipesClosed, PipesWhole};
 ghost use Rattle.ddcmp_laws.specs.Pipe.{IsKeptOverConnections, SessionsOverStreams};
 ghost use Rattle.ddcmp_laws.specs.Pipe.{AreConnectedOnce, link_steps_at, links_made};
-ghost use Rattle.ddcmp_laws.specs.Pipe.{after_sessions};
+ghost use Rattle.ddcmp_laws.specs.Pipe.{after_sessions, pair_made};
 ghost use Rattle.ddcmp_laws.specs.AnewStory.{HasComeThroughAnew, small_connections, steps_anew};
 ghost use Rattle.ddcmp_laws.specs.Connections.{AreCalls, after_steps, first_connection, link_steps};
 ghost use Rattle.ddcmp_laws.specs.Connections.{IsKeptAnew, PipesAllAnew, PipesAnew};
@@ -113,7 +113,7 @@ pub fn a_message_comes_through()
         (calls_of_steps
         (link_steps_at (pipe_steps line other_line) (small_sessions line other_line))
         (links_made (small_made line) (small_made other_line)))
-        (new_pair small small)).honest ≡ true }
+        (pair_made (small_made line) (small_made other_line))).honest ≡ true }
     ensures ends { (line other_line : ReaderView)
         → HasComeThrough
         (after_sessions (pipe_steps line other_line) (small_sessions line other_line)) }
@@ -130,13 +130,13 @@ pub fn a_message_comes_through_anew()
         (calls_of_links
         (link_steps (steps_anew line other_line) (small_connections line other_line))
         (links_made (small_made line) (small_made other_line)))
-        (new_pair small small)).honest ≡ true }
+        (pair_made (small_made line) (small_made other_line))).honest ≡ true }
     ensures clean { (line other_line : ReaderView)
         → is_clean (run_station_calls
         (calls_of_links
         (link_steps (steps_anew line other_line) (small_connections line other_line))
         (links_made (small_made line) (small_made other_line)))
-        (new_pair small small)) ≡ true }
+        (pair_made (small_made line) (small_made other_line))) ≡ true }
     ensures ready_a { (line other_line : ReaderView)
         → StartsLast (calls_of A (steps_anew line other_line))
         (first_connection (small_made line)) }

@@ -44,8 +44,9 @@ pub fn links_recover()
         → LinksAreDone (after_steps steps l.links)) }
 {}
 
-/// Two sessions recover in the same way, if neither was connected twice: both run, and each has
-/// received all messages that were read from the other's input, also meanwhile.
+/// Two sessions that acknowledge messages early recover in the same way, if neither was connected
+/// twice: both run, and each has received all messages that were read from the other's input, also
+/// meanwhile.
 pub fn sessions_recover()
     ensures { (first second : Made) (before steps : List (EndValue × SessionStep))
         (to_a to_b : List ℕ) → first_refusal first.options.config ≡ None

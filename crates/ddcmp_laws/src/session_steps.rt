@@ -3,13 +3,12 @@
 ghost use Rattle.std.specs.Prelude.{◌≡◌, ◌<◌, ◌≤◌, ◌++◌, ℕ, true, List, [], min, length, take};
 ghost use Rattle.std.specs.Prelude.{is_ok, is_some, IfOk, None};
 ghost use Rattle.ddcmp_frame.specs.Reader.{StandsFor};
-ghost use Rattle.ddcmp_window.specs.Store.{first_message};
 ghost use Rattle.ddcmp_core.specs.Table.{after_halt, answer_to_start};
 ghost use Rattle.ddcmp_proto.specs.Config.{first_refusal};
 ghost use Rattle.ddcmp_station.specs.Linking.{countable};
 ghost use Rattle.ddcmp_streams.specs.Messages.{entries_of_input};
 ghost use Rattle.ddcmp_session.specs.Session.{wants_input, wants_line, room_for_mail};
-ghost use Rattle.ddcmp_session.specs.Session.{reports_loss};
+ghost use Rattle.ddcmp_session.specs.Session.{next_mail, reports_loss};
 ghost use Rattle.ddcmp_session.specs.Calls.{SessionDoes, InputRead, InputEnded};
 ghost use Rattle.ddcmp_session.specs.Calls.{Connected, LineEnded};
 ghost use Rattle.ddcmp_session.specs.Calls.{Received, Filled, LineTook, TimedOut, Delivered};
@@ -118,7 +117,7 @@ pub fn delivers(session: &mut Session) -> bool
     ensures done { (text : List ℕ)
         → SessionDoes (Delivered result) text session.old.state session.new.state }
     ensures when { room_for_mail session.old.state ≤ session.old.state.output.room → result
-        ≡ is_some (first_message session.old.state.link.station.core.station.inbox) }
+        ≡ is_some (next_mail session.old.state) }
     ensures line { session.new.state.link.station.line ≡ session.old.state.link.station.line }
 {
     session.deliver()

@@ -6,7 +6,7 @@ ghost use Rattle.hex.specs.Hex.{IsBytes};
 ghost use Rattle.ddcmp_input.specs.InLines.{Spells};
 ghost use Rattle.ddcmp_streams.specs.declared.messages.MessageForm.TheVariants.{Digits};
 ghost use Rattle.ddcmp_session.specs.declared.session.EndReason.TheVariants.{Done};
-ghost use Rattle.ddcmp_session.specs.Session.{SessionView, is_delivered};
+ghost use Rattle.ddcmp_session.specs.Session.{SessionView, is_awaited, is_delivered};
 ghost use Rattle.ddcmp_session.specs.Text.{mail_text};
 ghost use Rattle.ddcmp_session.specs.Timing.{after_failure, after_line, end, lingers_until};
 ghost use Rattle.ddcmp_session.specs.Timing.{reopens};
@@ -14,13 +14,14 @@ ghost use Rattle.ddcmp_session.specs.Timing.{wakes_without_line_at};
 
 /// A session is done only once its input was read to its end and all of it is delivered, or was
 /// lost with a line that has ended; its line was quiet for as long as it is to linger; and never if
-/// it is to stay.
+/// it is to stay, or while received messages aren't acknowledged since they aren't written yet.
 pub fn done_once_all_is_read()
     ensures read { (s : SessionView) → end s ≡ Some Done → s.is_read ≡ true }
     ensures delivered { (s : SessionView) → end s ≡ Some Done → s.has_line ≡ true
         → is_delivered s ≡ true }
     ensures quiet { (s : SessionView) → end s ≡ Some Done → lingers_until s ≤ s.course.moment }
     ensures stays { (s : SessionView) → s.options.stay ≡ true → end s ≢ Some Done }
+    ensures awaited { (s : SessionView) → is_awaited s ≡ true → end s ≢ Some Done }
 {}
 
 /// With `--again` a line that has ended, or couldn't be opened, is opened again, 30 seconds later

@@ -5,30 +5,29 @@ ghost use Rattle.ddcmp_input.specs.InBinary.{in_binary};
 ghost use Rattle.ddcmp_io.specs.declared.line_kind.LineKind.{LineKind as LineKindValue};
 ghost use Rattle.ddcmp_streams.specs.declared.options.Options.{Options as OptionsValue};
 ghost use Rattle.ddcmp_streams.specs.declared.messages.MessageForm.TheVariants.{Binary, Events};
-ghost use Rattle.ddcmp_laws.specs.Links.{IsHistory, after_history, new_history, offered_in};
+ghost use Rattle.ddcmp_laws.specs.Links.{IsHistory, after_history, offered_in};
 ghost use Rattle.ddcmp_session.specs.Calls.{SessionStep, new_session, IsSessionHistory};
 ghost use Rattle.ddcmp_session.specs.Calls.{after_session_steps, Shown};
 ghost use Rattle.ddcmp_laws.specs.Sessions.{IsPlain, link_steps_in, IsOfLink, messages_of, mail_in};
-ghost use Rattle.ddcmp_laws.specs.Sessions.{AreShort, mail_among, texts_of};
+ghost use Rattle.ddcmp_laws.specs.Sessions.{AreShort, history_begun, mail_among, texts_of};
 
 /// Each list of calls of a new session of data messages without events makes a list of calls of its
-/// link. These
-/// use and write the same bytes of the line; they offer the messages of the input, in their order,
-/// each once, and all of them are accepted; and the messages that they take are those that the
-/// session delivered.
+/// link. These use and write the same bytes of the line; they offer the messages of the input, in
+/// their order, each once, and all of them are accepted; and the messages that the session delivered
+/// are those that they take, and then the first of the inbox, whose text isn't written yet.
 pub fn session_calls_are_link_calls()
     ensures calls { (options : OptionsValue) (kind : LineKindValue) (line : ReaderView)
         (steps : List SessionStep) → IsPlain options
         → IsSessionHistory steps (new_session options kind line)
         → IsHistory (link_steps_in steps (new_session options kind line))
-        (new_history options.config options.timer_ms line) }
+        (history_begun options line) }
     ensures same { (options : OptionsValue) (kind : LineKindValue) (line : ReaderView)
         (steps : List SessionStep) → IsPlain options
         → IsSessionHistory steps (new_session options kind line)
         → IsOfLink options.form options.config.max
         (after_session_steps steps (new_session options kind line))
         (after_history (link_steps_in steps (new_session options kind line))
-        (new_history options.config options.timer_ms line)) }
+        (history_begun options line)) }
     ensures offers { (options : OptionsValue) (kind : LineKindValue) (line : ReaderView)
         (steps : List SessionStep) → IsPlain options
         → IsSessionHistory steps (new_session options kind line)

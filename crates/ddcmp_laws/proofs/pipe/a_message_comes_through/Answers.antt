@@ -15,7 +15,8 @@ use Rattle.ddcmp_laws.specs.Links.{after_steps, link_starts}
 use Rattle.ddcmp_laws.specs.LinkLines.{calls_of_steps}
 use Rattle.ddcmp_input.specs.Lengths.{after_bytes, entries_of_bytes}
 use Rattle.ddcmp_session.specs.Text.{notices_text}
-use Rattle.ddcmp_laws.specs.Sessions.{texts_of, frames_put}
+use Rattle.ddcmp_laws.specs.Sessions.{texts_of, frames_put, takes_put}
+use Rattle.ddcmp_session.specs.Session.{after_takes}
 use Rattle.ddcmp_laws.specs.Pipe.{after_sessions, link_steps_at, connects}
 use Rattle.ddcmp_laws.specs.PipeStory.{steps_by}
 use Rattle.ddcmp_laws.specs.Story.{strt_bytes, stack_bytes, first_bytes, ack_1_bytes}
@@ -32,7 +33,7 @@ unfolding low_bits bits add divisor_rest remainder number check_of xor six_bytes
     parsed read_for read_rows is_data_right row read items good_frames_in on notice_of next
     counters_on counters_after_next after_items notices_of_items first_index place_from
     after_steps link_starts calls_of_steps run_calls after_frames after_bytes entries_of_bytes
-    notices_text texts_of frames_put after_sessions link_steps_at steps_by
+    notices_text texts_of frames_put takes_put after_takes after_sessions link_steps_at steps_by
 returns-clause-honest c = λ line other_line. refl
 
 pub returns-clause-ends : goal.returns-clause-ends
@@ -40,7 +41,7 @@ unfolding low_bits bits add divisor_rest remainder number check_of xor six_bytes
     parsed read_for read_rows is_data_right row read items good_frames_in on notice_of next
     counters_on counters_after_next after_items notices_of_items first_index place_from
     after_steps link_starts calls_of_steps run_calls after_frames after_bytes entries_of_bytes
-    notices_text texts_of frames_put after_sessions link_steps_at steps_by
+    notices_text texts_of frames_put takes_put after_takes after_sessions link_steps_at steps_by
 returns-clause-ends c = λ line other_line. record {
   input = refl;
   written = refl;
@@ -51,132 +52,5 @@ pub returns-clause-streams : goal.returns-clause-streams
 unfolding low_bits bits add divisor_rest remainder number check_of xor six_bytes wire is_check_right
     parsed read_for read_rows is_data_right row read items good_frames_in on notice_of next
     counters_on counters_after_next after_items notices_of_items after_frames after_bytes
-    entries_of_bytes notices_text texts_of steps_by
-returns-clause-streams c = λ line other_line. (
-  (refl, refl, refl),
-  record { to_a = ([], refl); to_b = ([], refl) },
-  (
-    (refl, refl, refl),
-    record { to_a = ([], refl); to_b = ([], refl) },
-    (
-      (refl, inl (omega arith)),
-      record { to_a = ([], refl); to_b = ([], refl) },
-      (
-        refl,
-        record { to_a = ([], refl); to_b = (strt_bytes, refl) },
-        (
-          record {
-            core = refl;
-            syn = refl;
-            link = refl;
-            wanted = unless refl;
-            wrote = record { waiting = refl; room = omega arith; size = refl; is_cut = refl };
-            course = refl;
-            stays = refl;
-          },
-          record { to_a = ([], refl); to_b = ([], refl) },
-          (
-            (refl, inl (omega arith)),
-            record { to_a = ([], refl); to_b = ([], refl) },
-            (
-              refl,
-              record { to_a = (stack_bytes, refl); to_b = ([], refl) },
-              (
-                record {
-                  core = refl;
-                  syn = refl;
-                  link = refl;
-                  wanted = unless refl;
-                  wrote = record { waiting = refl; room = omega arith; size = refl; is_cut = refl };
-                  course = refl;
-                  stays = refl;
-                },
-                record { to_a = ([], refl); to_b = ([], refl) },
-                (
-                  record { state = refl; wanted = λ e. absurd (cc e); part = completes },
-                  record { to_a = ([], refl); to_b = ([], refl) },
-                  (
-                    (refl, inl (omega arith)),
-                    record { to_a = ([], refl); to_b = ([], refl) },
-                    (
-                      refl,
-                      record { to_a = ([], refl); to_b = (first_bytes, refl) },
-                      (
-                        record {
-                          core = refl;
-                          syn = refl;
-                          link = refl;
-                          wanted = unless refl;
-                          wrote = record {
-                            waiting = refl;
-                            room = omega arith;
-                            size = refl;
-                            is_cut = refl;
-                          };
-                          course = refl;
-                          stays = refl;
-                        },
-                        record { to_a = ([], refl); to_b = ([], refl) },
-                        (
-                          (refl, inl (omega arith)),
-                          record { to_a = ([], refl); to_b = ([], refl) },
-                          (
-                            refl,
-                            record { to_a = (ack_1_bytes, refl); to_b = ([], refl) },
-                            (
-                              record {
-                                core = refl;
-                                syn = refl;
-                                link = refl;
-                                wanted = unless refl;
-                                wrote = record {
-                                  waiting = refl;
-                                  room = omega arith;
-                                  size = refl;
-                                  is_cut = refl;
-                                };
-                                course = refl;
-                                stays = refl;
-                              },
-                              record { to_a = ([], refl); to_b = ([], refl) },
-                              (
-                                refl,
-                                record { to_a = ([], refl); to_b = ([], refl) },
-                                (
-                                  record {
-                                    link = refl;
-                                    wrote = (
-                                      abc,
-                                      refl,
-                                      record {
-                                        waiting = refl;
-                                        room = omega arith;
-                                        size = refl;
-                                        is_cut = refl;
-                                      },
-                                    );
-                                    stays = refl;
-                                  },
-                                  record { to_a = ([], refl); to_b = ([], refl) },
-                                  (
-                                    refl,
-                                    record { to_a = ([], refl); to_b = ([], refl) },
-                                    tt,
-                                  ),
-                                ),
-                              ),
-                            ),
-                          ),
-                        ),
-                      ),
-                    ),
-                  ),
-                ),
-              ),
-            ),
-          ),
-        ),
-      ),
-    ),
-  ),
-)
+    entries_of_bytes notices_text texts_of after_takes steps_by
+returns-clause-streams c = λ line other_line. ((refl, refl, refl), record { to_a = ([], refl); to_b = ([], refl) }, ((refl, refl, refl), record { to_a = ([], refl); to_b = ([], refl) }, ((refl, inl (omega arith)), record { to_a = ([], refl); to_b = ([], refl) }, (refl, record { to_a = ([], refl); to_b = (strt_bytes, refl) }, (record { core = refl; syn = refl; link = refl; wanted = unless refl; wrote = record { waiting = refl; room = omega arith; size = refl; is_cut = refl }; course = refl; stays = refl }, record { to_a = ([], refl); to_b = ([], refl) }, ((refl, inl (omega arith)), record { to_a = ([], refl); to_b = ([], refl) }, (refl, record { to_a = (stack_bytes, refl); to_b = ([], refl) }, (record { core = refl; syn = refl; link = refl; wanted = unless refl; wrote = record { waiting = refl; room = omega arith; size = refl; is_cut = refl }; course = refl; stays = refl }, record { to_a = ([], refl); to_b = ([], refl) }, (record { state = refl; wanted = λ e. absurd (cc e); part = completes }, record { to_a = ([], refl); to_b = ([], refl) }, ((refl, inl (omega arith)), record { to_a = ([], refl); to_b = ([], refl) }, (refl, record { to_a = ([], refl); to_b = (first_bytes, refl) }, (record { core = refl; syn = refl; link = refl; wanted = unless refl; wrote = record { waiting = refl; room = omega arith; size = refl; is_cut = refl }; course = refl; stays = refl }, record { to_a = ([], refl); to_b = ([], refl) }, (record { wrote = (abc, refl, record { waiting = refl; room = omega arith; size = refl; is_cut = refl }); stays = refl }, record { to_a = ([], refl); to_b = ([], refl) }, (refl, record { to_a = ([], refl); to_b = ([], refl) }, ((refl, inl (omega arith)), record { to_a = ([], refl); to_b = ([], refl) }, (refl, record { to_a = (ack_1_bytes, refl); to_b = ([], refl) }, (record { core = refl; syn = refl; link = refl; wanted = unless refl; wrote = record { waiting = refl; room = omega arith; size = refl; is_cut = refl }; course = refl; stays = refl }, record { to_a = ([], refl); to_b = ([], refl) }, (refl, record { to_a = ([], refl); to_b = ([], refl) }, tt))))))))))))))))))

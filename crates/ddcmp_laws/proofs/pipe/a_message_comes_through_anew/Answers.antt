@@ -15,7 +15,8 @@ use Rattle.ddcmp_laws.specs.StationRuns.{run_station_calls}
 use Rattle.ddcmp_input.specs.InBinary.{told_in}
 use Rattle.ddcmp_input.specs.Lengths.{after_bytes, entries_of_bytes}
 use Rattle.ddcmp_session.specs.Text.{notices_text}
-use Rattle.ddcmp_laws.specs.Sessions.{texts_of, frames_put, mail_in, got_in}
+use Rattle.ddcmp_laws.specs.Sessions.{texts_of, frames_put, takes_put, mail_in, got_in}
+use Rattle.ddcmp_session.specs.Session.{after_takes}
 use Rattle.ddcmp_laws.specs.Connections.{after_steps, link_steps}
 use Rattle.ddcmp_laws.specs.AnewStory.{steps_anew_by}
 use Rattle.ddcmp_laws.specs.Story.{ack_1_bytes, first_bytes, stack_bytes, strt_bytes}
@@ -31,7 +32,7 @@ unfolding low_bits bits add divisor_rest remainder number check_of xor six_bytes
     parsed read_for read_rows is_data_right row read items good_frames_in on notice_of next
     counters_on counters_after_next after_items notices_of_items first_index place_from
     run_station_calls calls_of_links link_steps after_frames after_bytes entries_of_bytes
-    notices_text texts_of frames_put steps_anew_by
+    notices_text texts_of frames_put takes_put after_takes steps_anew_by
 returns-clause-honest c = λ line other_line. refl
 
 pub returns-clause-clean : goal.returns-clause-clean
@@ -39,171 +40,22 @@ unfolding low_bits bits add divisor_rest remainder number check_of xor six_bytes
     parsed read_for read_rows is_data_right row read items good_frames_in on notice_of next
     counters_on counters_after_next after_items notices_of_items first_index place_from
     run_station_calls calls_of_links link_steps after_frames after_bytes entries_of_bytes
-    notices_text texts_of frames_put steps_anew_by
+    notices_text texts_of frames_put takes_put after_takes steps_anew_by
 returns-clause-clean c = λ line other_line. refl
 
 pub returns-clause-ends : goal.returns-clause-ends
 unfolding low_bits bits add divisor_rest remainder number check_of xor six_bytes wire is_check_right
     parsed read_for read_rows is_data_right row read items good_frames_in on notice_of next
     counters_on counters_after_next after_items notices_of_items after_frames after_bytes
-    entries_of_bytes notices_text texts_of mail_in got_in told_in after_steps steps_anew_by
+    entries_of_bytes notices_text texts_of after_takes mail_in got_in told_in after_steps steps_anew_by
 returns-clause-ends c = λ line other_line. record { read = refl; delivered = refl; over = refl }
 
 pub returns-clause-calls : goal.returns-clause-calls
 unfolding low_bits bits add divisor_rest remainder number check_of xor six_bytes wire is_check_right
     parsed read_for read_rows is_data_right row read items good_frames_in on notice_of next
     counters_on counters_after_next after_items notices_of_items after_frames after_bytes
-    entries_of_bytes notices_text texts_of steps_anew_by
-returns-clause-calls c = λ line other_line. (
-  refl,
-  (
-    refl,
-    (
-      (refl, inl (omega arith)),
-      (
-        refl,
-        (
-          record {
-            link = refl;
-            wrote = record { waiting = refl; room = omega arith; size = refl; is_cut = refl };
-            stays = refl;
-          },
-          (
-            record {
-              link = refl;
-              wrote = record { waiting = refl; room = omega arith; size = refl; is_cut = refl };
-              stays = refl;
-            },
-            (
-              refl,
-              (
-                refl,
-                (
-                  (refl, inl (omega arith)),
-                  (
-                    refl,
-                    (
-                      record {
-                        core = refl;
-                        syn = refl;
-                        link = refl;
-                        wanted = unless refl;
-                        wrote = record {
-                          waiting = refl;
-                          room = omega arith;
-                          size = refl;
-                          is_cut = refl;
-                        };
-                        course = refl;
-                        stays = refl;
-                      },
-                      (
-                        (refl, inl (omega arith)),
-                        (
-                          refl,
-                          (
-                            record {
-                              core = refl;
-                              syn = refl;
-                              link = refl;
-                              wanted = unless refl;
-                              wrote = record {
-                                waiting = refl;
-                                room = omega arith;
-                                size = refl;
-                                is_cut = refl;
-                              };
-                              course = refl;
-                              stays = refl;
-                            },
-                            (
-                              record {
-                                state = refl;
-                                wanted = λ e. absurd (cc e);
-                                part = completes;
-                              },
-                              (
-                                (refl, inl (omega arith)),
-                                (
-                                  refl,
-                                  (
-                                    record {
-                                      core = refl;
-                                      syn = refl;
-                                      link = refl;
-                                      wanted = unless refl;
-                                      wrote = record {
-                                        waiting = refl;
-                                        room = omega arith;
-                                        size = refl;
-                                        is_cut = refl;
-                                      };
-                                      course = refl;
-                                      stays = refl;
-                                    },
-                                    (
-                                      (refl, inl (omega arith)),
-                                      (
-                                        refl,
-                                        (
-                                          record {
-                                            core = refl;
-                                            syn = refl;
-                                            link = refl;
-                                            wanted = unless refl;
-                                            wrote = record {
-                                              waiting = refl;
-                                              room = omega arith;
-                                              size = refl;
-                                              is_cut = refl;
-                                            };
-                                            course = refl;
-                                            stays = refl;
-                                          },
-                                          (
-                                            refl,
-                                            (
-                                              record {
-                                                link = refl;
-                                                wrote = (
-                                                  abc,
-                                                  refl,
-                                                  record {
-                                                    waiting = refl;
-                                                    room = omega arith;
-                                                    size = refl;
-                                                    is_cut = refl;
-                                                  },
-                                                );
-                                                stays = refl;
-                                              },
-                                              (
-                                                refl,
-                                                tt,
-                                              ),
-                                            ),
-                                          ),
-                                        ),
-                                      ),
-                                    ),
-                                  ),
-                                ),
-                              ),
-                            ),
-                          ),
-                        ),
-                      ),
-                    ),
-                  ),
-                ),
-              ),
-            ),
-          ),
-        ),
-      ),
-    ),
-  ),
-)
+    entries_of_bytes notices_text texts_of after_takes steps_anew_by
+returns-clause-calls c = λ line other_line. (refl, (refl, ((refl, inl (omega arith)), (refl, (record { link = refl; wrote = record { waiting = refl; room = omega arith; size = refl; is_cut = refl }; stays = refl }, (record { link = refl; wrote = record { waiting = refl; room = omega arith; size = refl; is_cut = refl }; stays = refl }, (refl, (refl, ((refl, inl (omega arith)), (refl, (record { core = refl; syn = refl; link = refl; wanted = unless refl; wrote = record { waiting = refl; room = omega arith; size = refl; is_cut = refl }; course = refl; stays = refl }, ((refl, inl (omega arith)), (refl, (record { core = refl; syn = refl; link = refl; wanted = unless refl; wrote = record { waiting = refl; room = omega arith; size = refl; is_cut = refl }; course = refl; stays = refl }, (record { state = refl; wanted = λ e. absurd (cc e); part = completes }, ((refl, inl (omega arith)), (refl, (record { core = refl; syn = refl; link = refl; wanted = unless refl; wrote = record { waiting = refl; room = omega arith; size = refl; is_cut = refl }; course = refl; stays = refl }, (record { wrote = (abc, refl, record { waiting = refl; room = omega arith; size = refl; is_cut = refl }); stays = refl }, (refl, ((refl, inl (omega arith)), (refl, (record { core = refl; syn = refl; link = refl; wanted = unless refl; wrote = record { waiting = refl; room = omega arith; size = refl; is_cut = refl }; course = refl; stays = refl }, (refl, tt))))))))))))))))))))))))
 
 never : {P : Type 0} → ◌≡◌ {A = ℕ} 1 0 → P
 never e = cc
@@ -212,7 +64,7 @@ pub returns-clause-ready_a : goal.returns-clause-ready_a
 unfolding low_bits bits add divisor_rest remainder number check_of xor six_bytes wire is_check_right
     parsed read_for read_rows is_data_right row read items good_frames_in on notice_of next
     counters_on counters_after_next after_items notices_of_items after_frames after_bytes
-    entries_of_bytes notices_text texts_of steps_anew_by calls_of connections_in connects
+    entries_of_bytes notices_text texts_of after_takes steps_anew_by calls_of connections_in connects
 returns-clause-ready_a c = λ line other_line. (
   λ e. refl,
   (
@@ -246,7 +98,7 @@ pub returns-clause-ready_b : goal.returns-clause-ready_b
 unfolding low_bits bits add divisor_rest remainder number check_of xor six_bytes wire is_check_right
     parsed read_for read_rows is_data_right row read items good_frames_in on notice_of next
     counters_on counters_after_next after_items notices_of_items after_frames after_bytes
-    entries_of_bytes notices_text texts_of steps_anew_by calls_of connections_in connects
+    entries_of_bytes notices_text texts_of after_takes steps_anew_by calls_of connections_in connects
 returns-clause-ready_b c = λ line other_line. (
   λ e. refl,
   (
@@ -280,86 +132,5 @@ pub returns-clause-streams : goal.returns-clause-streams
 unfolding low_bits bits add divisor_rest remainder number check_of xor six_bytes wire is_check_right
     parsed read_for read_rows is_data_right row read items good_frames_in on notice_of next
     counters_on counters_after_next after_items notices_of_items after_frames after_bytes
-    entries_of_bytes notices_text texts_of steps_anew_by calls_of connections_in connects
-returns-clause-streams c = λ line other_line. (
-  λ d e. never d,
-  (
-    λ d e. never d,
-    (
-      λ d e. never d,
-      (
-        λ d e. never d,
-        (
-          λ d e. never d,
-          (
-            λ d e. never d,
-            (
-              λ d e. never e,
-              (
-                λ d e. record { to_a = ([], refl); to_b = ([], refl) },
-                (
-                  λ d e. record { to_a = ([], refl); to_b = ([], refl) },
-                  (
-                    λ d e. record { to_a = ([], refl); to_b = (strt_bytes, refl) },
-                    (
-                      λ d e. record { to_a = ([], refl); to_b = ([], refl) },
-                      (
-                        λ d e. record { to_a = ([], refl); to_b = ([], refl) },
-                        (
-                          λ d e. record { to_a = (stack_bytes, refl); to_b = ([], refl) },
-                          (
-                            λ d e. record { to_a = ([], refl); to_b = ([], refl) },
-                            (
-                              λ d e. record { to_a = ([], refl); to_b = ([], refl) },
-                              (
-                                λ d e. record { to_a = ([], refl); to_b = ([], refl) },
-                                (
-                                  λ d e. record { to_a = ([], refl); to_b = (first_bytes, refl) },
-                                  (
-                                    λ d e. record { to_a = ([], refl); to_b = ([], refl) },
-                                    (
-                                      λ d e. record { to_a = ([], refl); to_b = ([], refl) },
-                                      (
-                                        λ d e. record {
-                                          to_a = (ack_1_bytes, refl);
-                                          to_b = ([], refl);
-                                        },
-                                        (
-                                          λ d e. record { to_a = ([], refl); to_b = ([], refl) },
-                                          (
-                                            λ d e. record { to_a = ([], refl); to_b = ([], refl) },
-                                            (
-                                              λ d e. record {
-                                                to_a = ([], refl);
-                                                to_b = ([], refl);
-                                              },
-                                              (
-                                                λ d e. record {
-                                                  to_a = ([], refl);
-                                                  to_b = ([], refl);
-                                                },
-                                                tt,
-                                              ),
-                                            ),
-                                          ),
-                                        ),
-                                      ),
-                                    ),
-                                  ),
-                                ),
-                              ),
-                            ),
-                          ),
-                        ),
-                      ),
-                    ),
-                  ),
-                ),
-              ),
-            ),
-          ),
-        ),
-      ),
-    ),
-  ),
-)
+    entries_of_bytes notices_text texts_of after_takes steps_anew_by calls_of connections_in connects
+returns-clause-streams c = λ line other_line. (λ d e. never d, (λ d e. never d, (λ d e. never d, (λ d e. never d, (λ d e. never d, (λ d e. never d, (λ d e. never e, (λ d e. record { to_a = ([], refl); to_b = ([], refl) }, (λ d e. record { to_a = ([], refl); to_b = ([], refl) }, (λ d e. record { to_a = ([], refl); to_b = (strt_bytes, refl) }, (λ d e. record { to_a = ([], refl); to_b = ([], refl) }, (λ d e. record { to_a = ([], refl); to_b = ([], refl) }, (λ d e. record { to_a = (stack_bytes, refl); to_b = ([], refl) }, (λ d e. record { to_a = ([], refl); to_b = ([], refl) }, (λ d e. record { to_a = ([], refl); to_b = ([], refl) }, (λ d e. record { to_a = ([], refl); to_b = ([], refl) }, (λ d e. record { to_a = ([], refl); to_b = (first_bytes, refl) }, (λ d e. record { to_a = ([], refl); to_b = ([], refl) }, (λ d e. record { to_a = ([], refl); to_b = ([], refl) }, (λ d e. record { to_a = ([], refl); to_b = ([], refl) }, (λ d e. record { to_a = ([], refl); to_b = ([], refl) }, (λ d e. record { to_a = (ack_1_bytes, refl); to_b = ([], refl) }, (λ d e. record { to_a = ([], refl); to_b = ([], refl) }, (λ d e. record { to_a = ([], refl); to_b = ([], refl) }, tt))))))))))))))))))))))))

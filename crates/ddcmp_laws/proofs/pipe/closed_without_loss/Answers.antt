@@ -1,4 +1,4 @@
-use Rattle.ddcmp_laws.proofs.Anew.{closed_anew_a, closed_anew_b}
+use Rattle.ddcmp_laws.proofs.AnewPipes.{closed_anew_a, closed_anew_b}
 use Rattle.ddcmp_laws.specs.Pipe.{PipesClosed}
 use Rattle.ddcmp_laws.proofs.Outcomes.{closed_a, closed_b, over_honest, over_streams}
 use Rattle.ddcmp_laws.proofs.pipe.closed_without_loss.Goals as goal

@@ -1,5 +1,5 @@
-use Rattle.ddcmp_laws.proofs.Anew.{pipes_anew_a, pipes_anew_b, pipes_all_anew_a, pipes_all_anew_b}
-use Rattle.ddcmp_laws.proofs.Anew.{writes_anew_a, writes_anew_b}
+use Rattle.ddcmp_laws.proofs.AnewPipes.{pipes_anew_a, pipes_anew_b, pipes_all_anew_a, pipes_all_anew_b}
+use Rattle.ddcmp_laws.proofs.AnewPipes.{writes_anew_a, writes_anew_b}
 use Rattle.ddcmp_laws.proofs.pipe.pipe_anew.Goals as goal
 
 pub returns-clause-to_b : goal.returns-clause-to_b
