@@ -45,7 +45,10 @@ def all_received(name, link, form, sent, seconds=50):
     assert received(link, form) == sent, name
 
 
-def beside_a_copier(form, window):
+@pytest.mark.parametrize("window", [
+    7, *(pytest.param(it, marks=pytest.mark.long) for it in (31, 127, 255))])
+@pytest.mark.parametrize("form", [binary, digits])
+def test_copier(form, window):
     """A link beside a program that copies what it reads, and a client that reads all that is
     returned."""
     from_copier, to_copier = os.pipe(), os.pipe()
@@ -61,21 +64,6 @@ def beside_a_copier(form, window):
         for it in (one, two):
             it.kill()
         copier.kill()
-
-
-def test_copier_in_binary():
-    beside_a_copier(binary, 7)
-
-
-def test_copier_of_lines():
-    beside_a_copier(digits, 7)
-
-
-@pytest.mark.parametrize("window", [31, 127, 255])
-@pytest.mark.parametrize("form", [binary, digits])
-@pytest.mark.long
-def test_copiers_at_each_window(form, window):
-    beside_a_copier(form, window)
 
 
 def test_back_to_back():

@@ -204,7 +204,8 @@ def example():
     return commands_in("USING.md", "import subprocess", has_blanks=True)
 
 
-def both_delivered(count):
+@pytest.mark.parametrize("count", [20, pytest.param(100, marks=pytest.mark.long)])
+def test_examples(count):
     """The program in Python of docs/USING.md at both ends: each says that its message was
     delivered."""
     code = example()
@@ -218,15 +219,6 @@ def both_delivered(count):
             holds_within(10, lambda port=port: is_listening(port))
         for end in ends:
             assert end.communicate(timeout=10)[0] == "b'hello'\ndelivered\n"
-
-
-def test_examples():
-    both_delivered(20)
-
-
-@pytest.mark.long
-def test_many_examples():
-    both_delivered(100)
 
 
 @pytest.mark.parametrize("kind", ["tcp", "device"])

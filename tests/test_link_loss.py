@@ -55,14 +55,10 @@ def exchanges(exchange, count, workers=8, messages=(20, 80)):
         assert list(filter(None, pool.map(faults, range(count)))) == []
 
 
-def test_files_over_tcp():
-    """Ten exchanges over TCP."""
-    exchanges(exchange_over_tcp, 10)
-
-
-def test_files_over_datagrams():
-    """Ten exchanges over UDP."""
-    exchanges(exchange_over_udp, 10)
+@pytest.mark.parametrize("count", [10, pytest.param(100, marks=pytest.mark.long)])
+@pytest.mark.parametrize("exchange", [exchange_over_tcp, exchange_over_udp])
+def test_files(exchange, count):
+    exchanges(exchange, count)
 
 
 def test_datagrams_by_default():
@@ -71,15 +67,3 @@ def test_datagrams_by_default():
     def exchange(seed, files):
         return exchange_over_udp(seed, files, ("--binary",), 40)
     exchanges(exchange, 4, 4, (120, 120))
-
-
-@pytest.mark.long
-def test_hundred_over_tcp():
-    """A hundred exchanges over TCP."""
-    exchanges(exchange_over_tcp, 100)
-
-
-@pytest.mark.long
-def test_hundred_over_datagrams():
-    """A hundred exchanges over UDP."""
-    exchanges(exchange_over_udp, 100)

@@ -77,10 +77,10 @@ def waits(link):
 
 
 @times
-@pytest.mark.parametrize("options", [(), ("--again",), ("--seconds", "8")])
+@pytest.mark.parametrize("options", [(), ("--again",)])
 def test_unread_events(options):
     """Events and messages that nobody reads: the link delivers its own, and waits after the command
-    quit until all is read, or --seconds are over, and says so."""
+    quit until all is read."""
     (link, peer), reading = into_pipe(running, *EVENTS, *options)
     for number in range(1, 200):
         peer.send(data(b"x" * 1000, number))
@@ -88,17 +88,12 @@ def test_unread_events(options):
     link.give(READY + binary([b"one"]) + commands("quit"), close=False)
     assert peer.waits(lambda it: it.mail == [b"one"], 10)
     waits(link)
-    if "--seconds" in options:
-        must_end("unread", link, 3, "ddcmp: ended", 10)
-        assert ("ddcmp: standard output isn't read: received messages weren't written"
-                in link.errors())
-    else:
-        reader = threading.Thread(target=lambda: lines.extend(in_lines(rest_of(reading))))
-        lines = []
-        reader.start()
-        must_end("read", link, 0, None, 10)
-        reader.join()
-        assert lines[0] == "notice Running" and lines.count("notice Acknowledged 1") == 1
+    lines = []
+    reader = threading.Thread(target=lambda: lines.extend(in_lines(rest_of(reading))))
+    reader.start()
+    must_end("read", link, 0, None, 10)
+    reader.join()
+    assert lines[0] == "notice Running" and lines.count("notice Acknowledged 1") == 1
 
 
 @times
@@ -335,7 +330,7 @@ def test_full_output(options):
 
 
 @times
-@pytest.mark.parametrize("options", [(), ("--again",)])
+@pytest.mark.parametrize("options", [(), ("--again",), EVENTS])
 def test_seconds_unread(options):
     """--seconds ends a link whose output nobody reads, says so, and isn't a success."""
     (link, peer), _ = into_pipe(running, "--stay", "--seconds", "2", *options)
@@ -343,7 +338,7 @@ def test_seconds_unread(options):
         for number in range(1, 60):
             peer.send(data(b"x" * 1500, number))
             time.sleep(0.004)
-    if options:
+    if "--again" in options:
         time.sleep(0.3)
         peer.close()
     assert link.ended(8) == 3 and link.took <= 6
@@ -412,10 +407,11 @@ def caller_of(run, port):
     return connected(port) if is_listening(port) else socket.socketpair()[0]
 
 
-def without(numbers):
-    """Descriptors 0 to 2 that are closed at the start, those of these numbers' bits, never become a
-    line."""
-    for number in numbers:
+@pytest.mark.parametrize("last", [False, True])
+def test_closed(last):
+    """Descriptors 0 to 2 that are closed at the start, in each combination without or with the last
+    of them, never become a line."""
+    for number in range(4, 8) if last else range(1, 4):
         closed = [it for it in range(3) if number >> it & 1]
         it, port, sock = server(), free_port(), socket.socket(socket.AF_INET, socket.SOCK_DGRAM)
         sock.bind(("127.0.0.1", 0))
@@ -457,14 +453,6 @@ def without(numbers):
         assert called.bytes in (STRT, b"") and caller.bytes in (rep(3), b"")
         for sock in (it, far):
             sock.close()
-
-
-def test_closed_one_or_two():
-    without(range(1, 4))
-
-
-def test_closed_errors():
-    without(range(4, 8))
 
 
 def test_closed_input():

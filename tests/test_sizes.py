@@ -142,12 +142,6 @@ def test_many_waiting():
           [*texts, "settled 1 quiet"], last_line(200, 200))
 
 
-def test_many_words():
-    """Words that ask for nothing are refused, however many they are."""
-    output, error, status = call("explain", *["extra"] * 40)
-    assert (status, output) == (2, b"") and error.startswith("error: ")
-
-
 @pytest.mark.parametrize("traced", [False, True])
 @pytest.mark.parametrize("window, inbox, longest", [(1, 1, 1), (7, 8, 1500), (255, 255, 16383)])
 def test_memory(window, inbox, longest, traced):

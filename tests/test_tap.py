@@ -13,8 +13,8 @@ import time
 import pytest
 
 from .process import (
-    PROGRAM, Link, Process, call, connected, explained, free_port, into_pipe, port_of, receives,
-    reset_at_close, sends, server, takes, times)
+    PROGRAM, Link, Process, call, connected, explained, free_port, holds_within, into_pipe,
+    is_listening, port_of, receives, reset_at_close, sends, server, takes, times)
 from .wire import REASONS, STRT, ack, data, drawn, drawn_frames
 
 pytestmark = pytest.mark.limit(120)
@@ -230,8 +230,9 @@ def test_connection_refused(to, why):
     assert ends == (3, b"", f"ddcmp: connect {to}: {why}\n")
 
 
-def test_not_listening():
-    """Where it can't listen is reported with the reason."""
+@pytest.mark.parametrize("words", [[], ["--again"]])
+def test_not_listening(words):
+    """Where it can't listen is reported with the reason, and ends it, with --again too."""
     with server() as taken:
         for at, why in (
             (f"127.0.0.1:{port_of(taken)}", "address in use"),
@@ -239,7 +240,7 @@ def test_not_listening():
             ("nobody.invalid:7000", "no such host"),
             ("203.0.113.1:7000", "address not available"),
         ):
-            ends = call("tap", "--listen", at, "--connect", f"127.0.0.1:{free_port()}")
+            ends = call("tap", *words, "--listen", at, "--connect", f"127.0.0.1:{free_port()}")
             assert ends == (b"", f"ddcmp: listen {at}: {why}\n", 3)
 
 
@@ -477,11 +478,7 @@ def test_again_after_faults():
 
 
 def test_again_unwritten():
-    """An output that failed ends it, and so does an address that can't be listened at."""
-    with server() as taken:
-        at = f"127.0.0.1:{port_of(taken)}"
-        ends = call("tap", "--again", "--listen", at, "--connect", at)
-        assert ends == (b"", f"ddcmp: listen {at}: address in use\n", 3)
+    """An output that failed ends it."""
     far = server()
     with open("/dev/full", "wb") as full:
         tap = Again(port_of(far), stdout=full)
@@ -491,43 +488,24 @@ def test_again_unwritten():
     assert (tap.ended(LONG), tap.err) == (3, b"ddcmp: write\n")
 
 
-def test_again_socats():
-    """Two programs of socat, one after the other."""
-    far = free_port()
-    sink = subprocess.Popen(["socat", "-u", f"TCP4-LISTEN:{far},bind=127.0.0.1,reuseaddr,fork",
-                             "STDOUT"], stdout=subprocess.PIPE)
-    time.sleep(0.3)  # until the sink listens
-    tap, got = Again(far), b""
-    for size in (100_000, 200_000):
-        data = drawn.randbytes(size)
-        source = ["socat", "-u", "STDIN", f"TCP4:127.0.0.1:{tap.port},retry=100,interval=0.05"]
-        subprocess.run(source, input=data, timeout=LONG, check=True)
-        got = b""
-        while len(got) < size:
-            got += os.read(sink.stdout.fileno(), 1 << 16)
-        assert got == data
-    sink.kill()
-    assert not tap.killed()[1], "it says something"
-
-
-def test_between_socats():
-    """socat sends a file at the one side and keeps what comes at the other."""
-    data, port, far = drawn.randbytes(2_000_000), free_port(), free_port()
-    sink = subprocess.Popen(["socat", "-u", f"TCP4-LISTEN:{far},bind=127.0.0.1,reuseaddr",
-                             "STDOUT"], stdout=subprocess.PIPE)
+@pytest.mark.parametrize("sizes", [[2_000_000], [100_000, 200_000]])
+def test_between_socats(sizes):
+    """socat sends a file at the one side, another keeps what comes at the other; with --again two,
+    one after the other."""
+    port, far, is_again = free_port(), free_port(), len(sizes) > 1
+    sink = Process(["socat", "-u", f"TCP4-LISTEN:{far},bind=127.0.0.1,reuseaddr,fork", "STDOUT"])
     words = ["--listen", f"127.0.0.1:{port}", "--connect", f"127.0.0.1:{far}"]
-    time.sleep(0.3)  # until the sink listens: it takes one connection alone
-    tap = subprocess.Popen([*PROGRAM, "tap", *words], stdout=subprocess.PIPE)
-    source = subprocess.Popen(
-        ["socat", "-u", "STDIN", f"TCP4:127.0.0.1:{port},retry=100,interval=0.05"],
-        stdin=subprocess.PIPE)
-    threading.Thread(target=source.communicate, args=(data,)).start()
-    said = []
-    reading = threading.Thread(target=lambda: said.append(tap.stdout.read()))
-    reading.start()
-    got = sink.stdout.read()
-    reading.join(LONG)
-    assert got == data and tap.wait(LONG) == 0
-    assert lines_of(said[0], "> ") == explained(data)
-    sink.wait(LONG)
-    source.wait(LONG)
+    holds_within(10, lambda: is_listening(far))
+    tap, sent = Process([*PROGRAM, "tap", *["--again"] * is_again, *words]), b""
+    for size in sizes:
+        data = drawn.randbytes(size)
+        source = ["socat", "-u", "STDIN", f"TCP4:127.0.0.1:{port},retry=100,interval=0.05"]
+        subprocess.run(source, input=data, timeout=LONG, check=True)
+        sent += data
+        assert sink.waits(lambda it, all_of_it=sent: it.out == all_of_it)
+    if is_again:
+        tap.kill()
+    else:
+        assert tap.ended(LONG) == 0 and lines_of(tap.out, "> ") == explained(sent)
+    assert not tap.err, "it says something"
+    sink.kill()

@@ -11,18 +11,11 @@ import time
 import pytest
 
 from .process import (
-    PROGRAM, Process, Station, connected, free_port, holds_within, port_of, receives, refusing,
-    server)
+    PROGRAM, Station, connected, free_port, port_of, receives, refusing, server)
 from .wire import STACK, STRT, ack, data, nak
 
 CLOSED = r"ddcmp: (ended|read|write)"
 pytestmark = pytest.mark.limit(200)
-
-
-def test_nobody_listens():
-    station = Process([*PROGRAM, "station", "--role", "connect", "--addr",
-                       f"127.0.0.1:{free_port()}", "--turns", "1", "--timer-ms", "1000"])
-    assert (station.ended(), station.out, station.err) == (3, b"", b"ddcmp: carrier\n")
 
 
 def test_two_stations():
@@ -61,16 +54,6 @@ def against(deed, turns, timer, *options):
 def test_peer_closes():
     """A peer that closes at once."""
     against(lambda station, peer: None, Station.ENDLESS, 1000).must_end(3, CLOSED)
-
-
-def test_peer_starts_and_closes():
-    """A peer that starts well and then closes: what was reported before stays."""
-    def deed(station, peer):
-        peer.sendall(STACK)
-        assert holds_within(60, lambda: station.has("notice Running"))
-    station = against(deed, Station.ENDLESS, 1000)
-    assert station.has("notice Running")
-    station.must_end(3, CLOSED)
 
 
 def test_peer_sends_junk():
@@ -167,7 +150,7 @@ def test_no_turns():
 
 
 def test_line_that_ends():
-    """Then there is no last line."""
+    """Then there is no last line, and what was reported before stays."""
     ends = served([(8, STACK), (8, None)], turns=Station.ENDLESS)
     assert ends == (RUNS, "ddcmp: ended\n", 3, STRT + ack(0))
 
