@@ -28,7 +28,7 @@ _ddcmp() {
     tap:*) words='--listen --connect --again --json --ladder --time --clock --report --max -h --help' ;;
     link:--only | link:--window | link:--inbox | link:--max | link:--syn | link:--timer-ms | link:--attempts | link:--linger-ms | link:--baud | link:--seconds | link:--report) ;;
     link:--line) words='connect: listen: udp: device:' ;;
-    link:*) words='--line --only --window --inbox --max --syn --restart --timer-ms --attempts --linger-ms --baud --seconds --report --binary --events --maintenance --stay --again --counters --trace --clock --json -h --help' ;;
+    link:*) words='--line --only --window --inbox --max --syn --restart --timer-ms --attempts --linger-ms --baud --seconds --report --binary --events --maintenance --acknowledge-early --stay --again --counters --trace --clock --json -h --help' ;;
     bridge:--seconds | bridge:--lose | bridge:--damage | bridge:--delay | bridge:--baud | bridge:--seed | bridge:--report | bridge:--save-first | bridge:--save-second) ;;
     bridge:*) words='--seconds --again --lose --damage --delay --baud --seed --trace --ladder --json --report --clock --save-first --save-second -h --help' ;;
   esac

@@ -75,6 +75,7 @@ complete -c ddcmp -n '__fish_seen_subcommand_from link' -l report -x -d 'Report 
 complete -c ddcmp -n '__fish_seen_subcommand_from link' -l binary -d 'Read and write messages as bytes after their length'
 complete -c ddcmp -n '__fish_seen_subcommand_from link' -l events -d 'With --binary, write notices among the messages'
 complete -c ddcmp -n '__fish_seen_subcommand_from link' -l maintenance -d 'Exchange maintenance messages, which nobody acknowledges'
+complete -c ddcmp -n '__fish_seen_subcommand_from link' -l acknowledge-early -d 'Acknowledge messages that aren\'t written to the output yet'
 complete -c ddcmp -n '__fish_seen_subcommand_from link' -l stay -d 'Keep running once all input was delivered'
 complete -c ddcmp -n '__fish_seen_subcommand_from link' -l again -d 'Open the line again if it ends or can\'t be opened'
 complete -c ddcmp -n '__fish_seen_subcommand_from link' -l counters -d 'Print the station\'s counters before the last line'
