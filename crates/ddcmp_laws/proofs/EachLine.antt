@@ -19,7 +19,7 @@ use Rattle.ddcmp_laws.specs.EachLine.{LineIsOver, EndsALine, read_before, read_o
 use Rattle.ddcmp_laws.specs.Pipe.{Made}
 use Rattle.ddcmp_laws.specs.SessionRuns.{Ran, WasEnded, got_to}
 use Rattle.ddcmp_laws.specs.Sessions.{got_in, messages_of}
-use Rattle.ddcmp_laws.proofs.Anew.{Stays, follows}
+use Rattle.ddcmp_laws.proofs.Anew.{Stays, follows, none_yet}
 use Rattle.ddcmp_laws.proofs.Losing.{Counted, LosesNone, NoneHalted, closed-loses}
 use Rattle.ddcmp_laws.proofs.Losing.{connected-none, left-none, line-ended, lost-before, new-counts}
 use Rattle.ddcmp_laws.proofs.Losing.{none-before, station_of}
@@ -145,4 +145,4 @@ read-over-lines made (step ∷ rest) c does stays =
     let then = read_over_lines made rest next in
     sym (append_assoc before (read_before step.call made c) then)
     ∙ ap (λ ms. ms ++ then) (read-before step.call step.session made c stays)
-    ∙ read-over-lines made rest next does.1 (follows made step c 0 does.0 stays).2
+    ∙ read-over-lines made rest next does.1 (follows made step c none_yet does.0 stays).2

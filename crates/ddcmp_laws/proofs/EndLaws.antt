@@ -172,8 +172,11 @@ front (m ∷ rest) message is = by (same is)
     by e = (ap (λ x. x ∷ rest) (sym e), ap (λ x. x ∷ []) e)
 
 drop-more : (n : ℕ) (xs : List (List ℕ)) → drop (n + 1) xs ≡ drop 1 (drop n xs)
-drop-more n xs = ap (λ k. drop k xs) (omega arith) ∙ by n xs
+drop-more n xs = ap (λ k. drop k xs) more ∙ by n xs
   where
+    more : n + 1 ≡ suc n
+    more = omega arith
+
     by : (n : ℕ) (xs : List (List ℕ)) → drop (suc n) xs ≡ drop 1 (drop n xs)
     by zero xs = refl
     by (suc n) [] = none n

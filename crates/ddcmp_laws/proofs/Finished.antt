@@ -2,6 +2,7 @@
 use Rattle.std.proofs.Common.{◌≡◌, ◌≢◌, ◌≤◌, ◌∙◌, ap, sym, subst, refl, ℕ, Bool, true, false, arith}
 use Rattle.std.proofs.Common.{List, [], ◌∷◌, ◌++◌, ◌⊎◌, inl, inr, map, drop, length, Some}
 use Rattle.std.proofs.Common.{None, append_assoc, append-nil, take}
+use Rattle.std.proofs.Math.Seq.{drop-nil}
 use Rattle.std.proofs.lemmas.List.{take-append-drop}
 use Rattle.ddcmp_input.specs.InBinary.{in_binary}
 use Rattle.ddcmp_io.specs.Queue.{QueueView}
@@ -168,13 +169,21 @@ module _ (is_well : Bool) (ran : Ran) (held : BuffersView) (t after : Traffic) (
       writes_step f step h fin.ended.closes.closed
       (record { kind = stays.holds.kind; text = stays.holds.text })
 
+  closed_count : fin.closed.unwritten ≡ h.session.unwritten
+  closed_count = ap (λ (s : SessionView). s.unwritten) fin.ended.closes.closed.stays
+
+  closed_inbox : fin.closed.link.station.core.station.inbox
+      ≡ h.session.link.station.core.station.inbox
+  closed_inbox = ap (λ (d : LinkView). d.station.core.station.inbox) fin.ended.closes.closed.link
+
   -- all received messages were delivered
   mail_all : leads.mail ≡ undelivered h
   mail_all =
       sym (append-nil leads.mail)
-      ∙ ap (λ xs. leads.mail ++ xs) (sym no_mail_first)
+      ∙ ap (λ xs. leads.mail ++ xs)
+      (sym (ap (drop delivered.unwritten) no_mail_first ∙ drop-nil delivered.unwritten))
       ∙ leads.inbox
-      ∙ ap (λ (d : LinkView). d.station.core.station.inbox) fin.ended.closes.closed.link
+      ∙ (λ i. drop (closed_count i) (closed_inbox i))
 
   -- what the output took before the last lines
   pub took_first : t.written ++ taken_in fin.finishes.delivers.steps fin.closed

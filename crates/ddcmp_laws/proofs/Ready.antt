@@ -14,7 +14,7 @@ use Rattle.ddcmp_laws.specs.Connections.{first_connection}
 use Rattle.ddcmp_laws.specs.LastConnection.{StartsEach, StartsIf, StartsLast}
 use Rattle.ddcmp_laws.specs.Pipe.{Made, session_of}
 use Rattle.ddcmp_laws.specs.SessionRuns.{WasEnded}
-use Rattle.ddcmp_laws.proofs.Anew.{Stays, follows, stays_first}
+use Rattle.ddcmp_laws.proofs.Anew.{Stays, follows, stays_first, none_yet}
 use Rattle.ddcmp_laws.proofs.ConnectionLaws.{starts-new}
 use Rattle.ddcmp_laws.proofs.EndLaws.{size_stays}
 use Rattle.ddcmp_laws.proofs.Finished.{fits, none_first}
@@ -45,7 +45,7 @@ starts-each made (step ∷ rest) c does ready stays size =
     let s = c.history.session in
     let next = after_step step c in (
       starts-ready step.call s (fits made s stays.holds.longest size) ready.0,
-      starts-each made rest next does.1 ready.1 (follows made step c 0 does.0 stays).2
+      starts-each made rest next does.1 ready.1 (follows made step c none_yet does.0 stays).2
           (ap (λ (x : SessionView). x.output.size) (session-after step.call step.session c)
           ∙ size_stays step.call c.history.used s step.session does.0
           ∙ size),

@@ -39,7 +39,7 @@ use Rattle.ddcmp_laws.proofs.Anew.{left_out}
 use Rattle.ddcmp_laws.proofs.AnewPipes.{acknowledged_anew_b, closed_anew_a, closed_anew_b}
 use Rattle.ddcmp_laws.proofs.Anew.{stays_all}
 use Rattle.ddcmp_laws.proofs.AnewPipes.{pipes_anew_a, pipes_anew_b, stays_a, stays_b}
-use Rattle.ddcmp_laws.proofs.Anew.{follows}
+use Rattle.ddcmp_laws.proofs.Anew.{follows, none_yet}
 use Rattle.ddcmp_laws.proofs.Anew.{stays_first}
 use Rattle.ddcmp_laws.proofs.AnewPipes.{writes_anew_a, writes_anew_b}
 use Rattle.ddcmp_laws.proofs.EachLine.{left-with-none, none-in-nothing, read-over-lines}
@@ -140,7 +140,7 @@ all-read : (made : Made) (steps : List SessionStep) (c : Connection) → Stays m
 unfolding after_all
 all-read made [] c stays does of was = was
 all-read made (step ∷ rest) c stays does of was =
-    all-read made rest (after_step step c) (follows made step c 0 does.0 stays).2 does.1 of.1
+    all-read made rest (after_step step c) (follows made step c none_yet does.0 stays).2 does.1 of.1
     (λ e.
     told-after step.call step.session c
     ∙ read-step step.call c.history step.session
