@@ -1,18 +1,16 @@
 -- Sessions that are connected again, and their links.
 use Rattle.std.proofs.Common.{◌≡◌, ℕ, zero, suc, ◌+◌, Bool, true, false, cond, List, [], ◌∷◌}
 use Rattle.std.proofs.Common.{◌++◌, length, drop, refl, sym, ◌∙◌, ap, subst, append_assoc}
-use Rattle.std.proofs.Common.{append-nil, None, option_to_list}
+use Rattle.std.proofs.Common.{append-nil, option_to_list}
 use Rattle.std.proofs.Math.Seq.{drop-append_seam}
 use Rattle.ddcmp_input.specs.declared.entry.Entry.{Entry}
 use Rattle.ddcmp_input.specs.declared.entry.Entry.TheVariants.{Message, NotHexadecimal, TooLong}
 use Rattle.ddcmp_input.specs.declared.entry.Entry.TheVariants.{Command, Empty}
 use Rattle.std.specs.Prelude.{◌||◌}
-use Rattle.ddcmp_proto.specs.Config.{first_refusal}
 use Rattle.ddcmp_input.specs.InBinary.{in_binary}
 use Rattle.ddcmp_station.specs.Linking.{LinkView, after_frame, after_taking, anew}
 use Rattle.ddcmp_io.specs.declared.carrier.End.{End}
 use Rattle.ddcmp_io.specs.declared.carrier.End.TheVariants.{A, B}
-use Rattle.ddcmp_pair.specs.Prefix.{IsPrefixOf}
 use Rattle.ddcmp_streams.specs.Messages.{message_in, after_input, entries_of_input, after_last}
 use Rattle.ddcmp_streams.specs.Messages.{entry_of_last}
 use Rattle.ddcmp_session.specs.Session.{SessionView, taken_at_once, taken_when_written, takes_end}
@@ -38,14 +36,12 @@ use Rattle.ddcmp_laws.specs.Sessions.{link_step, takes_put, texts_of}
 use Rattle.ddcmp_laws.specs.Pipe.{Made, link_made_of, steps_at_end}
 use Rattle.ddcmp_session.specs.Connections as connections
 use Rattle.ddcmp_session.specs.Connections.{Connection, Does, after_step, after_all}
-use Rattle.ddcmp_laws.specs.Connections.{Connections, first_connection, first_connections, at}
+use Rattle.ddcmp_laws.specs.Connections.{Connections, first_connection, at}
 use Rattle.ddcmp_laws.specs.Connections.{after_step_at, AreCalls, after_steps, link_steps}
-use Rattle.ddcmp_laws.specs.Connections.{read_since, delivered_since, PipesAnew, PipesAllAnew}
-use Rattle.ddcmp_laws.specs.Connections.{PipesClosedAnew, WritesAnew}
-use Rattle.ddcmp_laws.proofs.Losing.{closed-none, new-counts}
-use Rattle.ddcmp_laws.proofs.LosingAnew.{counts-anew-a, counts-anew-b}
+use Rattle.ddcmp_laws.specs.Connections.{read_since, delivered_since}
+use Rattle.ddcmp_laws.specs.Connections.{WritesAnew}
 use Rattle.ddcmp_laws.proofs.Holding.{Holds, link_history, parts}
-use Rattle.ddcmp_laws.proofs.Outcomes.{binary_more, last_true}
+use Rattle.ddcmp_laws.proofs.Outcomes.{binary_more}
 use Rattle.ddcmp_laws.proofs.Texts.{IsText, only_mail}
 use Rattle.ddcmp_laws.proofs.LinkSteps.{begins, step_leads, link_only, same_link, with_line}
 use Rattle.ddcmp_laws.proofs.LinkSteps.{holds_with_line, connected_is, course_connected, kept_link}

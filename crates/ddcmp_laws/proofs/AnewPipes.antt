@@ -1,9 +1,8 @@
 -- Two sessions that are connected again, in a clean run over an honest line.
-use Rattle.std.proofs.Common.{◌≡◌, ◌∙◌, ◌⊎◌, inl, inr, ℕ, zero, suc, ◌+◌, ◌≤◌, Bool, true, false, cond}
+use Rattle.std.proofs.Common.{◌≡◌, ◌∙◌, ◌⊎◌, inl, inr, ℕ, ◌≤◌, Bool, true, false, cond}
 use Rattle.std.proofs.Common.{List, [], ◌∷◌, ◌++◌, length, take, drop, map, refl, sym, ap, subst}
 use Rattle.std.proofs.Common.{append_assoc, append-nil, None, arith}
-use Rattle.std.specs.Prelude.{◌&&◌, ◌==◌, nat_le}
-use Rattle.std.proofs.lemmas.List.{take-append-drop}
+use Rattle.std.specs.Prelude.{◌==◌}
 use Rattle.ddcmp_core.specs.Counting.{count_plus}
 use Rattle.ddcmp_core.specs.Core.{CoreView}
 use Rattle.ddcmp_core.specs.Table.{after_halt, may_start}
@@ -12,12 +11,11 @@ use Rattle.ddcmp_proto.specs.StationCalls.{StationCall}
 use Rattle.ddcmp_station.specs.Linking.{LinkView, anew, delivered}
 use Rattle.ddcmp_io.specs.declared.carrier.End.{End}
 use Rattle.ddcmp_io.specs.declared.carrier.End.TheVariants.{A, B}
-use Rattle.ddcmp_pair.specs.Prefix.{IsPrefixOf}
 use Rattle.ddcmp_pair.specs.Run.{EndState, PairState, at as end_at, is_clean, notices_at}
 use Rattle.ddcmp_pair.specs.Run.{restarts_in}
 use Rattle.ddcmp_session.specs.Calls.{SessionCall, InputRead, InputEnded, Connected, LineEnded}
 use Rattle.ddcmp_session.specs.Calls.{Received, Filled, LineTook, TimedOut, TimePassed, Delivered}
-use Rattle.ddcmp_session.specs.Calls.{OutputTook, Closed, SessionDoes, SessionStep}
+use Rattle.ddcmp_session.specs.Calls.{OutputTook, Closed, SessionStep}
 use Rattle.ddcmp_session.specs.Connections.{Connection, Does, after_step}
 use Rattle.ddcmp_session.specs.Session.{SessionView, after_connected}
 use Rattle.ddcmp_laws.specs.PairCalls.{Call, Start, Halt, Send, Poll, Arrive, Expire, Take, Arm, Ask}
@@ -29,15 +27,15 @@ use Rattle.ddcmp_laws.specs.LinkRestarts.{AreCallsOfLinks, after_links, all_call
 use Rattle.ddcmp_laws.specs.LinkRestarts.{calls_of_links, history_by}
 use Rattle.ddcmp_laws.specs.StationRuns.{after_station_call, run_station_calls}
 use Rattle.ddcmp_laws.specs.StationRuns.{station_call}
-use Rattle.ddcmp_laws.specs.Sessions.{link_step, link_steps_of, mail_in}
+use Rattle.ddcmp_laws.specs.Sessions.{link_steps_of, mail_in}
 use Rattle.ddcmp_laws.specs.Pipe.{Made, links_made, pair_made, steps_at_end, undelivered}
-use Rattle.ddcmp_laws.specs.Connections.{AreCalls, Connections, after_step_at, after_steps, at}
+use Rattle.ddcmp_laws.specs.Connections.{AreCalls, Connections, after_step_at, after_steps}
 use Rattle.ddcmp_laws.specs.Connections.{delivered_since, first_connection, first_connections, link_steps}
 use Rattle.ddcmp_laws.specs.Connections.{PipesAllAnew, PipesAnew, PipesClosedAnew, WritesAnew}
 use Rattle.ddcmp_laws.specs.Connections.{read_since}
-use Rattle.ddcmp_laws.proofs.Anew.{AreCalm, AreDone, BegunAnew, FollowsOn, IsCalm, IsSince}
+use Rattle.ddcmp_laws.proofs.Anew.{AreCalm, AreDone, FollowsOn, IsCalm, IsSince}
 use Rattle.ddcmp_laws.proofs.Anew.{Keeps, Rest, Stays, after_done, begins_anew, both}
-use Rattle.ddcmp_laws.proofs.Anew.{calm_of, goes_on, keeps_steps, left_out, none_yet, since}
+use Rattle.ddcmp_laws.proofs.Anew.{calm_of, goes_on, keeps_steps, none_yet, since}
 use Rattle.ddcmp_laws.proofs.Anew.{since_first, stays_first, writes_anew}
 use Rattle.ddcmp_laws.proofs.LastCalls.{leads-a, leads-b, pair-after}
 use Rattle.ddcmp_laws.proofs.LinkRestarts.{after_all_here, all-here, anew-acknowledged-to-a}

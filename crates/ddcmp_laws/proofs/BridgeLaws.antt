@@ -1,12 +1,11 @@
 -- The faults that a bridge draws, by their number.
-use Rattle.std.proofs.Common.{◌≡◌, ◌∙◌, ap, sym, subst, refl, ℕ, zero, suc, ◌+◌, ◌*◌, ◌≤◌, ◌<◌, ◌%◌}
+use Rattle.std.proofs.Common.{◌≡◌, ◌∙◌, ap, refl, ℕ, zero, suc, ◌+◌, ◌*◌, ◌≤◌, ◌<◌, ◌%◌}
 use Rattle.std.proofs.Common.{◌/◌, ◌-◌, Bool, true, false, cond, arith}
 use Rattle.std.specs.Prelude.{min, nat_lt, ◌≢◌, ◌^◌}
 use Rattle.rand_pcg.specs.Lcg.{Lcg}
 use Rattle.ddcmp_bridge.specs.Delaying.{due_after}
 use Rattle.ddcmp_bridge.specs.Faults.{fate_by, loses, start_of}
 use Rattle.ddcmp_bridge.specs.declared.faults.Faults.{Faults}
-use Rattle.ddcmp_bridge.specs.declared.faults.Fate.{Fate}
 use Rattle.ddcmp_bridge.specs.declared.faults.Fate.TheVariants.{Passed, Lost, Altered}
 use Rattle.ddcmp_laws.specs.BridgeFaults.{IsAltered, lost_among}
 

@@ -1,6 +1,6 @@
 -- Stations that acknowledge messages when they are received.
-use Rattle.std.proofs.Common.{◌≡◌, ◌<◌, ℕ, Bool, true, false, arith, cond, List, [], ◌∷◌, length}
-use Rattle.std.proofs.Common.{drop, refl, sym}
+use Rattle.std.proofs.Common.{◌≡◌, ◌<◌, Bool, true, false, arith, cond, length}
+use Rattle.std.proofs.Common.{drop, sym}
 use Rattle.std.proofs.Common.{◌∙◌, ap}
 use Rattle.std.specs.Prelude.{◌&&◌, nat_lt}
 use Rattle.ddcmp_core.specs.Sequence.{distance}
@@ -8,9 +8,9 @@ use Rattle.ddcmp_core.specs.Table.{StationState, resp_of, is_running, owed_after
 use Rattle.ddcmp_io.specs.declared.carrier.End.TheVariants.{A, B}
 use Rattle.ddcmp_pair.specs.declared.event.Event.{Event}
 use Rattle.ddcmp_pair.specs.InOrder.{IsRun}
-use Rattle.ddcmp_pair.specs.Run.{PairState, after_event, run, new_pair}
+use Rattle.ddcmp_pair.specs.Run.{PairState, after_event, new_pair}
 use Rattle.ddcmp_pair.proofs.Modes.{after-mode, run-modes}
-use Rattle.ddcmp_laws.specs.LossFree.{Line, after_on_line, run_on_line, IsEarly}
+use Rattle.ddcmp_laws.specs.LossFree.{IsEarly}
 
 pub early-resp : (s : StationState) → s.by_user ≡ false → resp_of s ≡ s.r
 early-resp s e = ap (λ (b : Bool). cond b (distance (length s.inbox) s.r) s.r) e

@@ -1,5 +1,5 @@
 -- Histories of a session.
-use Rattle.std.proofs.Common.{◌≡◌, ℕ, false, List, [], ◌∷◌}
+use Rattle.std.proofs.Common.{◌≡◌, ℕ, List, [], ◌∷◌}
 use Rattle.std.proofs.Common.{◌++◌, refl, sym, ◌∙◌, ap, subst, take}
 use Rattle.std.proofs.Common.{append_assoc, append-nil}
 use Rattle.ddcmp_frame.specs.Reader.{ReaderView}

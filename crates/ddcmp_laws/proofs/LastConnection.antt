@@ -1,6 +1,6 @@
 -- A run over one connection after the other: since both ends were connected last, the line is
 -- honest and neither is started again, if it is a stream each way.
-use Rattle.std.proofs.Common.{◌≡◌, ◌∙◌, ap, sym, subst, refl, ℕ, true, List, [], ◌∷◌, None, arith}
+use Rattle.std.proofs.Common.{◌≡◌, ◌∙◌, ap, sym, subst, refl, true, List, [], ◌∷◌, None, arith}
 use Rattle.std.specs.Prelude.{◌≤◌}
 use Rattle.ddcmp_proto.specs.Config.{first_refusal}
 use Rattle.ddcmp_io.specs.declared.carrier.End.{End}

@@ -1,5 +1,5 @@
 -- Two runs over one connection after the other are runs over an honest line, in a clean run.
-use Rattle.std.proofs.Common.{◌≡◌, sym, subst, refl, List, [], None, arith}
+use Rattle.std.proofs.Common.{◌≡◌, sym, subst, refl, List, None, arith}
 use Rattle.ddcmp_proto.specs.Config.{first_refusal}
 use Rattle.ddcmp_io.specs.declared.carrier.End.{End}
 use Rattle.ddcmp_laws.specs.LinkRestarts.{calls_of_links}

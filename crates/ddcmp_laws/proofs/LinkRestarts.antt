@@ -1,13 +1,10 @@
 -- Links that restart.
 use Rattle.std.proofs.Common.{◌≡◌, ℕ, true, List, [], ◌∷◌, ◌++◌, length, map, refl, sym}
-use Rattle.std.proofs.Common.{◌∙◌, ap, subst, arith, None}
+use Rattle.std.proofs.Common.{◌∙◌, ap, subst, arith}
 use Rattle.std.specs.Prelude.{◌==◌, if◌then◌else◌}
-use Rattle.ddcmp_frame.specs.Reader.{ReaderView}
 use Rattle.ddcmp_core.specs.Core.{CoreView}
 use Rattle.ddcmp_core.specs.Counting.{count_plus}
 use Rattle.ddcmp_core.specs.Table.{after_halt, may_start}
-use Rattle.ddcmp_proto.specs.Config.{first_refusal}
-use Rattle.ddcmp_proto.specs.declared.config.Config.{Config}
 use Rattle.ddcmp_proto.specs.StationCalls.{StationCall}
 use Rattle.ddcmp_station.specs.Linking.{LinkView, started, anew, delivered}
 use Rattle.ddcmp_io.specs.declared.carrier.End.{End}

@@ -2,7 +2,6 @@
 use Rattle.std.proofs.Common.{◌≡◌, ◌≢◌, ◌⊎◌, inl, inr, ℕ, Bool, true, false, cond, List}
 use Rattle.std.proofs.Common.{[], ◌∷◌, ◌++◌, length, refl, sym, ◌∙◌, ap, arith, Option, None, Some}
 use Rattle.std.specs.Prelude.{option_map, is_some, not, ◌&&◌, ◌||◌, ◌==◌}
-use Rattle.ddcmp_frame.specs.Reader.{ReaderView}
 use Rattle.ddcmp_core.specs.Core.{CoreView}
 use Rattle.ddcmp_core.specs.Frames.{header_of}
 use Rattle.ddcmp_core.specs.declared.state.State.{State}
@@ -24,7 +23,7 @@ use Rattle.ddcmp_station.specs.Linking.{is_held_back, is_nak_for_buffer, wants_b
 use Rattle.ddcmp_laws.proofs.Waiting.{holding_run, sleeps-a, sleeps-b}
 use Rattle.ddcmp_laws.specs.PairCalls.{Call, noted, after_arm_here, events_in, run_calls}
 use Rattle.ddcmp_laws.specs.Links.{LinkStep, LinkHistory, Links, IsSameEnd, AreStartedOnce}
-use Rattle.ddcmp_laws.specs.Links.{new_links, after_steps, received}
+use Rattle.ddcmp_laws.specs.Links.{after_steps, received}
 use Rattle.ddcmp_laws.specs.LinkLines.{AreLinkCalls, calls_of_steps, LinksAreUp, LinkIsAsleep}
 use Rattle.ddcmp_laws.specs.LinkLines.{LinkIsDelivered}
 use Rattle.ddcmp_laws.proofs.PairCallLaws.{run_same, honest_same, clean_same}

@@ -1,5 +1,5 @@
 -- Two sessions on a line, as pipes: the output of one is the input of the other.
-use Rattle.std.specs.Prelude.{◌≡◌, ℕ, ◌+◌, ◌≤◌, Bool, true, false, not, List, [], ◌∷◌, ◌++◌, drop}
+use Rattle.std.specs.Prelude.{◌≡◌, ℕ, ◌+◌, ◌≤◌, Bool, true, not, List, [], ◌∷◌, ◌++◌, drop}
 use Rattle.std.specs.Prelude.{map, None}
 use Rattle.std.specs.List.{All}
 use Rattle.ddcmp_frame.specs.Reader.{ReaderView}
