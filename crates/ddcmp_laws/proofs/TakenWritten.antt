@@ -1,6 +1,6 @@
 -- The messages that a session took are those whose text its output has taken.
-use Rattle.std.proofs.Common.{◌≡◌, ◌∙◌, ◌≤◌, ap, refl, sym, subst, ℕ, zero, suc, ◌+◌, ◌-◌, Bool, true}
-use Rattle.std.proofs.Common.{false, cond, List, [], ◌∷◌, ◌++◌, length, drop, arith, nat_le}
+use Rattle.std.proofs.Common.{◌≡◌, ◌∙◌, ap, refl, sym, subst, ℕ, zero, suc, ◌+◌, ◌-◌, Bool, true}
+use Rattle.std.proofs.Common.{false, cond, List, [], ◌∷◌, ◌++◌, length, arith, nat_le}
 use Rattle.std.proofs.Common.{append-nil, append_assoc, option_to_list}
 use Rattle.std.specs.Prelude.{◌||◌}
 use Rattle.std.proofs.lemmas.List.{drop_all}
@@ -19,7 +19,7 @@ use Rattle.ddcmp_streams.specs.Messages.{after_input, after_last, command_in, en
 use Rattle.ddcmp_streams.specs.Messages.{entry_of_last, is_message_unfinished, message_in}
 use Rattle.ddcmp_streams.specs.Options.{takes_at_once}
 use Rattle.ddcmp_session.specs.Session.{SessionView, after_command, after_entries, after_input_end}
-use Rattle.ddcmp_session.specs.Session.{after_last_line, after_message, after_output, after_unfinished}
+use Rattle.ddcmp_session.specs.Session.{after_last_line, after_message, after_unfinished}
 use Rattle.ddcmp_session.specs.Session.{is_held, takes_end, taken_at_once, taken_when_written}
 use Rattle.ddcmp_session.specs.Calls.{SessionCall, InputRead, InputEnded, Connected, LineEnded}
 use Rattle.ddcmp_session.specs.Calls.{Received, Filled, LineTook, TimedOut, TimePassed, Delivered}
