@@ -27,6 +27,7 @@ pub mod ClearLaws
 pub mod ClearRuns
 pub mod CarriedLaws
 mod Prices
+mod TakenWritten
 mod Ways
 mod Settling
 mod Resting

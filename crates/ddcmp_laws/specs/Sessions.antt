@@ -16,6 +16,7 @@ use Rattle.ddcmp_session.specs.Session.{takes_end}
 use Rattle.ddcmp_session.specs.Text.{mail_text, notice_text, lost_text, dropped_by, lost_words, notice_words}
 use Rattle.ddcmp_laws.specs.Links.{LinkCall, BeginsAnew, Halts, Wakes, Offers, FillsOne}
 use Rattle.ddcmp_laws.specs.Links.{IsSent, Feeds, Takes, LinkStep, LinkHistory, new_history}
+use Rattle.ddcmp_laws.specs.Prefix.{Begins}
 use Rattle.ddcmp_session.specs.Calls.{SessionCall, InputRead, InputEnded, Connected, LineEnded}
 use Rattle.ddcmp_session.specs.Calls.{Received, Filled, LineTook, TimedOut, TimePassed, Delivered}
 use Rattle.ddcmp_session.specs.Calls.{OutputTook}
@@ -151,3 +152,13 @@ pub record IsOfLink (form : MessageForm) (max : ℕ) (h : SessionHistory)
   pub accepted : l.accepted ≡ messages_of form max h.input
   pub taken : l.taken ++ take h.session.unwritten h.session.link.station.core.station.inbox
       ≡ mail_in h.shown
+
+-- Some first part of what was shown was written, and the messages in it are those that were taken
+-- from the link.
+pub record IsTakenAsWritten (form : MessageForm) (h : SessionHistory)
+    (taken : List (List ℕ)) : Type 0 where
+  pub front : List Shown
+  pub back : List Shown
+  pub shown : front ++ back ≡ h.shown
+  pub mail : taken ≡ mail_in front
+  pub text : Begins (texts_of form front) h.written

@@ -1,5 +1,5 @@
 //! A session does what its link does, and writes the text of that.
-ghost use Rattle.std.specs.Prelude.{◌≡◌, ◌≤◌, ◌++◌, ℕ, List, length};
+ghost use Rattle.std.specs.Prelude.{◌≡◌, ◌≤◌, ◌++◌, ℕ, false, List, length};
 ghost use Rattle.ddcmp_frame.specs.Reader.{ReaderView};
 ghost use Rattle.ddcmp_input.specs.InBinary.{in_binary};
 ghost use Rattle.ddcmp_io.specs.declared.line_kind.LineKind.{LineKind as LineKindValue};
@@ -9,6 +9,7 @@ ghost use Rattle.ddcmp_laws.specs.Links.{IsHistory, after_history, offered_in};
 ghost use Rattle.ddcmp_session.specs.Calls.{SessionStep, new_session, IsSessionHistory};
 ghost use Rattle.ddcmp_session.specs.Calls.{after_session_steps, Shown};
 ghost use Rattle.ddcmp_laws.specs.Sessions.{IsPlain, link_steps_in, IsOfLink, messages_of, mail_in};
+ghost use Rattle.ddcmp_laws.specs.Sessions.{IsTakenAsWritten};
 ghost use Rattle.ddcmp_laws.specs.Sessions.{AreShort, history_begun, mail_among, texts_of};
 
 /// Each list of calls of a new session of data messages without events makes a list of calls of its
@@ -34,6 +35,18 @@ pub fn session_calls_are_link_calls()
         → offered_in (link_steps_in steps (new_session options kind line))
         ≡ messages_of options.form options.config.max
         (after_session_steps steps (new_session options kind line)).input }
+{}
+
+/// A new session of data messages without events takes a message from its link, and so acknowledges
+/// it, only once its text was written, unless it is to acknowledge messages early.
+pub fn takes_what_is_written()
+    ensures written { (options : OptionsValue) (kind : LineKindValue) (line : ReaderView)
+        (steps : List SessionStep) → IsPlain options → options.acknowledge_early ≡ false
+        → IsSessionHistory steps (new_session options kind line)
+        → IsTakenAsWritten options.form
+        (after_session_steps steps (new_session options kind line))
+        (after_history (link_steps_in steps (new_session options kind line))
+        (history_begun options line)).taken }
 {}
 
 /// The bytes that a new session wrote to standard output, and then those queued for it, are the
