@@ -73,7 +73,7 @@ def waits(link):
     """A link goes on, and takes no processor time."""
     before = link.processor_time()
     time.sleep(3)
-    assert link.is_running() and link.processor_time() - before <= 0.02
+    assert link.is_running() and link.processor_time() - before < 0.05
 
 
 @times
@@ -302,17 +302,20 @@ def test_stopped_device():
 
 @pytest.mark.parametrize("options", [(), ("--again",)])
 def test_full_output(options):
-    """Longest messages that were acknowledged, an output of a page, and the peer ends while one of
-    them waits in the inbox: all are written."""
+    """Longest messages, an output of a page, and the peer ends while all but the first wait for it:
+    none of them was acknowledged, and all are written."""
     it = server()
     name = it.getsockname()
     link, reading = into_pipe(Link, f"connect:127.0.0.1:{name[1]}", "--max", "16383", *options)
     fcntl.fcntl(reading, fcntl.F_SETPIPE_SZ, 4096)
     peer = joined(it, good)
     sent = [b"x"] + [drawn.randbytes(16383) for _ in range(4)]  # the last has no room in the queue
-    for number, message in enumerate(sent, 1):
+    peer.send(data(sent[0], 1))
+    assert peer.waits(lambda it: it.frames[-1].resp == 1, 10)
+    for number, message in enumerate(sent[1:], 2):
         peer.send(data(message, number))
-    assert peer.waits(lambda it: any(f.resp == 5 for f in list(it.frames)), 10)
+    time.sleep(0.5)
+    assert peer.frames[-1].resp == 1
     it.close()  # so that no new line is there before all was read
     peer.close()
     time.sleep(0.3)
@@ -374,7 +377,7 @@ def test_seconds_slow():
 
 def test_seconds_flooded():
     """A standard input that is written all the time doesn't end the patience with a slow output."""
-    (link, peer), reading = into_pipe(running, "--stay", "--seconds", "2")
+    (link, peer), reading = into_pipe(running, "--stay", "--seconds", "2", "--inbox", "60")
     sent = sixty_messages(peer)
 
     def flood():
