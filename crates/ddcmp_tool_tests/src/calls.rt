@@ -70,6 +70,12 @@ pub fn delivers(session: &mut Session) -> bool {
     session.deliver()
 }
 
+/// Has standard output take all that is queued for it.
+pub fn writes(session: &mut Session) {
+    let n = session.to_output().len();
+    session.output_took(n);
+}
+
 pub fn drops_errors(session: &mut Session) {
     let n = session.to_errors().len();
     session.errors_took(n);

@@ -315,7 +315,7 @@ fn lines_are_opened_again(rt: HostRuntime) {
     has_done(&rt, &ran(&rt, options, plan), calls, errors, output);
 }
 
-/// Each message is written after its notice. All that can be moved is moved in each pass, and the
+/// Each message is written after its notice, and acknowledged then. All that can be moved is moved in each pass, and the
 /// devices are polled in each sixteenth.
 #[test]
 fn messages_follow_their_notices(rt: HostRuntime) {
@@ -330,14 +330,16 @@ fn messages_follow_their_notices(rt: HostRuntime) {
     };
     let calls = b"0 opening 1\n0 error bytes 45\n0 wait for both 0\n0 error bytes 46\n\
         0 error bytes 50\n0 error bytes 51\n0 error bytes 44\n0 wait for output 0\n\
-        0 wait for output 0\n0 wait for output 0\n0 wait 1000\n1000 wait 0\n1000 closing 1\n";
+        0 wait for output 0\n0 wait for output 0\n0 error bytes 45\n0 wait 1000\n1000 wait 0\n\
+        1000 closing 1\n";
     let errors = b"0 > 0 STRT sub=0 q=1 s=1 resp=0 num=0 addr=1\n\
         0 < 0 STACK sub=0 q=1 s=1 resp=0 num=0 addr=1\n\
         0 < 8 DATA count=1 q=0 s=0 resp=0 num=1 addr=1 61\n\
         0 < 19 DATA count=1 q=0 s=0 resp=0 num=2 addr=1 62\n\
-        0 > 8 ACK sub=0 q=0 s=0 resp=2 num=0 addr=1\n";
+        0 > 8 ACK sub=0 q=0 s=0 resp=0 num=0 addr=1\n\
+        0 > 16 ACK sub=0 q=0 s=0 resp=2 num=0 addr=1\n";
     let output = b"notice Running\nnotice HandedUp\nmail 61\nnotice HandedUp\nmail 62\n\
-        state=Halted read=30 written=16 sent=0 acknowledged=0 handed=2\n";
+        state=Halted read=30 written=24 sent=0 acknowledged=0 handed=2\n";
     has_done(&rt, &ran(&rt, options, plan), calls, errors, output);
 }
 

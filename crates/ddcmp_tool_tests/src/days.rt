@@ -239,14 +239,16 @@ impl Two {
         two
     }
 
-    /// Wakes both ends at this moment, and passes what they send.
+    /// Wakes both ends at this moment, and passes what they send; messages are acknowledged once
+    /// they are written.
     fn wake(&mut self, now: u64) {
         wake(&mut self.a, now);
         wake(&mut self.b, now);
         settles(&mut self.a, &mut self.b);
+        self.mails = self.mails.saturating_add(takes_mails(&mut self.b));
+        settles(&mut self.a, &mut self.b);
         wake(&mut self.a, now);
         wake(&mut self.b, now);
-        self.mails = self.mails.saturating_add(takes_mails(&mut self.b));
     }
 
     /// Returns the next moment at which one of them wakes.

@@ -1,5 +1,5 @@
 //! Two sessions without I/O over lines that lose, damage and cut, by a clock of the test's own.
-use crate::calls::{connects, delivers, end_of, ends_input, ends_line, lost, reads, wake};
+use crate::calls::{connects, delivers, end_of, ends_input, ends_line, lost, reads, wake, writes};
 use ddcmp_session::{EndReason, LineKind, MessageForm, Options, Session};
 use ddcmp_station::Config;
 use std::process::Abort;
@@ -211,7 +211,8 @@ fn a_line_that_has_not_ended_is_counted(rt: HostRuntime) {
     assert!(rt; lost(&a) == 1);
 }
 
-/// If a received message keeps it from starting, it counts that when it starts.
+/// If a received message, which isn't written, keeps it from starting, it counts that when it
+/// starts.
 #[test]
 fn a_refused_start_counts_later(rt: HostRuntime) {
     let mut a = session(&rt, options(0, 86_400));
@@ -223,6 +224,8 @@ fn a_refused_start_counts_later(rt: HostRuntime) {
     assert!(rt; !connects(&mut a));
     assert!(rt; lost(&a) == 0);
     assert!(rt; delivers(&mut a));
+    assert!(rt; !connects(&mut a));
+    writes(&mut a);
     assert!(rt; connects(&mut a));
     assert!(rt; lost(&a) == 1);
 }

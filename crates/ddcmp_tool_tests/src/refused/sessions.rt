@@ -106,6 +106,7 @@ fn is_refused(rt: &(impl Abort + AllocGlobal), form: MessageForm, kind: LineKind
         assert!(rt; reads(&mut a, text.as_slice()) == text.len());
         settles(&mut a, &mut b);
         is_written(rt, &mut b, text.as_slice());
+        settles(&mut a, &mut b);
         ends_line(&mut a);
         ends_line(&mut b);
     }
