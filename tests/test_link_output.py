@@ -300,10 +300,10 @@ def test_stopped_device():
     assert link.waits(lambda it: b"mail 616263" in it.out, 5), "the message isn't handed out"
 
 
-@pytest.mark.parametrize("options", [(), ("--again",)])
+@pytest.mark.parametrize("options", [(), ("--again",), ("--acknowledge-early",)])
 def test_full_output(options):
     """Longest messages, an output of a page, and the peer ends while all but the first wait for it:
-    none of them was acknowledged, and all are written."""
+    none of them was acknowledged, unless that is to be early, and all are written."""
     it = server()
     name = it.getsockname()
     link, reading = into_pipe(Link, f"connect:127.0.0.1:{name[1]}", "--max", "16383", *options)
@@ -315,7 +315,7 @@ def test_full_output(options):
     for number, message in enumerate(sent[1:], 2):
         peer.send(data(message, number))
     time.sleep(0.5)
-    assert peer.frames[-1].resp == 1
+    assert peer.frames[-1].resp == (5 if "--acknowledge-early" in options else 1)
     it.close()  # so that no new line is there before all was read
     peer.close()
     time.sleep(0.3)
@@ -325,7 +325,7 @@ def test_full_output(options):
             break
         out += piece
     assert mail_in(out) == sent
-    if options:
+    if "--again" in options:
         it = socket.create_server(name)
         it.settimeout(8)
         assert Peer(it.accept()[0], good).runs(), "no second line"

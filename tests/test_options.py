@@ -400,7 +400,7 @@ def shown(*more):
 NOT_MAINTAINED = {"--window", "--restart", "--timer-ms", "--attempts"}
 LINK = {
     "--window": (["--window", "1"], in_flight),
-    "--inbox": (["--inbox", "1"], None),  # a link takes each message at once: it isn't seen
+    "--inbox": (["--inbox", "1"], None),  # what is written at once isn't in it: it isn't seen
     "--max": (["--max", "2"], most_bytes),
     "--syn": (["--syn", "4"], fill),
     "--restart": (["--restart"], restarts),
@@ -416,10 +416,15 @@ LINK = {
     "--again": (["--again"], opens_again),
     "--counters": (["--counters"], counts),
     "--trace": (["--trace"],
-                shown(r"(?m)^(.*Z )?\d+ > \d+ STRT .*\n(.*\n)*(.*Z )?\d+ < \d+ STACK ")),
+                shown(r'(?m)^(.*Z )?\d+ > \d+ STRT .*\n(.*\n)*(.*Z )?\d+ < \d+ STACK '
+                      r'|"from":">",.*"item":"STRT"(.*\n)+.*"from":"<",.*"item":"STACK"')),
+    "--ladder": (["--ladder"], shown(r"(?m)^(.*Z )?\d+ \|-- STRT -+>\|$")),
     "--clock": (["--clock"], shown(r"^\d{4}-\d\d-\d\dT[\d:.]{12}Z connecting ")),
     "--json": (["--json"], shown(r"(?m)^\{.*\}$", "--stay", "", "--report", "1")),
 }
+
+
+DRAWN = [{"--ladder", "--trace"}, {"--ladder", "--json"}]  # no lines then; refused
 
 
 def link(name, chosen):
@@ -433,7 +438,7 @@ def link_runs():
         if sees:
             yield name, ()
             for other in LINK:  # in maintenance nothing starts, so most options aren't seen
-                if other != "--maintenance" or name == other:
+                if {name, other} not in DRAWN and (other != "--maintenance" or name == other):
                     yield name, tuple(it for it in LINK if it in (name, other))
 
 
@@ -534,8 +539,8 @@ COMMANDS = {  # the options of each: those that are in its table, and those that
     "explain": (EXPLAIN, set()), "simulate": (SIMULATE, set()), "pair": (SIMULATE, set()),
     "station": (STATION, {"--addr"}), "tap": (TAP, {"--listen", "--connect", "--report"}),
     # --report of tap needs a second: test_tap.py; --only is for a line with callers, --baud for a device, --events for --binary:
-    # test_callers.py, test_slow_lines.py, test_link_messages.py.
-    "link": (LINK, {"--line", "--only", "--baud", "--events"}), "bridge": (BRIDGE, set()),
+    # test_callers.py, test_slow_lines.py, test_link_messages.py; --acknowledge-early: test_link_output.py.
+    "link": (LINK, {"--line", "--only", "--baud", "--events", "--acknowledge-early"}), "bridge": (BRIDGE, set()),
 }
 RUNS = [*((explain, it) for it in chosen_of(EXPLAIN)),
         *((scripted, name, it) for name in ("simulate", "pair") for it in chosen_of(SIMULATE)),
