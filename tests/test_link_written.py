@@ -2,6 +2,7 @@
 import contextlib
 import os
 import resource
+import select
 import signal
 import subprocess
 import time
@@ -11,7 +12,7 @@ import pytest
 from .process import LONG, Link, into_pipe, line_names, rest_of, terminals, times
 from .wire import binary, digits, drawn, mail_in, messages_of, unpacked
 
-SENT = messages_of(20_000, 300)
+SENT = messages_of(50_000, 300)
 MOST_WRITTEN = 40_000  # bytes of a file, where there is a limit
 
 
@@ -35,7 +36,7 @@ def reads(reading, output, seconds):
     while (left := until - time.monotonic()) > 0:
         if output == "unread":
             time.sleep(left)
-        else:
+        elif select.select([reading], [], [], left)[0]:
             got += os.read(reading, 1 << 16 if output == "read" else drawn.randrange(1, 4000))
             time.sleep(0 if output == "read" else 0.002)
     return got

@@ -233,7 +233,7 @@ def test_notices():
 
 
 @pytest.mark.parametrize("words, wanted", [
-    (["link", "--l"], "--line --linger-ms"), (["l"], "link"), (["link", "--window", ""], ""),
+    (["link", "--l"], "--line --linger-ms --ladder"), (["l"], "link"), (["link", "--window", ""], ""),
     (["link", "--line", ""], "connect: listen: udp: device:"), (["explain", "READ"], "README.md"),
     (["link", "--line", "device", ":", "/dev/nul"], "/dev/null"), (["--v"], "--version"),
     (["explain", "--from", ""], "hexdump xxd od text auto"), (["station", "--role", "l"], "listen"),
