@@ -112,3 +112,28 @@ def test_sleeping_reader():
         two.kill()
         one.kill()
         os.close(reading)
+
+
+@pytest.mark.parametrize("again", [True, False])
+def test_peer_restarts_while_unread(again):
+    """A peer that restarts while messages wait for an output that nobody reads: once these are
+    written, the link opens its line again with --again, and ends without."""
+    there, here = line_names("udp")
+    one, reading = into_pipe(Link, there, "--stay", "--restart", *["--again"] * again,
+                             stdin=subprocess.DEVNULL)
+    two = Link(here, "--timer-ms", "100")
+    two.give(digits(SENT[:2000]), close=False)
+    assert two.waits(lambda it: b"Running" in it.out, 10), two
+    time.sleep(0.7)
+    two.kill()
+    three = Link(here, "--timer-ms", "100")
+    three.give(b"6262\n")
+    time.sleep(0.5)
+    got = b"" if again else rest_of(reading)
+    while again and b"mail 6262\n" not in got:
+        got += os.read(reading, 1 << 16)
+    mails = mail_in(got)
+    assert mails == [*SENT[:len(mails) - again], *[b"bb"] * again]
+    assert three.ended(10) == 0 if again else one.ended(10) == 0
+    one.kill()
+    three.kill()
