@@ -143,6 +143,16 @@ def library(request, tmp_path_factory):
     return str(made)
 
 
+@pytest.fixture(scope="session")
+def station(tmp_path_factory):
+    """A second station, by another hand, built by gcc."""
+    made = str(tmp_path_factory.mktemp("peer") / "peer")
+    strict = ["-std=c11", "-O1", "-g", "-Wall", "-Wextra", "-Werror", "-fno-sanitize-recover=all"]
+    subprocess.run(["gcc", *strict, "-fsanitize=address,undefined",
+                    f"{process.TOP}/c/peer/peer.c", "-o", made], check=True)
+    return made
+
+
 @pytest.fixture(autouse=True)
 def contained(request):
     """Each trial has its own inputs and a limit of time; what it starts ends with it."""

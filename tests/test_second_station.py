@@ -4,27 +4,16 @@ the behavior of one peer; the mixed ones draw all of it."""
 import os
 import random
 import socket
-import subprocess
 import time
 
 import pytest
 
 from .process import (
-    PROGRAM, TOP, Process, contents, free_port, holds_within, is_listening, udp_names)
+    PROGRAM, Process, contents, free_port, holds_within, is_listening, udp_names)
 from .wire import binary, mail_in, unpacked
 
 LIMIT = 40  # seconds that a scenario may take
-STRICT = ["-std=c11", "-O1", "-g", "-Wall", "-Wextra", "-Werror", "-fsanitize=address,undefined",
-          "-fno-sanitize-recover=all"]
 QUICK = ("--timer-ms", "150")
-
-
-@pytest.fixture(scope="module")
-def station(tmp_path_factory):
-    """The second station, built by gcc."""
-    made = str(tmp_path_factory.mktemp("peer") / "peer")
-    subprocess.run(["gcc", *STRICT, f"{TOP}/c/peer/peer.c", "-o", made], check=True)
-    return made
 
 
 def is_part(some, whole):

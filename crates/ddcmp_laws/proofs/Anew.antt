@@ -41,8 +41,7 @@ use Rattle.ddcmp_laws.specs.Connections.{after_step_at, AreCalls, after_steps, l
 use Rattle.ddcmp_laws.specs.Connections.{read_since, delivered_since}
 use Rattle.ddcmp_laws.specs.Connections.{WritesAnew}
 use Rattle.ddcmp_laws.proofs.Holding.{Holds, link_history, parts}
-use Rattle.ddcmp_laws.proofs.Outcomes.{binary_more}
-use Rattle.ddcmp_laws.proofs.Texts.{IsText, only_mail}
+use Rattle.ddcmp_laws.proofs.Texts.{IsText, binary_more, only_mail}
 use Rattle.ddcmp_laws.proofs.LinkSteps.{begins, step_leads, link_only, same_link, with_line}
 use Rattle.ddcmp_laws.proofs.LinkSteps.{holds_with_line, connected_is, course_connected, kept_link}
 use Rattle.ddcmp_laws.proofs.LinkSteps.{same_inbox}

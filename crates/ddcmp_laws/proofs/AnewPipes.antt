@@ -15,9 +15,9 @@ use Rattle.ddcmp_pair.specs.Run.{EndState, PairState, at as end_at, is_clean, no
 use Rattle.ddcmp_pair.specs.Run.{restarts_in}
 use Rattle.ddcmp_session.specs.Calls.{SessionCall, InputRead, InputEnded, Connected, LineEnded}
 use Rattle.ddcmp_session.specs.Calls.{Received, Filled, LineTook, TimedOut, TimePassed, Delivered}
-use Rattle.ddcmp_session.specs.Calls.{OutputTook, Closed, SessionStep}
+use Rattle.ddcmp_session.specs.Calls.{HasClosed, OutputTook, Closed, SessionStep}
 use Rattle.ddcmp_session.specs.Connections.{Connection, Does, after_step}
-use Rattle.ddcmp_session.specs.Session.{SessionView, after_connected}
+use Rattle.ddcmp_session.specs.Session.{SessionView, after_connected, lost_among, lost_at_end}
 use Rattle.ddcmp_laws.specs.PairCalls.{Call, Start, Halt, Send, Poll, Arrive, Expire, Take, Arm, Ask}
 use Rattle.ddcmp_laws.specs.PairCalls.{after_call_here, after_calls_here}
 use Rattle.ddcmp_laws.specs.Links.{LinkCall, Starts, BeginsAnew, Halts, Wakes, Offers, FillsOne}
@@ -32,6 +32,7 @@ use Rattle.ddcmp_laws.specs.Pipe.{Made, links_made, pair_made, steps_at_end, und
 use Rattle.ddcmp_laws.specs.Connections.{AreCalls, Connections, after_step_at, after_steps}
 use Rattle.ddcmp_laws.specs.Connections.{delivered_since, first_connection, first_connections, link_steps}
 use Rattle.ddcmp_laws.specs.Connections.{PipesAllAnew, PipesAnew, PipesClosedAnew, WritesAnew}
+use Rattle.ddcmp_laws.specs.Written.{PipesWrittenAnew, unacknowledged}
 use Rattle.ddcmp_laws.specs.Connections.{read_since}
 use Rattle.ddcmp_laws.proofs.Anew.{AreCalm, AreDone, FollowsOn, IsCalm, IsSince}
 use Rattle.ddcmp_laws.proofs.Anew.{Keeps, Rest, Stays, after_done, begins_anew, both}
@@ -40,16 +41,19 @@ use Rattle.ddcmp_laws.proofs.Anew.{since_first, stays_first, writes_anew}
 use Rattle.ddcmp_laws.proofs.LastCalls.{leads-a, leads-b, pair-after}
 use Rattle.ddcmp_laws.proofs.LinkRestarts.{after_all_here, all-here, anew-acknowledged-to-a}
 use Rattle.ddcmp_laws.proofs.LinkRestarts.{anew-acknowledged-to-b, anew-all-to-a, anew-all-to-b}
-use Rattle.ddcmp_laws.proofs.LinkRestarts.{anew-to-a, anew-to-b, starts_anew, step-same}
+use Rattle.ddcmp_laws.proofs.LinkRestarts.{anew-taken-from-a, anew-taken-from-b, anew-to-a}
+use Rattle.ddcmp_laws.proofs.LinkRestarts.{anew-to-b, starts_anew, step-same}
 use Rattle.ddcmp_laws.proofs.StationRuns.{Kept}
 use Rattle.ddcmp_laws.proofs.Inboxes.{anew-inbox}
 use Rattle.ddcmp_pair.proofs.Ordered.{clean-means}
 use Rattle.std.proofs.Math.Seq.{drop-append_seam}
 use Rattle.ddcmp_laws.proofs.Losing.{closed-none, new-counts}
 use Rattle.ddcmp_laws.proofs.LosingAnew.{counts-anew-a, counts-anew-b}
-use Rattle.ddcmp_laws.proofs.Outcomes.{last_true, made_kept, made_start}
+use Rattle.ddcmp_laws.proofs.Late.{are_written, late_anew_a, late_anew_b}
+use Rattle.ddcmp_laws.proofs.Outcomes.{chosen_late, last_true, made_kept, made_start}
 use Rattle.ddcmp_laws.proofs.Queues.{all_of, inbox_of, take-none, taken_of}
-use Rattle.ddcmp_laws.proofs.TwoLinks.{AreSame, NoneOut}
+use Rattle.ddcmp_laws.proofs.TakenWritten.{late_first}
+use Rattle.ddcmp_laws.proofs.TwoLinks.{AreSame, AreTaken, NoneOut}
 
 -- ---- an end whose line was cleared while it had a message counts as started twice
 
@@ -417,34 +421,45 @@ cancel a b c e =
     sym (drop-append_seam a b) ∙ ap (drop (length a)) e ∙ drop-append_seam a c
 
 -- in a clean run all that was taken came over this line
+none_before : (c : Connection) (k : Rest) (x : EndState) → (t : Tidy c k x) → x.starts ≤ 1
+    → mail_in c.shown_before ≡ t.is.before
+none_before c k x t once = by t.clean
+  where
+    by : (t.waited ≡ []) ⊎ Twice x → mail_in c.shown_before ≡ t.is.before
+    by (inr twice) = absurd (omega (arith, twice, once))
+    by (inl none) =
+        t.is.begun ∙ ap (λ w. t.is.before ++ w) none ∙ append-nil t.is.before
+
+taken_since : (c : Connection) (k : Rest) (x : EndState) → Tidy c k x → x.starts ≤ 1
+    → taken_of c.history.session c.history.shown ≡ mail_in c.shown_before ++ k.taken
+taken_since c k x t once =
+    t.is.taken ∙ ap (λ ms. ms ++ k.taken) (sym (none_before c k x t once))
+
 whole : (made : Made) (c : Connection) (k : Rest) (x : EndState) → Stays made c → Tidy c k x
     → x.starts ≤ 1
     → delivered_since c ++ undelivered c.history ≡ k.taken ++ inbox_of c.history.session
-whole made c k x stays t once = by t.clean
-  where
-    s : SessionView
-    s = c.history.session
-
-    by : (t.waited ≡ []) ⊎ Twice x
-        → delivered_since c ++ undelivered c.history ≡ k.taken ++ inbox_of s
-    by (inr twice) = absurd (omega (arith, twice, once))
-    by (inl none) =
-        let before = t.is.before in
-        let shown : mail_in c.shown_before ≡ before =
-        t.is.begun ∙ ap (λ w. before ++ w) none ∙ append-nil before in
-        cancel before (delivered_since c ++ undelivered c.history) (k.taken ++ inbox_of s)
-        (sym (append_assoc before (delivered_since c) (undelivered c.history))
-        ∙ ap (λ z. (z ++ delivered_since c) ++ undelivered c.history) (sym shown)
-        ∙ ap (λ z. z ++ undelivered c.history) (sym stays.delivered)
-        ∙ all_of s c.history.shown stays.holds.queued
-        ∙ ap (λ z. z ++ inbox_of s) t.is.taken
-        ∙ append_assoc before k.taken (inbox_of s))
+whole made c k x stays t once =
+    let s = c.history.session in
+    let before = mail_in c.shown_before in
+    cancel before (delivered_since c ++ undelivered c.history) (k.taken ++ inbox_of s)
+    (sym (append_assoc before (delivered_since c) (undelivered c.history))
+    ∙ ap (λ z. z ++ undelivered c.history) (sym stays.delivered)
+    ∙ all_of s c.history.shown stays.holds.queued
+    ∙ ap (λ z. z ++ inbox_of s) (taken_since c k x t once)
+    ∙ append_assoc before k.taken (inbox_of s))
 
 -- If nothing is left to be acknowledged, the other has received all.
 abbrev pub AcknowledgedAnew : Made → Connection → Connection → Type 0
 AcknowledgedAnew made giver taker =
     giver.history.session.link.station.core.station.out ≡ []
     → delivered_since taker ++ undelivered taker.history ≡ read_since made giver
+
+-- a session that is closed and has lost nothing keeps no message
+abbrev pub KeepsNone : Connection → Type 0
+KeepsNone c = (left : List ℕ) (over r : Bool) (closed : SessionView)
+    → HasClosed left over r c.history.session closed → closed.course.lost ≡ 0
+    → (unacknowledged c.history ≡ []) × (lost_among left c.history.session ≡ 0)
+    × (lost_at_end left over c.history.session ≡ 0)
 
 module _ (first second : Made) (steps : List (End × SessionStep))
     (f : first_refusal first.options.config ≡ None) (g : first_refusal second.options.config ≡ None)
@@ -564,19 +579,47 @@ module _ (first second : Made) (steps : List (End × SessionStep))
       (anew-acknowledged-to-a start (links_made first second) same kept calls are honest clean)
       (ap length none)
 
+  pub keeps_none_a : KeepsNone ended.a
+  keeps_none_a left over r closed is none =
+      closed-none left over r ended.a.history.session closed is none
+      (counts-anew-a steps begun does (new-counts first))
+
+  pub keeps_none_b : KeepsNone ended.b
+  keeps_none_b left over r closed is none =
+      closed-none left over r ended.b.history.session closed is none
+      (counts-anew-b steps begun does (new-counts second))
+
   pub closed_anew_b : PipesClosedAnew first ended.a ended.b
   closed_anew_b left over r closed is none =
-      let s = ended.a.history.session in
-      let nothing = closed-none left over r s closed is none
-      (counts-anew-a steps begun does (new-counts first)) in
+      let nothing = keeps_none_a left over r closed is none in
       (acknowledged_anew_b nothing.0, nothing.1, nothing.2)
 
   pub closed_anew_a : PipesClosedAnew second ended.b ended.a
   closed_anew_a left over r closed is none =
-      let s = ended.b.history.session in
-      let nothing = closed-none left over r s closed is none
-      (counts-anew-b steps begun does (new-counts second)) in
+      let nothing = keeps_none_b left over r closed is none in
       (acknowledged_anew_a nothing.0, nothing.1, nothing.2)
+
+  pub written_anew_b : PipesWrittenAnew first second ended.a ended.b
+  written_anew_b early =
+      let t = subst (λ (q : Links). AreTaken q.a q.b) ran.ends
+      (anew-taken-from-b start (links_made first second) same kept calls are honest clean
+      (chosen_late second early)) in
+      are_written second.options.form ended.b.history (mail_in ended.b.shown_before) ran.n.taken
+      (read_since first ended.a) (length (unacknowledged ended.a.history)) t.order t.few
+      (taken_since ended.b ran.n _ ran.b once.1)
+      (late_anew_b second steps begun does (stays_first second)
+      (late_first second.options second.kind second.line second.plain early)).taken
+
+  pub written_anew_a : PipesWrittenAnew second first ended.b ended.a
+  written_anew_a early =
+      let t = subst (λ (q : Links). AreTaken q.b q.a) ran.ends
+      (anew-taken-from-a start (links_made first second) same kept calls are honest clean
+      (chosen_late first early)) in
+      are_written first.options.form ended.a.history (mail_in ended.a.shown_before) ran.m.taken
+      (read_since second ended.b) (length (unacknowledged ended.b.history)) t.order t.few
+      (taken_since ended.a ran.m _ ran.a once.0)
+      (late_anew_a first steps begun does (stays_first first)
+      (late_first first.options first.kind first.line first.plain early)).taken
 
   pub writes_anew_a : WritesAnew first ended.a
   writes_anew_a = writes_anew first ended.a keeps.2

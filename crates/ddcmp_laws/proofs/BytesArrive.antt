@@ -1,7 +1,7 @@
 -- Two links that ended well: what the one read is what the other wrote.
 use Rattle.ddcmp_laws.specs.Sessions.{IsPlain}
 use Rattle.ddcmp_streams.specs.declared.messages.MessageForm.TheVariants as form
-use Rattle.std.proofs.Common.{◌≡◌, ◌∙◌, ap, sym, subst, refl, ℕ, Bool, true, List, []}
+use Rattle.std.proofs.Common.{◌≡◌, ◌∙◌, ap, sym, subst, refl, ℕ, Bool, true, false, List, []}
 use Rattle.std.proofs.Common.{Option, Some, None, arith, Result, Ok, Err}
 use Rattle.std.specs.Prelude.{◌≤◌}
 use Rattle.std.specs.List.{All}
@@ -27,11 +27,11 @@ use Rattle.ddcmp_laws.specs.SessionRuns.{Ran, RanTogether}
 use Rattle.ddcmp_laws.specs.Traces.{IsHonest}
 use Rattle.ddcmp_laws.proofs.Acted.{log-lines}
 use Rattle.ddcmp_laws.proofs.ConnectionLaws.{once-in-files}
-use Rattle.ddcmp_laws.proofs.Finished.{arrives}
+use Rattle.ddcmp_laws.proofs.Finished.{arrives, lost_at_last, read_at_last}
 use Rattle.ddcmp_laws.proofs.FramesTogether.{frames-together}
 use Rattle.ddcmp_laws.proofs.MergeRuns.{log_of, merged-runs, no_log}
 use Rattle.ddcmp_laws.proofs.OverLines.{agrees_first}
-use Rattle.ddcmp_laws.proofs.RunLaws.{all-to-b, files-begin-b}
+use Rattle.ddcmp_laws.proofs.RunLaws.{all-to-b, files-begin-b, files-written-b}
 use Rattle.ddcmp_laws.proofs.Extended.{Extended, extended, no_lines}
 
 first-follows : Follows no_log [] no_log
@@ -231,3 +231,29 @@ bytes-begin is_well other_is_well options other_options kind other_kind last oth
     (subst (λ (o : Options). All (Fits o.config.max) messages) (sym a.same) fit)
     a.held b.held a.t b.t a.agrees b.agrees
     (subst (λ xs. Begins xs (in_binary messages)) (sym a.read) file))
+
+-- and what the other wrote, if that acknowledges what it has written
+pub bytes-written : (other_is_well : Bool) (options other_options : Options)
+    (kind other_kind : LineKind) (last other_last : SessionView) (t u : Traffic)
+    → first_refusal options.config ≡ None → first_refusal other_options.config ≡ None
+    → IsBinary options → IsBinary other_options → other_options.acknowledge_early ≡ false
+    → RunsNew true options kind (Some no_traffic) last (Some t) → last.course.lost ≡ 0
+    → RunsNew other_is_well other_options other_kind (Some no_traffic) other_last (Some u)
+    → IsOneLine options other_options t u → BytesArrive options t u
+bytes-written other_is_well options other_options kind other_kind last other_last t u f g binary
+    other_binary early ran none other line messages fit file =
+    let a = was-run true options (plain-binary options binary) kind last t ran in
+    let b = all-of other_is_well other_options other_binary other_kind other_last u other in
+    let both =
+    over-one-line a.ran b.ran options other_options t u a.left b.left a.same b.same f g a.done
+    b.done a.follows b.follows line in
+    sym b.written
+    ∙ files-written-b a.ran b.ran both.fits_a both.fits_b a.done b.done both.together
+    (once-in-files a.ran b.ran a.done b.done both.once_a both.once_b
+    (ap (λ (o : Options). o.form) a.same ∙ binary.form)
+    (ap (λ (o : Options). o.form) b.same ∙ other_binary.form))
+    (ap (λ (o : Options). o.acknowledge_early) b.same ∙ early) messages
+    (subst (λ (o : Options). All (Fits o.config.max) messages) (sym a.same) fit)
+    a.held b.held a.t b.t a.finished.closed a.finished.ended b.agrees
+    (lost_at_last true a.ran a.held a.t t last a.finished ∙ none)
+    (sym (read_at_last true a.ran a.held a.t t last a.finished) ∙ file)

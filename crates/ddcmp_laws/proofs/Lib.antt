@@ -57,6 +57,8 @@ pub mod Streaming
 pub mod InTurn
 pub mod Serving
 pub mod Acknowledged
+mod ByUser
+mod Late
 pub mod LinkCalls
 pub mod TwoLinks
 pub mod Sleeping

@@ -25,7 +25,8 @@ use Rattle.ddcmp_laws.specs.MailLines.{mails_in}
 use Rattle.ddcmp_laws.specs.Pipe.{undelivered}
 use Rattle.ddcmp_laws.specs.Prefix.{Begins}
 use Rattle.ddcmp_laws.specs.SessionRuns.{Ran, given_since, got_to}
-use Rattle.ddcmp_laws.specs.Sessions.{IsPlain, got_in, mail_in, messages_of, texts_of}
+use Rattle.ddcmp_laws.specs.Sessions.{IsPlain, IsTakenAsWritten, got_in, mail_in, messages_of}
+use Rattle.ddcmp_laws.specs.Sessions.{texts_of}
 use Rattle.ddcmp_laws.proofs.Anew.{text_of_all}
 use Rattle.ddcmp_laws.proofs.BytesArrive.{WasRun, over-one-line, was-run}
 use Rattle.ddcmp_laws.proofs.Extended.{Extended, delivered_to, extended}
@@ -33,8 +34,8 @@ use Rattle.ddcmp_laws.proofs.Finished.{lost_at_last, mail_at_last, none_first_wa
 use Rattle.ddcmp_laws.proofs.Finished.{taken_at_last, took_first, took_lines}
 use Rattle.ddcmp_laws.proofs.LineInputs.{given_first, given_lines, message_of}
 use Rattle.ddcmp_laws.proofs.OneConnection.{one_history}
-use Rattle.ddcmp_laws.proofs.RunLaws.{all-to-b, first-to-b}
-use Rattle.ddcmp_laws.proofs.ShownLines.{mails_of_output, mails_written}
+use Rattle.ddcmp_laws.proofs.RunLaws.{all-to-b, begins-both, first-to-b, writes-all-b}
+use Rattle.ddcmp_laws.proofs.ShownLines.{all_tell, mails_of_output, mails_written}
 
 abbrev digits : List (List ℕ) → List (List ℕ)
 digits messages = map encode_lower messages
@@ -78,6 +79,7 @@ record Output (options : Options) (after : Traffic) : Type 0 where
   new : SessionView
   written : List ℕ
   run : Extended options after new written
+  begins : Begins written after.written
   mails : IsPrefixOf (mails_in after.written) (digits (mail_in (got_to run.ran).history.shown))
 
 -- what its output had taken, and what is queued, is the text of what was shown
@@ -126,6 +128,10 @@ output-of is_well options lines kind last after new =
           new = f.delivered;
           written = before;
           run = x;
+          begins = (
+            taken,
+            sym (taken_at_last is_well w.ran w.held w.t after last w.finished).1,
+          );
           mails =
               mails_written after.written last.output.waiting shown counted link some.0 some.1
               (ap (λ ws. ws ++ last.output.waiting)
@@ -148,6 +154,7 @@ output-of is_well options lines kind last after new =
           new = last;
           written = after.written;
           run = x;
+          begins = ([], append-nil after.written);
           mails =
               mails_written after.written last.output.waiting shown last.options.counters last.link
               [] (end_text last.options.counters last.link, refl)
@@ -156,6 +163,26 @@ output-of is_well options lines kind last after new =
         }
 
 -- ---- two runs
+
+-- the messages of what was written of an output
+mails-of-front : (options : Options) (after : Traffic) (o : Output options after)
+    → options.form ≡ form.Digits → (messages : List (List ℕ))
+    → IsTakenAsWritten o.run.ran.made.options.form (got_to o.run.ran).history messages
+    → IsPrefixOf (digits messages) (mails_in after.written)
+mails-of-front options after o is messages w =
+    let h = (got_to o.run.ran).history in
+    let front = w.front in
+    let more = w.text.0 ++ o.begins.0 in
+    let text : texts_of form.Digits front ++ more ≡ after.written =
+    sym (append_assoc (texts_of form.Digits front) w.text.0 o.begins.0)
+    ∙ ap (λ f. (texts_of f front ++ w.text.0) ++ o.begins.0)
+    (sym (ap (λ (p : Options). p.form) o.run.same ∙ is))
+    ∙ ap (λ xs. xs ++ o.begins.0) (w.text.1 ∙ sym o.run.agrees.written ∙ o.run.written)
+    ∙ o.begins.1 in (
+      mails_in more,
+      ap (λ ms. digits ms ++ mails_in more) w.mail ∙ sym (all_tell front more)
+          ∙ ap mails_in text,
+    )
 
 pub lines-begin : (is_well other_is_well : Bool) (options other_options : Options)
     (kind other_kind : LineKind) (last other_last : SessionView) (t u : Traffic)
@@ -240,3 +267,45 @@ lines-arrive options other_options kind other_kind last other_last t u f g in_li
     (subst (λ (o : Options). All (IsLine o.config.max) of) (sym a.same) fit)
     (sym (read_at_last true a.ran a.held a.t t last a.finished) ∙ file))
     ∙ digits-of of
+
+-- and what the other wrote, if that acknowledges what it has written
+pub lines-written : (other_is_well : Bool) (options other_options : Options)
+    (kind other_kind : LineKind) (last other_last : SessionView) (t u : Traffic)
+    → first_refusal options.config ≡ None → first_refusal other_options.config ≡ None
+    → IsInLines options → IsInLines other_options → other_options.acknowledge_early ≡ false
+    → RunsNew true options kind (Some no_traffic) last (Some t) → last.course.lost ≡ 0
+    → RunsNew other_is_well other_options other_kind (Some no_traffic) other_last (Some u)
+    → IsOneLine options other_options t u → LinesArrive options t u
+lines-written other_is_well options other_options kind other_kind last other_last t u f g in_lines_a
+    in_lines_b early ran none other line of returns fit file =
+    let a = was-run true options (plain-lines options in_lines_a) kind last t ran in
+    let o = output-of other_is_well other_options in_lines_b other_kind other_last u other in
+    let b = o.run in
+    let both =
+    over-one-line a.ran b.ran options other_options t u a.left b.left a.same b.same f g a.done
+    b.done a.follows b.follows line in
+    let is = ap (λ (o : Options). o.form) a.same ∙ in_lines_a.form in
+    let w =
+    writes-all-b a.ran b.ran both.fits_a both.fits_b a.done b.done both.together
+    (ap (λ (o : Options). o.acknowledge_early) b.same ∙ early) a.held a.t a.finished.closed
+    a.finished.ended (lost_at_last true a.ran a.held a.t t last a.finished ∙ none) in
+    let given : mail_in (got_to b.ran).shown_before ++ given_since a.ran.made (got_to a.ran) a.t
+    ≡ map message_of of =
+    ap (λ ms. ms ++ given_since a.ran.made (got_to a.ran) a.t)
+    (one_history b.ran b.done both.once_b).before.none_delivered
+    ∙ given-once a.ran a.t is (one_history a.ran a.done both.once_a).before.none_read
+    ∙ given_lines a.ran.made a.t of returns is
+    (subst (λ (o : Options). All (IsLine o.config.max) of) (sym a.same) fit)
+    (sym (read_at_last true a.ran a.held a.t t last a.finished) ∙ file) in
+    let front =
+    mails-of-front other_options u o in_lines_b.form (map message_of of)
+    (subst (IsTakenAsWritten b.ran.made.options.form (got_to b.ran).history) given w) in
+    let first =
+    lines-begin true other_is_well options other_options kind other_kind last other_last t u f g
+    in_lines_a in_lines_b ran other line of returns fit
+    (record {
+      begins = ([], append-nil t.read ∙ file);
+      whole = λ e. file;
+    }) in
+    begins-both (mails_in u.written) (digits_of of) first.0 front.0 first.1
+    (ap (λ ms. ms ++ front.0) (sym (digits-of of)) ∙ front.1)

@@ -25,9 +25,12 @@ use Rattle.ddcmp_laws.specs.LinkRestarts.{IsKeptAnew}
 use Rattle.ddcmp_laws.specs.StationRuns.{after_station_call_here, after_station_call}
 use Rattle.ddcmp_laws.specs.StationRuns.{run_station_calls, station_call, has_heard_none}
 use Rattle.ddcmp_laws.proofs.LinkCalls.{step_same, new_same}
-use Rattle.ddcmp_laws.proofs.Acknowledged.{IsAcknowledged}
+use Rattle.ddcmp_laws.proofs.Acknowledged.{AllTaken, IsAcknowledged}
+use Rattle.ddcmp_laws.proofs.ByUser.{by_user_after_all}
 use Rattle.ddcmp_laws.proofs.StationRuns.{Kept, kept-acknowledged, kept-calls, kept-in-order}
-use Rattle.ddcmp_laws.proofs.TwoLinks.{AreSame, NoneOut, acknowledged_all, none_out, reaches}
+use Rattle.ddcmp_laws.proofs.StationRuns.{kept-taken}
+use Rattle.ddcmp_laws.proofs.TwoLinks.{AreSame, AreTaken, NoneOut, acknowledged_all, are_taken}
+use Rattle.ddcmp_laws.proofs.TwoLinks.{none_out, reaches}
 
 -- ---- calls at one end
 
@@ -170,6 +173,21 @@ module _ (start : PairState) (links : Links) (same : AreSame start links) (kept 
   pub anew-acknowledged-to-a : NoneOut (after_links steps links).b
       → received (after_links steps links).a ≡ (after_links steps links).b.accepted
   anew-acknowledged-to-a = acknowledged_all _ _ _ _ ends.b ends.a both.b_to_a told.1
+
+  taken : AllTaken (run_station_calls calls start)
+  taken = kept-taken start kept calls honest clean
+
+  pub anew-taken-from-b : start.b.core.station.by_user ≡ true
+      → AreTaken (after_links steps links).a (after_links steps links).b
+  anew-taken-from-b e =
+      are_taken _ _ _ _ ends.a ends.b both.a_to_b told.0
+      (taken.0 (by_user_after_all B calls start ∙ e))
+
+  pub anew-taken-from-a : start.a.core.station.by_user ≡ true
+      → AreTaken (after_links steps links).b (after_links steps links).a
+  anew-taken-from-a e =
+      are_taken _ _ _ _ ends.b ends.a both.b_to_a told.1
+      (taken.1 (by_user_after_all A calls start ∙ e))
 
   pub anew-all-to-b : delivered (after_links steps links).a.link ≡ true
       → received (after_links steps links).b ≡ (after_links steps links).a.accepted

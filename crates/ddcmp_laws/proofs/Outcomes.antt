@@ -2,9 +2,9 @@
 use Rattle.std.proofs.Common.{◌≡◌, ℕ, Bool, true, false, List, [], ◌∷◌}
 use Rattle.std.proofs.Common.{◌++◌, length, map, refl, sym, ◌∙◌, ap, subst, arith, append_assoc}
 use Rattle.std.proofs.Common.{append-nil, cond, None}
-use Rattle.std.specs.Prelude.{◌&&◌, not}
+use Rattle.std.specs.Prelude.{◌&&◌, ◌||◌, not}
 use Rattle.std.specs.List.{All}
-use Rattle.ddcmp_input.specs.InBinary.{in_binary, behind_length, told_in, Fits}
+use Rattle.ddcmp_input.specs.InBinary.{in_binary, told_in, Fits}
 use Rattle.ddcmp_input.specs.Lengths as lengths
 use Rattle.ddcmp_input.specs.Told.{Got}
 use Rattle.ddcmp_input.proofs.BinaryLaws as in_binary_laws
@@ -32,9 +32,12 @@ use Rattle.ddcmp_laws.specs.Links.{AreStartedOnce, received, LinkReaches}
 use Rattle.ddcmp_laws.specs.LinkLines.{AreLinkCalls, calls_of_steps}
 use Rattle.ddcmp_laws.specs.Faithful.{bytes_of, written}
 use Rattle.ddcmp_laws.proofs.FaithfulLaws.{IsWell, sound_made}
-use Rattle.ddcmp_laws.proofs.Queues.{IsQueued, all_of}
-use Rattle.ddcmp_laws.proofs.TwoLinks.{IsFreshStart, NoneOut, acknowledged_to_a, acknowledged_to_b}
-use Rattle.ddcmp_laws.proofs.TwoLinks.{none_out, reaches_a, reaches_b, streams_from}
+use Rattle.ddcmp_laws.proofs.Late.{are_written, late_a, late_b}
+use Rattle.ddcmp_laws.proofs.Queues.{IsQueued, all_of, taken_of}
+use Rattle.ddcmp_laws.proofs.TakenWritten.{late_first}
+use Rattle.ddcmp_laws.proofs.TwoLinks.{AreTaken, IsFreshStart, NoneOut, acknowledged_to_a}
+use Rattle.ddcmp_laws.proofs.TwoLinks.{acknowledged_to_b, none_out, reaches_a, reaches_b}
+use Rattle.ddcmp_laws.proofs.TwoLinks.{stream_calls, stream_honest, taken_from_a, taken_from_b}
 use Rattle.ddcmp_session.specs.Calls.{SessionHistory, SessionStep, end_in}
 use Rattle.ddcmp_laws.specs.Sessions.{messages_of, mail_in, got_in, texts_of}
 use Rattle.ddcmp_laws.specs.Loops.{DevicesDeliver, DevicesPipe, DevicesPipeAll}
@@ -45,11 +48,12 @@ use Rattle.ddcmp_laws.specs.Pipe.{after_session_at, AreSessionCalls, after_sessi
 use Rattle.ddcmp_laws.specs.Pipe.{link_steps_at, AreConnectedOnce}
 use Rattle.ddcmp_laws.specs.Pipe.{undelivered, Pipes, PipesAll, PipesBytes, PipesClosed}
 use Rattle.ddcmp_laws.specs.Pipe.{PipesWhole}
+use Rattle.ddcmp_laws.specs.Written.{PipesWritten, unacknowledged}
 use Rattle.ddcmp_laws.specs.Pipe.{IsKeptByPipes, SessionsOverStreams}
 use Rattle.ddcmp_laws.specs.Pipe.{IsKeptOverConnections}
 use Rattle.ddcmp_laws.proofs.Given.{gave_more, no_more, none_unread}
 use Rattle.ddcmp_laws.proofs.Inputs.{got_more}
-use Rattle.ddcmp_laws.proofs.Texts.{only_mail}
+use Rattle.ddcmp_laws.proofs.Texts.{binary_more, only_mail}
 use Rattle.ddcmp_laws.proofs.Holding.{Holds, link_history}
 use Rattle.ddcmp_laws.proofs.LinkSteps.{begins}
 use Rattle.ddcmp_laws.proofs.Losing.{closed-none, counts-a, counts-b, new-counts}
@@ -74,13 +78,6 @@ delivers_first f max g other giver taker j k queued r = (
       ∙ ap (λ ms. ms ++ r.order.0) (all_of taker.session taker.shown queued)
       ∙ r.order.1,
 )
-
-pub binary_more : (xs ys : List (List ℕ)) → in_binary (xs ++ ys) ≡ in_binary xs ++ in_binary ys
-unfolding in_binary
-binary_more [] ys = refl
-binary_more (x ∷ xs) ys =
-    ap (λ t. behind_length x ++ t) (binary_more xs ys)
-    ∙ sym (append_assoc (behind_length x) (in_binary xs) (in_binary ys))
 
 pub got_all : (messages : List (List ℕ)) → got_in (map Got messages) ≡ messages
 unfolding got_in
@@ -192,12 +189,14 @@ devices_pipe_closed made other giver taker holds delivers is other_is messages f
 
 -- ---- from two new sessions
 
--- what two links do
-pub record LinksDo (q : Links) : Type 0 where
+-- what the links of two sessions do
+pub record LinksDo (first second : Made) (q : Links) : Type 0 where
   pub to_b : LinkReaches q.a q.b
   pub to_a : LinkReaches q.b q.a
   pub all_b : NoneOut q.a → received q.b ≡ q.a.accepted
   pub all_a : NoneOut q.b → received q.a ≡ q.b.accepted
+  pub taken_b : second.options.acknowledge_early ≡ false → AreTaken q.a q.b
+  pub taken_a : first.options.acknowledge_early ≡ false → AreTaken q.b q.a
 
 -- the links of two sessions after their calls
 abbrev pub links_after : Made → Made → List (End × SessionStep) → Links
@@ -237,6 +236,12 @@ made_holding first second f g =
     acts-hold first.options.config second.options.config
     (Chooses A (not (takes_at_once first.options))
     ∷ Chooses B (not (takes_at_once second.options)) ∷ []) f g
+
+-- it acknowledges messages when they are taken, unless it is to do so early
+pub chosen_late : (made : Made) → made.options.acknowledge_early ≡ false
+    → (after_choice_here (not (takes_at_once made.options))
+    (new_end made.options.config)).core.station.by_user ≡ true
+chosen_late made early = λ i. not (made.plain.of_data i || early i)
 
 chosen_alone : (made : Made) → first_refusal made.options.config ≡ None
     → IsAlone (after_choice_here (not (takes_at_once made.options)) (new_end made.options.config))
@@ -296,17 +301,14 @@ module _ (first second : Made) (steps : List (End × SessionStep)) where
         omega (arith, e, h);
   }
 
-  pub honest_links : first_refusal first.options.config ≡ None
-      → first_refusal second.options.config ≡ None
-      → AreSessionCalls steps (new_sessions first second)
+  links_do : first_refusal first.options.config ≡ None → first_refusal second.options.config ≡ None
+      → AreLinkCalls (link_steps_at steps (new_sessions first second)) (links_made first second)
       → (run_calls
       (calls_of_steps (link_steps_at steps (new_sessions first second)) (links_made first second))
       (pair_made first second)).honest ≡ true
-      → AreConnectedOnce steps → LinksDo (links_after first second steps)
-  honest_links f g does honest once =
+      → AreConnectedOnce steps → LinksDo first second (links_after first second steps)
+  links_do f g are honest once =
       let calls = link_steps_at steps (new_sessions first second) in
-      let keeps = keeps_steps first second steps (new_sessions first second) 0 0 does new_hold in
-      let are = subst (AreLinkCalls calls) (sym made_links) keeps.0 in
       let started = are_once once in
       let p = pair_made first second in
       let q = links_made first second in
@@ -316,43 +318,48 @@ module _ (first second : Made) (steps : List (End × SessionStep)) where
         to_a = reaches_a p q start calls are honest started;
         all_b = acknowledged_to_b p q start calls are honest started;
         all_a = acknowledged_to_a p q start calls are honest started;
+        taken_b =
+            λ early. taken_from_b p q start calls are honest started (chosen_late second early);
+        taken_a =
+            λ early. taken_from_a p q start calls are honest started (chosen_late first early);
       }
+
+  pub honest_links : first_refusal first.options.config ≡ None
+      → first_refusal second.options.config ≡ None
+      → AreSessionCalls steps (new_sessions first second)
+      → (run_calls
+      (calls_of_steps (link_steps_at steps (new_sessions first second)) (links_made first second))
+      (pair_made first second)).honest ≡ true
+      → AreConnectedOnce steps → LinksDo first second (links_after first second steps)
+  honest_links f g does honest once =
+      let calls = link_steps_at steps (new_sessions first second) in
+      let keeps = keeps_steps first second steps (new_sessions first second) 0 0 does new_hold in
+      links_do f g (subst (AreLinkCalls calls) (sym made_links) keeps.0) honest once
 
   pub stream_links : first_refusal first.options.config ≡ None
       → first_refusal second.options.config ≡ None
       → SessionsOverStreams steps (new_sessions first second) → AreConnectedOnce steps
-      → LinksDo (links_after first second steps)
+      → LinksDo first second (links_after first second steps)
   stream_links f g over once =
       let calls = link_steps_at steps (new_sessions first second) in
       let are =
       subst (LinkOverStreams calls) (sym made_links)
       (stream_steps first second steps (new_sessions first second) 0 0 over new_hold
       (record { to_a = ([], refl); to_b = ([], refl) })) in
-      let started = are_once once in
-      let p = pair_made first second in
-      let q = links_made first second in
-      let start = made_start first second f g in
-      record {
-        to_b = streams_from (λ q. LinkReaches q.a q.b) reaches_b p q start calls are started;
-        to_a = streams_from (λ q. LinkReaches q.b q.a) reaches_a p q start calls are started;
-        all_b =
-            streams_from (λ q. NoneOut q.a → received q.b ≡ q.a.accepted) acknowledged_to_b p q
-            start calls are started;
-        all_a =
-            streams_from (λ q. NoneOut q.b → received q.a ≡ q.b.accepted) acknowledged_to_a p q
-            start calls are started;
-      }
+      links_do f g (stream_calls calls (links_made first second) are)
+      (stream_honest (pair_made first second) (links_made first second)
+      (made_start first second f g) calls are) once
 
   module _ (does : AreSessionCalls steps (new_sessions first second))
-      (links : LinksDo (links_after first second steps)) where
+      (links : LinksDo first second (links_after first second steps)) where
     keeps : Keeps first second steps (new_sessions first second) 0 0
     keeps = keeps_steps first second steps (new_sessions first second) 0 0 does new_hold
 
-    done : LinksDo
+    done : LinksDo first second
         (links_of first second (after_sessions steps (new_sessions first second)) keeps.1.0
         keeps.1.1)
     done =
-        subst LinksDo
+        subst (LinksDo first second)
         (ap (after_steps (link_steps_at steps (new_sessions first second))) made_links
         ∙ keeps.1.2) links
 
@@ -417,6 +424,28 @@ module _ (first second : Made) (steps : List (End × SessionStep)) where
           nothing.1,
           nothing.2,
         )
+
+    pub written_b : PipesWritten first second (after_sessions steps (new_sessions first second)).a
+        (after_sessions steps (new_sessions first second)).b
+    written_b early =
+        let p = after_sessions steps (new_sessions first second) in
+        let t = done.taken_b early in
+        are_written second.options.form p.b [] (taken_of p.b.session p.b.shown)
+        (messages_of first.options.form first.options.config.max p.a.input)
+        (length (unacknowledged p.a)) t.order t.few refl
+        (late_b second steps (new_sessions first second) does new_hold.1
+        (late_first second.options second.kind second.line second.plain early)).taken
+
+    pub written_a : PipesWritten second first (after_sessions steps (new_sessions first second)).b
+        (after_sessions steps (new_sessions first second)).a
+    written_a early =
+        let p = after_sessions steps (new_sessions first second) in
+        let t = done.taken_a early in
+        are_written first.options.form p.a [] (taken_of p.a.session p.a.shown)
+        (messages_of second.options.form second.options.config.max p.b.input)
+        (length (unacknowledged p.b)) t.order t.few refl
+        (late_a first steps (new_sessions first second) does new_hold.0
+        (late_first first.options first.kind first.line first.plain early)).taken
 
     pub bytes_b : PipesBytes first second (after_sessions steps (new_sessions first second)).a
         (after_sessions steps (new_sessions first second)).b
@@ -503,7 +532,7 @@ module _ (first second : Made) (steps : List (End × SessionStep)) where
 abbrev pub Outcome : (Made → Made → Sessions → Type 0) → Type 0
 Outcome Promise = (first second : Made) (steps : List (End × SessionStep))
     → AreSessionCalls steps (new_sessions first second)
-    → LinksDo (links_after first second steps)
+    → LinksDo first second (links_after first second steps)
     → Promise first second (after_sessions steps (new_sessions first second))
 
 pub over_honest : (Promise : Made → Made → Sessions → Type 0) → Outcome Promise

@@ -1,9 +1,11 @@
 -- Two runs over devices, in some order of their calls.
 use Rattle.std.proofs.Common.{◌≡◌, ◌≢◌, ◌∙◌, ap, sym, subst, refl, Bool, true, false, cond, List, []}
 use Rattle.std.proofs.Common.{◌∷◌, ◌++◌, length, drop, append_assoc, append-nil, Option, Some, None}
+use Rattle.std.proofs.Common.{ℕ, ◌≤◌, arith, length-append}
 use Rattle.std.specs.Prelude.{◌||◌}
+use Rattle.std.specs.List.{All}
 use Rattle.ddcmp_frame.specs.Reader.{StandsFor}
-use Rattle.ddcmp_input.specs.InBinary.{in_binary, told_in}
+use Rattle.ddcmp_input.specs.InBinary.{Fits, in_binary, told_in}
 use Rattle.ddcmp_proto.specs.Config.{first_refusal}
 use Rattle.ddcmp_laws.specs.Prefix.{Begins}
 use Rattle.ddcmp_io.specs.declared.carrier.End.{End}
@@ -16,7 +18,7 @@ use Rattle.ddcmp_session.specs.Calls.{Received, Filled, LineTook, TimedOut, Time
 use Rattle.ddcmp_session.specs.Calls.{OutputTook, Closed, SessionStep, SessionHistory, end_in}
 use Rattle.ddcmp_session.specs.Calls.{is_told_in}
 use Rattle.ddcmp_session.specs.Connections.{AreDone, Connection, Does, after_all, after_step}
-use Rattle.ddcmp_session.specs.Devices.{BuffersView, nothing_read}
+use Rattle.ddcmp_session.specs.Devices.{Agrees, BuffersView, nothing_read}
 use Rattle.ddcmp_session.specs.Traffic.{Traffic, no_traffic}
 use Rattle.ddcmp_session.specs.Lines.{AllKeepOpen, Closes, Ends, IsReady, KeepsOpen, WentOver}
 use Rattle.ddcmp_streams.specs.Messages.{after_input, entries_of_input}
@@ -24,17 +26,20 @@ use Rattle.ddcmp_session.proofs.InputLaws.{form-stays}
 use Rattle.ddcmp_session.specs.Session.{form_of}
 use Rattle.ddcmp_laws.proofs.Reading.{reads-on}
 use Rattle.ddcmp_session.proofs.GoingLaws.{same-at}
-use Rattle.ddcmp_laws.specs.Sessions.{got_in, messages_of, mail_in}
+use Rattle.ddcmp_laws.specs.Sessions.{IsTakenAsWritten, got_in, messages_of, mail_in, texts_of}
 use Rattle.ddcmp_laws.specs.Pipe.{Made, session_of}
 use Rattle.ddcmp_laws.specs.Connections.{AreCalls, Connections, PipesAnew, PipesClosedAnew}
+use Rattle.ddcmp_laws.specs.Written.{PipesWrittenAnew, unacknowledged}
 use Rattle.ddcmp_laws.specs.Connections.{WritesAnew, after_steps, after_step_at, delivered_since}
 use Rattle.ddcmp_laws.specs.Connections.{first_connection, first_connections, read_since}
 use Rattle.ddcmp_laws.specs.EachLine.{DeliversLine, IsReadOverLines, read_over_lines}
 use Rattle.ddcmp_laws.specs.Loops.{messages_given}
 use Rattle.ddcmp_laws.specs.SessionRuns.{DeliversAll, DeliversFirst, FilesBegin, FilesPass}
+use Rattle.ddcmp_laws.specs.SessionRuns.{InFiles}
 use Rattle.ddcmp_laws.specs.SessionRuns.{Ran, RanTogether, WasEnded, calls_of, given_since, got_to}
 use Rattle.ddcmp_laws.proofs.Anew.{Stays}
-use Rattle.ddcmp_laws.proofs.AnewPipes.{AcknowledgedAnew, acknowledged_anew_a}
+use Rattle.ddcmp_laws.proofs.AnewPipes.{AcknowledgedAnew, KeepsNone, acknowledged_anew_a}
+use Rattle.ddcmp_laws.proofs.AnewPipes.{keeps_none_a, keeps_none_b, written_anew_a, written_anew_b}
 use Rattle.ddcmp_laws.proofs.Anew.{left_out}
 use Rattle.ddcmp_laws.proofs.AnewPipes.{acknowledged_anew_b, closed_anew_a, closed_anew_b}
 use Rattle.ddcmp_laws.proofs.Anew.{stays_all}
@@ -46,8 +51,9 @@ use Rattle.ddcmp_laws.proofs.EachLine.{left-with-none, none-in-nothing, read-ove
 use Rattle.ddcmp_laws.proofs.Given.{gave_more, messages_more, no_more, none_unread, unread}
 use Rattle.ddcmp_laws.proofs.Losing.{closed-loses}
 use Rattle.ddcmp_laws.proofs.LosingAnew.{session-after}
-use Rattle.ddcmp_laws.proofs.Outcomes.{binary_more, read_all, read_first}
+use Rattle.ddcmp_laws.proofs.Outcomes.{read_all, read_first}
 use Rattle.ddcmp_laws.proofs.OverLines.{agrees_first}
+use Rattle.ddcmp_laws.proofs.Texts.{binary_more, only_mail}
 
 -- ---- calls in an order
 
@@ -286,6 +292,81 @@ files_pass giver taker delivers writes files messages fit held other_held t othe
     ∙ written_is taker files.taker_form files.none_delivered writes
     ∙ ap in_binary given
 
+-- All messages that one was given since it was connected, if it was ended and lost nothing, are in
+-- what the other has written.
+abbrev pub WritesAll : Ran → Ran → Type 0
+WritesAll giver taker = taker.made.options.acknowledge_early ≡ false
+    → (held : BuffersView) (t : Traffic) (closed : SessionView) → WasEnded giver held t closed
+    → closed.course.lost ≡ 0
+    → IsTakenAsWritten taker.made.options.form (got_to taker).history
+    (mail_in (got_to taker).shown_before ++ given_since giver.made (got_to giver) t)
+
+writes_all : (giver taker : Ran)
+    → PipesWrittenAnew giver.made taker.made (got_to giver) (got_to taker)
+    → KeepsNone (got_to giver) → AreDone giver.steps (first_connection giver.made)
+    → WritesAll giver taker
+writes_all giver taker writes keeps does early held t closed ended none =
+    let f = giver.made.options.form in
+    let max = giver.made.options.config.max in
+    let c = got_to giver in
+    let w = writes early in
+    let out =
+    (keeps held.input held.is_over ended.closes.is_reported closed ended.closes.closed none).0 in
+    let given : w.mail ≡ given_since giver.made c t =
+    sym (append-nil w.mail)
+    ∙ ap (λ ms. w.mail ++ ms) (sym (nothing-left w.rest (unacknowledged c.history) w.few out))
+    ∙ w.all
+    ∙ ap (drop (length (messages_of f max c.input_before)))
+    (sym (given-read giver does held t closed ended none)) in
+    subst
+    (λ ms. IsTakenAsWritten taker.made.options.form (got_to taker).history
+    (mail_in (got_to taker).shown_before ++ ms)) given w.written
+  where
+    nothing-left : (rest out : List (List ℕ)) → length rest ≤ length out → out ≡ [] → rest ≡ []
+    nothing-left [] out few none = refl
+    nothing-left (m ∷ rest) out few none = let e = ap length none in absurd (omega (arith, few, e))
+
+-- of two lists of which each begins with the other
+pub begins-both : {X : Type 0} (xs ys more rest : List X) → xs ++ more ≡ ys → ys ++ rest ≡ xs → xs ≡ ys
+begins-both xs ys [] rest e f = sym (append-nil xs) ∙ e
+begins-both xs ys (a ∷ more) rest e f =
+    let m = length-append xs (a ∷ more) in
+    let n = length-append ys rest in
+    let k = ap length e in
+    let l = ap length f in
+    absurd (omega (arith, m, n, k, l))
+
+-- The whole file was written to the other's output, whatever is left there, unless that is to
+-- acknowledge early.
+abbrev pub FilesWritten : Ran → Ran → Type 0
+FilesWritten giver taker = InFiles giver taker → taker.made.options.acknowledge_early ≡ false
+    → (messages : List (List ℕ)) → All (Fits giver.made.options.config.max) messages
+    → (held other_held : BuffersView) (t other_t : Traffic) (closed : SessionView)
+    → WasEnded giver held t closed → Agrees other_held (got_to taker).history other_t
+    → closed.course.lost ≡ 0 → t.read ≡ in_binary messages
+    → other_t.written ≡ in_binary messages
+
+files_written : (giver taker : Ran) → FilesBegin giver taker → WritesAll giver taker
+    → FilesWritten giver taker
+files_written giver taker begins writes files early messages fit held other_held t other_t closed
+    ended b none file =
+    let max = giver.made.options.config.max in
+    let w = writes early held t closed ended none in
+    let given : mail_in w.front ≡ messages =
+    sym w.mail
+    ∙ ap (λ ms. ms ++ given_since giver.made (got_to giver) t) files.none_delivered
+    ∙ given_binary giver.made (got_to giver) t files.giver_form files.none_read
+    ∙ ap (messages_of form.Binary max) file
+    ∙ read_all max messages fit in
+    let text : texts_of taker.made.options.form w.front ≡ in_binary messages =
+    ap (λ f. texts_of f w.front) files.taker_form ∙ only_mail w.front ∙ ap in_binary given in
+    let first =
+    begins files messages fit held other_held t other_t ended.agrees b
+    ([], append-nil t.read ∙ file) in
+    sym
+    (begins-both (in_binary messages) other_t.written w.text.0 first.0
+    (ap (λ xs. xs ++ w.text.0) (sym text) ∙ w.text.1 ∙ sym b.written) first.1)
+
 -- ---- of two runs
 
 module _ (a b : Ran) (f : first_refusal a.made.options.config ≡ None)
@@ -378,6 +459,28 @@ module _ (a b : Ran) (f : first_refusal a.made.options.config ≡ None)
 
   pub files-begin-a : FilesBegin b a
   files-begin-a = files_begin b a first-to-a writes_a
+
+  pub writes-all-b : WritesAll a b
+  writes-all-b =
+      writes_all a b
+      (subst (λ (q : Connections). PipesWrittenAnew a.made b.made q.a q.b) both_at
+      (written_anew_b a.made b.made steps f g in_order.0 together.honest together.clean))
+      (subst (λ (q : Connections). KeepsNone q.a) both_at
+      (keeps_none_a a.made b.made steps f g in_order.0 together.honest together.clean)) done_a
+
+  pub writes-all-a : WritesAll b a
+  writes-all-a =
+      writes_all b a
+      (subst (λ (q : Connections). PipesWrittenAnew b.made a.made q.b q.a) both_at
+      (written_anew_a a.made b.made steps f g in_order.0 together.honest together.clean))
+      (subst (λ (q : Connections). KeepsNone q.b) both_at
+      (keeps_none_b a.made b.made steps f g in_order.0 together.honest together.clean)) done_b
+
+  pub files-written-b : FilesWritten a b
+  files-written-b = files_written a b files-begin-b writes-all-b
+
+  pub files-written-a : FilesWritten b a
+  files-written-a = files_written b a files-begin-a writes-all-a
 
   pub files-pass-b : FilesPass a b
   files-pass-b = files_pass a b all-to-b writes_b

@@ -40,6 +40,7 @@ use Rattle.ddcmp_pair.specs.Run.{acknowledged_in}
 use Rattle.ddcmp_pair.specs.Run.{after_arrival_here, after_event_here, after_event_at, after_event}
 use Rattle.ddcmp_pair.specs.Run.{clear_refusal, after_clear_by, run, new_end, new_pair, is_clean}
 use Rattle.ddcmp_pair.proofs.Linked.{Linked, linked-choose, linked-turned, linked-event, starts-grow}
+use Rattle.ddcmp_pair.proofs.Modes.{holds-taken}
 use Rattle.ddcmp_pair.proofs.Ordered.{Holds, IsFresh, clean-means, fresh-linked, fresh-new}
 use Rattle.ddcmp_pair.proofs.Ordered.{fresh-cleared, holds-new, holds-at, none-at, delivers}
 use Rattle.ddcmp_pair.proofs.Ordered.{may-clear}
@@ -64,7 +65,7 @@ use Rattle.ddcmp_pair.specs.Choices.{after_choice_here}
 use Rattle.ddcmp_laws.proofs.PairCallLaws.{one_same, order_same, links_same, notices_same}
 use Rattle.ddcmp_laws.proofs.PairCallLaws.{honest_same}
 use Rattle.ddcmp_laws.proofs.PairCallLaws.{clean_same}
-use Rattle.ddcmp_laws.proofs.Acknowledged.{IsAcknowledged, AllAcknowledged, linked_all}
+use Rattle.ddcmp_laws.proofs.Acknowledged.{IsAcknowledged, AllAcknowledged, AllTaken, linked_all}
 
 -- ---- an end that has heard nothing
 
@@ -529,6 +530,18 @@ kept-acknowledged start kept calls h c =
     let both : AllAcknowledged (noted q) =
     (linked_all q.a q.b l, linked_all q.b q.a (linked-turned q.a q.b l)) in
     subst AllAcknowledged (sym k.same) both
+
+pub kept-taken : (start : PairState) → Kept start → (calls : List (End × StationCall))
+    → (run_station_calls calls start).honest ≡ true
+    → is_clean (run_station_calls calls start) ≡ true → AllTaken (run_station_calls calls start)
+kept-taken start kept calls h c =
+    let k = kept-run calls start kept in
+    let p = run_station_calls calls start in
+    let q = k.pair in
+    let both : AllTaken (noted q) =
+    holds-taken q k.keeps.holds (sym (honest_same p q k.same) ∙ h)
+    (sym (clean_same p q k.same) ∙ c) in
+    subst AllTaken (sym k.same) both
 
 -- where a user has chosen when messages are acknowledged
 pub alone-chosen : (by_user : Bool) (x : EndState) → IsAlone x

@@ -131,6 +131,11 @@ takes_quiet n d l none = ap (λ m. (after_history (takes_put m d) l).taken) none
 abbrev pub AsWritten : MessageForm → SessionHistory → Type 0
 AsWritten f h = IsTakenAsWritten f h (taken_of h.session h.shown)
 
+-- a session that takes a message once its text was written, and what it took
+pub record IsLate (f : MessageForm) (h : SessionHistory) : Type 0 where
+  pub late : takes_at_once h.session.options ≡ false
+  pub taken : AsWritten f h
+
 module _ (f : MessageForm) (max : ℕ) (step : SessionStep) (h : SessionHistory)
     (does : SessionDoes step.call h.used h.session step.session) (holds : Holds f max h)
     (late : takes_at_once h.session.options ≡ false) (p : AsWritten f h) where
@@ -241,24 +246,43 @@ module _ (f : MessageForm) (max : ℕ) (h : SessionHistory) (holds : Holds f max
       quiet f max (to (Closed left over r) new) h d holds late p
       (append-nil (taken_of h.session h.shown))
 
+pub late_step : (f : MessageForm) (max : ℕ) (step : SessionStep) (h : SessionHistory)
+    → SessionDoes step.call h.used h.session step.session → Holds f max h → IsLate f h
+    → IsLate f (after_session_step step h)
+late_step f max step h does holds l = record {
+  late = ap takes_at_once (options_stay step h does) ∙ l.late;
+  taken = by_call f max h holds l.late l.taken step.call step.session does;
+}
+
 -- ---- all calls of a new session
 
-all_written : (f : MessageForm) (max : ℕ) (steps : List SessionStep) (h : SessionHistory)
-    → IsSessionHistory steps h → Holds f max h → takes_at_once h.session.options ≡ false
-    → AsWritten f h → AsWritten f (after_session_steps steps h)
+all_late : (f : MessageForm) (max : ℕ) (steps : List SessionStep) (h : SessionHistory)
+    → IsSessionHistory steps h → Holds f max h → IsLate f h
+    → IsLate f (after_session_steps steps h)
 unfolding after_session_steps
-all_written f max [] h does holds late p = p
-all_written f max (step ∷ rest) h does holds late p =
-    all_written f max rest (after_session_step step h) does.1
-    (step_leads f max step h 0 does.0 holds).1
-    (ap takes_at_once (options_stay step h does.0) ∙ late)
-    (by_call f max h holds late p step.call step.session does.0)
+all_late f max [] h does holds l = l
+all_late f max (step ∷ rest) h does holds l =
+    all_late f max rest (after_session_step step h) does.1
+    (step_leads f max step h 0 does.0 holds).1 (late_step f max step h does.0 holds l)
+
+pub late_first : (o : Options) (kind : LineKind) (line : ReaderView) → IsPlain o
+    → o.acknowledge_early ≡ false → IsLate o.form (new_session o kind line)
+unfolding mail_in texts_of
+late_first o kind line plain early = record {
+  late = λ i. plain.of_data i || early i;
+  taken = record {
+    front = [];
+    back = [];
+    shown = refl;
+    mail = take-none 0;
+    text = ([], refl);
+  };
+}
 
 pub is_as_written : (o : Options) (kind : LineKind) (line : ReaderView) (steps : List SessionStep)
     → IsPlain o → o.acknowledge_early ≡ false → IsSessionHistory steps (new_session o kind line)
     → IsTakenAsWritten o.form (after_session_steps steps (new_session o kind line))
     (after_history (link_steps_in steps (new_session o kind line)) (history_begun o line)).taken
-unfolding mail_in texts_of
 is_as_written o kind line steps plain early does =
     let new = new_session o kind line in
     let holds = (begins o kind line plain).0 in
@@ -267,12 +291,4 @@ is_as_written o kind line steps plain early does =
     ∙ (history_leads o.form o.config.max steps new 0 does holds).0.1.1 in
     subst (IsTakenAsWritten o.form (after_session_steps steps new))
     (sym (ap (λ (l : LinkHistory). l.taken) e))
-    (all_written o.form o.config.max steps new does holds
-    (λ i. plain.of_data i || early i)
-    (record {
-      front = [];
-      back = [];
-      shown = refl;
-      mail = take-none 0;
-      text = ([], refl);
-    }))
+    (all_late o.form o.config.max steps new does holds (late_first o kind line plain early)).taken

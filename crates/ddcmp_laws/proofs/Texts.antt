@@ -5,7 +5,7 @@ use Rattle.std.proofs.Common.{refl, sym, ◌∙◌, ap, append_assoc, append-nil
 use Rattle.std.proofs.Common.{option_to_list}
 use Rattle.std.proofs.lemmas.List.{take-append-drop}
 use Rattle.ddcmp_core.specs.declared.notice.Notice.{Notice}
-use Rattle.ddcmp_input.specs.InBinary.{in_binary}
+use Rattle.ddcmp_input.specs.InBinary.{behind_length, in_binary}
 use Rattle.ddcmp_streams.specs.declared.messages.MessageForm.{MessageForm}
 use Rattle.ddcmp_streams.specs.declared.messages.MessageForm.TheVariants as form
 use Rattle.ddcmp_io.specs.Queue.{QueueView}
@@ -115,3 +115,10 @@ only_mail [] = refl
 only_mail (Mail message ∷ rest) = ap (λ t. mail_text form.Binary message ++ t) (only_mail rest)
 only_mail (Reports notice ∷ rest) = only_mail rest
 only_mail (Loses count ∷ rest) = only_mail rest
+
+pub binary_more : (xs ys : List (List ℕ)) → in_binary (xs ++ ys) ≡ in_binary xs ++ in_binary ys
+unfolding in_binary
+binary_more [] ys = refl
+binary_more (x ∷ xs) ys =
+    ap (λ t. behind_length x ++ t) (binary_more xs ys)
+    ∙ sym (append_assoc (behind_length x) (in_binary xs) (in_binary ys))

@@ -1,7 +1,7 @@
 -- Two links, over honest lines and over streams.
-use Rattle.std.proofs.Common.{length-append, ◌≡◌, ℕ, ◌+◌, Bool, true, false, cond, List, [], ◌∷◌}
+use Rattle.std.proofs.Common.{length-append, ◌≡◌, ℕ, ◌+◌, ◌≤◌, Bool, true, false, cond, List, [], ◌∷◌}
 use Rattle.std.proofs.Common.{◌++◌, length}
-use Rattle.std.proofs.Common.{refl, sym, ◌∙◌, ap, subst, arith, None}
+use Rattle.std.proofs.Common.{refl, sym, ◌∙◌, ap, append_assoc, subst, arith, None}
 use Rattle.std.specs.Prelude.{◌&&◌}
 use Rattle.std.proofs.lemmas.List.Sums.{sum_by-append}
 use Rattle.ddcmp_frame.specs.Reader.{ReaderView}
@@ -14,6 +14,7 @@ use Rattle.ddcmp_station.specs.Linking.{LinkView, polls, delivered}
 use Rattle.ddcmp_io.specs.declared.carrier.End.{End}
 use Rattle.ddcmp_io.specs.declared.carrier.End.TheVariants.{A, B}
 use Rattle.ddcmp_pair.specs.InOrder.{Delivers, DeliversBothWays}
+use Rattle.ddcmp_pair.specs.Prefix.{IsPrefixOf}
 use Rattle.ddcmp_pair.specs.Run.{EndState, PairState, new_pair, is_clean}
 use Rattle.ddcmp_pair.proofs.Ready.{Holding}
 use Rattle.ddcmp_laws.specs.Faithful.{written, IsFaithful}
@@ -30,7 +31,8 @@ use Rattle.ddcmp_laws.specs.Links.{new_links, received, LinkReaches, IsKeptOverS
 use Rattle.ddcmp_laws.specs.LinkLines.{AreLinkCalls, calls_of_steps, IsKeptOverHonestLines}
 use Rattle.ddcmp_laws.proofs.PairCallLaws.{in_order, once_clean}
 use Rattle.ddcmp_laws.proofs.Acknowledged.{IsAcknowledged, acknowledged_calls, all_up}
-use Rattle.ddcmp_laws.proofs.Acknowledged.{first_of_three}
+use Rattle.ddcmp_laws.proofs.Acknowledged.{first_of_three, taken_calls}
+use Rattle.ddcmp_laws.proofs.ByUser.{by_user_after}
 use Rattle.ddcmp_laws.proofs.FaithfulLaws.{IsStraight, well_new}
 use Rattle.ddcmp_laws.proofs.Streaming.{streams_straight}
 use Rattle.ddcmp_laws.proofs.Waiting.{new_holding}
@@ -234,7 +236,7 @@ acknowledged_all x y h k s t d told e =
     sym
     (ap (λ ys. ys ++ y.core.station.inbox) t.taken
     ∙ ap (λ (c : CoreView). k.taken ++ c.station.inbox) t.core)
-    ∙ all_up x y d (told none) ∙ s.given
+    ∙ all_up x y d (omega (arith, told, none)) ∙ s.given
 
 pub counted_all : (x y : EndState) (h : LinkHistory) → IsSameEnd x h → Delivers x y
     → IsAcknowledged x → NoneOut h → h.acknowledged ≡ length h.accepted
@@ -242,13 +244,12 @@ counted_all x y h s d told e =
     let none : length x.core.station.out ≡ 0 =
     ap (λ (c : CoreView). length c.station.out) s.core ∙ e in
     let up = y.taken ++ y.core.station.inbox in
-    let most = told none in
     let least = d.acknowledged in
     let all : length up + length d.order.0 ≡ length x.given =
     sym (length-append up d.order.0) ∙ ap length d.order.1 in
     let count = s.acknowledged in
     let given : length x.given ≡ length h.accepted = ap length s.given in
-    omega (arith, most, least, all, count, given)
+    omega (arith, told, none, least, all, count, given)
 
 pub none_out : (h : LinkHistory) → delivered h.link ≡ true → NoneOut h
 none_out h e = first_of_three (length h.link.station.core.station.out) _ _ e
@@ -263,6 +264,29 @@ reaches x y h k s t d =
       acknowledged =
           let e = ap length up in let f = s.acknowledged in let g = d.acknowledged in
           omega (arith, e, f, g);
+    }
+
+-- Of the messages that one accepted all but those that it keeps were taken from the other.
+pub record AreTaken (giver taker : LinkHistory) : Type 0 where
+  pub order : IsPrefixOf taker.taken giver.accepted
+  pub few : length giver.accepted ≤ length taker.taken + length giver.link.station.core.station.out
+
+pub are_taken : (x y : EndState) (h k : LinkHistory) → IsSameEnd x h → IsSameEnd y k
+    → Delivers x y → IsAcknowledged x → x.acknowledged ≤ length y.taken → AreTaken h k
+are_taken x y h k s t d told taken =
+    let inbox = y.core.station.inbox in
+    record {
+      order = (
+        inbox ++ d.order.0,
+        ap (λ ms. ms ++ (inbox ++ d.order.0)) (sym t.taken)
+            ∙ sym (append_assoc y.taken inbox d.order.0) ∙ d.order.1 ∙ s.given,
+      );
+      few =
+          let given : length x.given ≡ length h.accepted = ap length s.given in
+          let count : length y.taken ≡ length k.taken = ap length t.taken in
+          let out : length x.core.station.out ≡ length h.link.station.core.station.out =
+          ap (λ (c : CoreView). length c.station.out) s.core in
+          omega (arith, told, taken, given, count, out);
     }
 
 -- two stations and their links, of which neither has started
@@ -311,6 +335,22 @@ module _ (start : PairState) (links : Links) (is : IsStart start links)
       acknowledged_all _ _ _ _ ends.b ends.a both.b_to_a
       (acknowledged_calls start is.holding.holds calls honest clean).1
 
+  pub taken_from_b : start.b.core.station.by_user ≡ true
+      → AreTaken (after_steps steps links).a (after_steps steps links).b
+  taken_from_b e =
+      are_taken _ _ _ _ ends.a ends.b both.a_to_b
+      (acknowledged_calls start is.holding.holds calls honest clean).0
+      ((taken_calls start is.holding.holds calls honest clean).0
+      (by_user_after B calls start ∙ e))
+
+  pub taken_from_a : start.a.core.station.by_user ≡ true
+      → AreTaken (after_steps steps links).b (after_steps steps links).a
+  taken_from_a e =
+      are_taken _ _ _ _ ends.b ends.a both.b_to_a
+      (acknowledged_calls start is.holding.holds calls honest clean).1
+      ((taken_calls start is.holding.holds calls honest clean).1
+      (by_user_after A calls start ∙ e))
+
   pub all_acknowledged_a : NoneOut (after_steps steps links).a
       → (after_steps steps links).a.acknowledged ≡ length (after_steps steps links).a.accepted
   all_acknowledged_a =
@@ -356,7 +396,7 @@ from_new Promise promise first second ms other_ms line other_line steps f g o ho
 
 -- ---- a stream is an honest line
 
-stream_calls : (steps : List (End × LinkStep)) (q : Links) → LinkOverStreams steps q
+pub stream_calls : (steps : List (End × LinkStep)) (q : Links) → LinkOverStreams steps q
     → AreLinkCalls steps q
 stream_calls [] q o = tt
 stream_calls (step ∷ rest) q o =
@@ -374,12 +414,18 @@ StreamsFrom Promise = (start : PairState) (links : Links) → IsFreshStart start
     → (steps : List (End × LinkStep)) → LinkOverStreams steps links → AreStartedOnce steps
     → Promise (after_steps steps links)
 
+pub stream_honest : (start : PairState) (links : Links) → IsFreshStart start links
+    → (steps : List (End × LinkStep)) → LinkOverStreams steps links
+    → (run_calls (calls_of_steps steps links) start).honest ≡ true
+stream_honest start links fresh steps o =
+    streams_straight start fresh.straight (calls_of_steps steps links)
+    (over_steps steps links start fresh.is.same
+    (record { to_a = fresh.to_a; to_b = fresh.to_b }) o)
+
 pub streams_from : (Promise : Links → Type 0) → FromStart Promise → StreamsFrom Promise
 streams_from Promise promise start links fresh steps o once =
     promise start links fresh.is steps (stream_calls steps links o)
-    (streams_straight start fresh.straight (calls_of_steps steps links)
-    (over_steps steps links start fresh.is.same
-    (record { to_a = fresh.to_a; to_b = fresh.to_b }) o)) once
+    (stream_honest start links fresh steps o) once
 
 pub new_fresh : (first second : Config) (ms other_ms : ℕ) (line other_line : ReaderView)
     → first_refusal first ≡ None → first_refusal second ≡ None

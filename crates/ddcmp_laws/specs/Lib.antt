@@ -38,6 +38,7 @@ pub mod LinkRestarts
 pub mod Sessions
 pub mod Pipe
 pub mod PipeStory
+pub mod Written
 pub mod Loops
 pub mod OverLines
 pub mod Connections

@@ -17,6 +17,7 @@ ghost use Rattle.ddcmp_laws.specs.AnewStory.{HasComeThroughAnew, small_connectio
 ghost use Rattle.ddcmp_laws.specs.Connections.{AreCalls, after_steps, first_connection, link_steps};
 ghost use Rattle.ddcmp_laws.specs.Connections.{IsKeptAnew, PipesAllAnew, PipesAnew};
 ghost use Rattle.ddcmp_laws.specs.Connections.{PipesClosedAnew, WritesAnew};
+ghost use Rattle.ddcmp_laws.specs.Written.{PipesWritten, PipesWrittenAnew};
 ghost use Rattle.ddcmp_laws.specs.PipeStory.{small_made, small_sessions, pipe_steps};
 ghost use Rattle.ddcmp_laws.specs.PipeStory.{HasComeThrough};
 ghost use Rattle.ddcmp_laws.specs.LastConnection.{EndOverStreams, StartsLast};
@@ -55,7 +56,22 @@ pub fn closed_without_loss()
     ensures anew_to_a { IsKeptAnew (λ first second p. PipesClosedAnew second p.b p.a) }
 {}
 
-/// The same in bytes, if both have their messages in binary: if the bytes read from one's input are
+/// Acknowledged means written. Of the messages read from one of two such sessions' input, all that
+/// were acknowledged, which are all but those that it still keeps, are in what the other has written
+/// to its output, unless that is to acknowledge early; however the other goes on. The same holds for
+/// sessions that are connected again, since they were connected last.
+pub fn acknowledged_is_written()
+    ensures to_b { IsKeptByPipes (λ first second p. PipesWritten first second p.a p.b) }
+    ensures to_a { IsKeptByPipes (λ first second p. PipesWritten second first p.b p.a) }
+    ensures connected_to_b { IsKeptOverConnections
+        (λ first second p. PipesWritten first second p.a p.b) }
+    ensures connected_to_a { IsKeptOverConnections
+        (λ first second p. PipesWritten second first p.b p.a) }
+    ensures anew_to_b { IsKeptAnew (λ first second p. PipesWrittenAnew first second p.a p.b) }
+    ensures anew_to_a { IsKeptAnew (λ first second p. PipesWrittenAnew second first p.b p.a) }
+{}
+
+/// The laws of messages in bytes, if both have theirs in binary: if the bytes read from one's input are
 /// a prefix of a file of messages that fit, each after its length, then those written to the
 /// other's standard output are a prefix of that file; and it is the whole file if all of it was
 /// read, `is_delivered` holds for the one, and nothing is left to be delivered or written at the
