@@ -571,16 +571,28 @@ asyncio.run(main(*sys.argv[1:]))
 """
 
 
+@pytest.fixture
+def keep_in_c(library, tmp_path):
+    """The example in C that keeps what it receives."""
+    made = f"{tmp_path}/keep"
+    words = ["gcc", "-std=c99", "-Wall", "-Wextra", "-Werror", f"-I{TOP}/include"]
+    subprocess.run([*words, f"{TOP}/c/examples/keep.c", f"{library}/libddcmp.a", "-o", made],
+                   check=True)
+    return made
+
+
 @pytest.mark.parametrize("kills, program", [
-    (100, [f"{TOP}/python/examples/keep.py"]), (25, ["-c", KEEP]), (25, ["-c", KEEP_ASYNC]),
-], ids=["Line", "ThreadLine", "AsyncLine"])
-def test_killed_receivers(tmp_path, kills, program):
+    (100, [sys.executable, f"{TOP}/python/examples/keep.py"]), (100, None),
+    (25, [sys.executable, "-c", KEEP]), (25, [sys.executable, "-c", KEEP_ASYNC]),
+], ids=["Line", "C", "ThreadLine", "AsyncLine"])
+def test_killed_receivers(request, tmp_path, kills, program):
     """A receiver that acknowledges on take and is killed many times: it has stored whatever was
     acknowledged, and in the end all messages, in order."""
+    program = program or [request.getfixturevalue("keep_in_c")]
     name, done, stored = f"{tmp_path}/kept", 0, []
     messages = [b"%d" % i for i in range(100000)]
     with socket.create_server(("127.0.0.1", 0)) as listener:
-        words = [sys.executable, *program, str(listener.getsockname()[1])]
+        words = [*program, str(listener.getsockname()[1])]
         for _ in range(kills):
             receiver = subprocess.Popen([*words, name], env=over_library())
             connection, _ = listener.accept()
