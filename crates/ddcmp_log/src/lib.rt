@@ -14,6 +14,7 @@ mod rung;
 mod schedule;
 pub mod side;
 
+pub use day::write_time;
 pub use item_log::ItemLog;
 pub use line::{
     write_item_members, write_line, write_skipped, write_skipped_members, write_totals,

@@ -1,23 +1,18 @@
 -- Lines for standard error, piece by piece.
-use Rattle.std.proofs.Common.{◌≡◌, ◌∙◌, ap, sym, subst, refl, List, [], ℕ, ◌+◌, ◌*◌, ◌++◌, ◌≤◌}
-use Rattle.std.proofs.Common.{append-nil, append_assoc, Bool, true, false, Option, Some, ℤ, pos}
-use Rattle.std.proofs.Common.{arith, codes}
-use Rattle.std.specs.Prelude.{MatchBool, ◌==◌, ◌&&◌, not, nat_le, None}
-use Rattle.std.proofs.lemmas.Bool.{MatchBool-at_true, MatchBool-at_false, leb-true, le-leb}
+use Rattle.std.proofs.Common.{◌≡◌, ◌∙◌, ap, sym, subst, refl, List, [], ℕ, ◌++◌, ◌≤◌}
+use Rattle.std.proofs.Common.{append-nil, append_assoc, Bool, true, false, arith, codes, min}
+use Rattle.std.proofs.Common.{◌-◌, ◌^◌}
+use Rattle.std.specs.Prelude.{MatchBool, if◌then◌else◌, ◌==◌, ◌&&◌, not, nat_le}
+use Rattle.std.proofs.lemmas.Bool.{MatchBool-at_true, MatchBool-at_false, le-leb}
 use Rattle.std.proofs.lemmas.Bool.{eqb-true, not-true, and_parts}
-use Rattle.jiff_core.specs.declared.timestamp.Timestamp.{Timestamp}
-use Rattle.jiff_core.specs.Timestamp.{IsTimestampNanos}
-use Rattle.jiff_core.proofs.SignedLemmas.{signed_arith}
-use Rattle.jiff_fmt.specs.declared.temporal.printer.DateTimePrinter.{DateTimePrinter}
-use Rattle.jiff_fmt.specs.Printer.{options, IsTimestampText}
-use Rattle.jiff_fmt.specs.Text.{datetime_text, zulu_text}
 use Rattle.ddcmp_io.specs.Written.{HandsOver}
 use Rattle.ddcmp_io.specs.Queue.{QueueView}
 use Rattle.ddcmp_io.proofs.WrittenLaws.{sends-then}
 use Rattle.ddcmp_io.proofs.TextLaws.{sends-as, sends-nothing}
+use Rattle.ddcmp_log.specs.Day.{text_at, time_text}
 use Rattle.ddcmp_streams.specs.Queued.{queued, paged}
-use Rattle.ddcmp_streams.specs.Errors.{ErrorsView, Queues, HasNoted, QueuedAs, Stamps, LeftOut}
-use Rattle.ddcmp_streams.specs.Errors.{settled, ReportsLeftOut, IsTime, last_time}
+use Rattle.ddcmp_streams.specs.Errors.{ErrorsView, Queues, HasNoted, QueuedAs, LeftOut}
+use Rattle.ddcmp_streams.specs.Errors.{settled, ReportsLeftOut, note_text, stamp_text}
 use Rattle.ddcmp_streams.specs.Errors.{left_out_text, reports_left_out}
 use Rattle.ddcmp_streams.specs.declared.errors.TheConstants.{NOTE}
 
@@ -70,64 +65,26 @@ queues-then {s} {t} {a} {b} {c} p q = record {
 
 -- ---- the time of day
 
-time-is : (p : DateTimePrinter) (t : Timestamp) (moment : ℕ) (text : List ℕ)
-    → options p ≡ (false, 84, Some 3) → t.nanosecond ≡ pos (moment * 1_000_000)
-    → IsTimestampText p t text → IsTime moment text
-time-is p t moment text set at is = (
-  is.0,
-  is.1 ∙ at,
-  is.2
-      ∙ ap (λ (o : Bool × ℕ × Option ℕ). datetime_text o.0 o.1 o.2 is.0 ++ zulu_text o.0) set,
-)
-
--- a new printer that was set to milliseconds printed it
-pub time-printed : (new set : DateTimePrinter) (t : Timestamp) (moment : ℕ) (at : ℤ)
-    (bytes str text : List ℕ) → options new ≡ (false, 84, None)
-    → options set ≡ ((options new).0, (options new).1, Some 3) → t.nanosecond ≡ at
-    → at ≡ pos (moment * 1_000_000) → IsTimestampText set t bytes → str ≡ bytes → text ≡ str
-    → IsTime moment text
-time-printed new set t moment at bytes str text is_new is_set is_at is printed same same_text =
-    time-is set t moment text
-    (is_set ∙ ap (λ (o : Bool × ℕ × Option ℕ). (o.0, o.1, Some 3)) is_new) (is_at ∙ is)
-    (subst (IsTimestampText set t) (sym (same_text ∙ same)) printed)
-
-stamps-late : (before after stamp : List ℕ) (moment : ℕ) (b : Bool)
-    → nat_le moment last_time ≡ b → (IsTimestampNanos (pos (moment * 1_000_000)) → ⊥)
-    → stamp ≡ []
-    → MatchBool b
-    ((time : List ℕ) × IsTime moment time × (stamp ≡ before ++ time ++ after)) (stamp ≡ [])
-stamps-late before after stamp moment true e late is =
-    let within : moment ≤ last_time = leb-true moment last_time e in
-    absurd (late (omega (arith, signed_arith, within), omega (arith, signed_arith, within)))
-stamps-late before after stamp moment false e late is = is
-
-pub stamps-none : (before after : List ℕ) (o : Option ℕ) (began now : ℕ) → o ≡ Some began
-    → (IsTimestampNanos (pos ((began + now) * 1_000_000)) → ⊥) → Stamps before after o now []
-stamps-none before after o began now is late =
-    subst (λ o. Stamps before after o now []) (sym is)
-    (stamps-late before after [] (began + now) (nat_le (began + now) last_time) refl late refl)
-
-pub stamps-some : (before after : List ℕ) (o : Option ℕ) (began now : ℕ) (time : List ℕ)
-    → o ≡ Some began → IsTimestampNanos (pos ((began + now) * 1_000_000))
-    → IsTime (began + now) time → Stamps before after o now (before ++ time ++ after)
-stamps-some before after o began now time is within at =
-    let early : began + now ≤ last_time = omega (arith, signed_arith, within.1) in
-    subst (λ o. Stamps before after o now (before ++ time ++ after)) (sym is)
-    (subst
-    (λ b. MatchBool b
-    ((t : List ℕ) × IsTime (began + now) t × (before ++ time ++ after ≡ before ++ t ++ after))
-    (before ++ time ++ after ≡ []))
-    (sym (le-leb (began + now) last_time early)) (time, at, refl))
+-- it has a last moment that is less than the last which is counted
+pub timed : (moment : ℕ) → time_text (min moment (2 ^ 64 - 1)) ≡ time_text moment
+unfolding time_text
+timed moment = ap text_at (omega arith)
 
 -- ---- lines that were left out
 
+-- what is written if there are some, and if there are none
+noted-as : (e : ErrorsView) (b : Bool) → (e.left_out == 0) ≡ b
+    → note_text e
+    ≡ (if b then [] else stamp_text [] (codes " ") e.began e.now ++ left_out_text e.left_out)
+noted-as e b is =
+    ap (λ b. if b then [] else stamp_text [] (codes " ") e.began e.now ++ left_out_text e.left_out)
+    is
+
 noted-none : (old new : ErrorsView) → (old.left_out == 0) ≡ true → new ≡ old → HasNoted old new
 noted-none old new none is = record {
-  note = [];
-  noted = if-room (old.left_out == 0) _ _ none refl;
   wrote =
-      subst (λ (n : ErrorsView). HandsOver (queued old.queue) (queued n.queue) []) (sym is)
-      (sends-nothing (queued old.queue));
+      subst (λ (n : ErrorsView). HandsOver (queued old.queue) (queued n.queue) (note_text old))
+      (sym is) (sends-as (sym (noted-as old true none)) (sends-nothing (queued old.queue)));
   stays =
       is
       ∙ (λ i. record old { left_out = eqb-true old.left_out 0 none i })
@@ -150,28 +107,23 @@ pub noted-settled : (old mid new : ErrorsView) → mid ≡ record old { queue = 
 noted-settled old mid new is h =
     let there : HasNoted (record old { queue = settled old.queue }) new =
     subst (λ e. HasNoted e new) is h in
-    record { note = there.note; noted = there.noted; wrote = there.wrote; stays = there.stays }
+    record { wrote = there.wrote; stays = there.stays }
 
-pub reports-noted : (old mid next new : ErrorsView) (stamp : List ℕ)
-    → reports_left_out old ≡ true → Stamps [] (codes " ") old.began old.now stamp
-    → Queues stamp old mid → Queues (left_out_text mid.left_out) mid next
+pub reports-noted : (old mid next new : ErrorsView) → reports_left_out old ≡ true
+    → Queues (stamp_text [] (codes " ") old.began old.now) old mid
+    → Queues (left_out_text mid.left_out) mid next
     → new ≡ record next { left_out = 0 } → ReportsLeftOut old new
-reports-noted old mid next new stamp is stamped first second ends =
+reports-noted old mid next new is first second ends =
     let some : (old.left_out == 0) ≡ false =
     not-true (old.left_out == 0)
     (and_parts (not (old.left_out == 0)) (nat_le NOTE old.queue.room) is).0 in
     let same : mid.left_out ≡ old.left_out = ap (λ (e : ErrorsView). e.left_out) first.stays in
-    let both : Queues (stamp ++ left_out_text old.left_out) old next =
-    queues-then first (queues-as (ap left_out_text same) second) in
+    let both = queues-then first (queues-as (ap left_out_text same) second) in
     if-room (reports_left_out old) _ _ is
     (record {
-      note = stamp ++ left_out_text old.left_out;
-      noted = if-none (old.left_out == 0) _ _ some (stamp, stamped, refl);
       wrote =
-          subst
-          (λ (n : ErrorsView). HandsOver (queued old.queue) (queued n.queue)
-          (stamp ++ left_out_text old.left_out))
-          (sym ends) both.wrote;
+          subst (λ (n : ErrorsView). HandsOver (queued old.queue) (queued n.queue) (note_text old))
+          (sym ends) (sends-as (sym (noted-as old false some)) both.wrote);
       stays =
           ends
           ∙ ap (λ (n : ErrorsView). record n { left_out = 0 }) both.stays
@@ -180,31 +132,31 @@ reports-noted old mid next new stamp is stamped first second ends =
 
 -- ---- a line after what is before it
 
-pub begun : (opening before after stamp : List ℕ) (old mid new : ErrorsView) → HasNoted old mid
-    → Stamps before after mid.began mid.now stamp → Queues (opening ++ stamp) mid new
+pub begun : (opening before after : List ℕ) (old mid new : ErrorsView) → HasNoted old mid
+    → Queues (opening ++ stamp_text before after mid.began mid.now) mid new
     → QueuedAs opening before after [] old new
-begun opening before after stamp old mid new h stamped queues = record {
-  note = h.note;
-  noted = h.noted;
-  stamp = stamp;
-  stamped = subst (λ (e : ErrorsView). Stamps before after e.began e.now stamp) h.stays stamped;
-  wrote =
-      sends-as
-      (sym (append_assoc h.note opening stamp) ∙ sym (append-nil (h.note ++ opening ++ stamp)))
-      (sends-then h.wrote queues.wrote);
-  stays = queues.stays ∙ ap (λ (e : ErrorsView). record e { queue = new.queue }) h.stays;
-}
+begun opening before after old mid new h queues =
+    let stamp = stamp_text before after old.began old.now in
+    record {
+      wrote =
+          sends-as
+          (ap
+          (λ (e : ErrorsView). note_text old ++ (opening ++ stamp_text before after e.began e.now))
+          h.stays
+          ∙ sym (append_assoc (note_text old) opening stamp)
+          ∙ sym (append-nil (note_text old ++ opening ++ stamp)))
+          (sends-then h.wrote queues.wrote);
+      stays = queues.stays ∙ ap (λ (e : ErrorsView). record e { queue = new.queue }) h.stays;
+    }
 
 pub queued-then : (opening before after text : List ℕ) (old mid new : ErrorsView)
     → QueuedAs opening before after [] old mid → Queues text mid new
     → QueuedAs opening before after text old new
 queued-then opening before after text old mid new line queues = record {
-  note = line.note;
-  noted = line.noted;
-  stamp = line.stamp;
-  stamped = line.stamped;
   wrote =
-      sends-as (ap (λ t. t ++ text) (append-nil (line.note ++ opening ++ line.stamp)))
+      sends-as
+      (ap (λ t. t ++ text)
+      (append-nil (note_text old ++ opening ++ stamp_text before after old.began old.now)))
       (sends-then line.wrote queues.wrote);
   stays = queues.stays ∙ ap (λ (e : ErrorsView). record e { queue = new.queue }) line.stays;
 }

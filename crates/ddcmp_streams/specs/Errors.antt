@@ -1,12 +1,10 @@
 -- Lines for standard error.
-use Rattle.std.specs.Prelude.{◌≡◌, ℕ, ◌+◌, ◌*◌, ◌-◌, ◌^◌, ◌==◌, ◌&&◌, not, Bool, false}
-use Rattle.std.specs.Prelude.{MatchBool, nat_le, min, pos, if◌then◌else◌, List, [], ◌++◌, length}
+use Rattle.std.specs.Prelude.{◌≡◌, ℕ, ◌+◌, ◌-◌, ◌^◌, ◌==◌, ◌&&◌, not, Bool}
+use Rattle.std.specs.Prelude.{MatchBool, nat_le, min, if◌then◌else◌, List, [], ◌++◌, length}
 use Rattle.std.specs.Prelude.{Option, Some, None, codes, decimal}
-use Rattle.jiff_core.specs.declared.civil.datetime.DateTime.{DateTime}
-use Rattle.jiff_core.specs.DateTime.{civil_nanos}
-use Rattle.jiff_fmt.specs.Text.{datetime_text}
 use Rattle.ddcmp_io.specs.Queue.{QueueView, no_bytes, room_settled, after_taken}
 use Rattle.ddcmp_io.specs.Written.{HandsOver}
+use Rattle.ddcmp_log.specs.Day.{time_text}
 use Rattle.ddcmp_streams.specs.Queued.{queued}
 use Rattle.ddcmp_streams.specs.declared.errors.TheConstants.{NOTE, SHORT_LINE}
 
@@ -21,28 +19,10 @@ pub record ErrorsView : Type 0 where
 abbrev pub no_lines : ℕ → ErrorsView
 no_lines size = record { queue = no_bytes size; left_out = 0; began = None; now = 0 }
 
--- ---- the time of day
-
--- the time in UTC at this many milliseconds after 1970: 2001-09-09T01:46:40.250Z
-abbrev pub IsTime : ℕ → List ℕ → Type 0
-IsTime moment text =
-    (at : DateTime) × (civil_nanos at ≡ pos (moment * 1_000_000))
-    × (text ≡ datetime_text false 84 (Some 3) at ++ codes "Z")
-
--- the last moment that has a time of day, in the year 9999
-abbrev pub last_time : ℕ
-last_time = 253_402_207_200_999
-
--- the time of day between two texts, or nothing at a moment that has none
-abbrev pub StampsAt : List ℕ → List ℕ → ℕ → List ℕ → Type 0
-StampsAt before after moment stamp =
-    MatchBool (nat_le moment last_time)
-    ((time : List ℕ) × IsTime moment time × (stamp ≡ before ++ time ++ after)) (stamp ≡ [])
-
--- the same if lines begin with the time of day
-abbrev pub Stamps : List ℕ → List ℕ → Option ℕ → ℕ → List ℕ → Type 0
-Stamps before after None now stamp = stamp ≡ []
-Stamps before after (Some began) now stamp = StampsAt before after (began + now) stamp
+-- the time of day between two texts, if lines begin with that
+abbrev pub stamp_text : List ℕ → List ℕ → Option ℕ → ℕ → List ℕ
+stamp_text before after None now = []
+stamp_text before after (Some began) now = before ++ time_text (began + now) ++ after
 
 -- ---- lines that were left out
 
@@ -57,11 +37,10 @@ abbrev pub one_more : ℕ → ℕ
 one_more n = min (n + 1) (2 ^ 64 - 1)
 
 -- the line that reports them, if there are any
-abbrev pub Notes : ErrorsView → List ℕ → Type 0
-Notes e note =
-    MatchBool (e.left_out == 0) (note ≡ [])
-    ((stamp : List ℕ) × Stamps [] (codes " ") e.began e.now stamp
-    × (note ≡ stamp ++ left_out_text e.left_out))
+abbrev pub note_text : ErrorsView → List ℕ
+note_text e =
+    if e.left_out == 0 then []
+    else stamp_text [] (codes " ") e.began e.now ++ left_out_text e.left_out
 
 -- ---- lines that are queued
 
@@ -85,18 +64,13 @@ pub record Queues (text : List ℕ) (old new : ErrorsView) : Type 0 where
 
 -- The number of lines left out was reported, if there were any.
 pub record HasNoted (old new : ErrorsView) : Type 0 where
-  pub note : List ℕ
-  pub noted : Notes old note
-  pub wrote : HandsOver (queued old.queue) (queued new.queue) note
+  pub wrote : HandsOver (queued old.queue) (queued new.queue) (note_text old)
   pub stays : new ≡ record old { queue = new.queue; left_out = 0 }
 
 -- A text was queued after what precedes it: the report of lines left out, and the time of day.
 pub record QueuedAs (opening before after text : List ℕ) (old new : ErrorsView) : Type 0 where
-  pub note : List ℕ
-  pub noted : Notes old note
-  pub stamp : List ℕ
-  pub stamped : Stamps before after old.began old.now stamp
-  pub wrote : HandsOver (queued old.queue) (queued new.queue) (note ++ opening ++ stamp ++ text)
+  pub wrote : HandsOver (queued old.queue) (queued new.queue)
+      (note_text old ++ opening ++ stamp_text before after old.began old.now ++ text)
   pub stays : new ≡ record old { queue = new.queue; left_out = 0 }
 
 -- as a line of text, or as a JSON object

@@ -1,11 +1,10 @@
 //! Lines for standard error.
-ghost use Rattle.std.specs.Prelude.{◌≡◌, ◌+◌, ◌*◌, pos};
+ghost use Rattle.std.specs.Prelude.{◌≡◌};
 ghost use Rattle.ddcmp_streams.specs.Errors.{left_out_words};
 
 use ddcmp_io::text::write_number;
 use ddcmp_io::{ByteQueue, Page};
-use jiff_core::Timestamp;
-use jiff_fmt::temporal::DateTimePrinter;
+use ddcmp_log::write_time;
 use std::alloc::{AllocError, Global};
 use std::marker::Model;
 
@@ -53,12 +52,12 @@ impl Model for Errors {
 }
 
 impl Errors {
-    ghost use Rattle.std.specs.Prelude.{◌≡◌, ◌+◌, [], ◌++◌, List, ℕ, IfOk, Some, true, false};
+    ghost use Rattle.std.specs.Prelude.{◌≡◌, ◌+◌, [], ◌++◌, IfOk, Some, true, false};
     ghost use Rattle.std.specs.Prelude.{nat_le};
     ghost use Rattle.ddcmp_streams.specs.Errors.{no_lines, has_room, LeftOut, HasLine, HasObject};
-    ghost use Rattle.ddcmp_streams.specs.Errors.{HasNoted, ReportsLeftOut, Took, Queues, Stamps};
+    ghost use Rattle.ddcmp_streams.specs.Errors.{HasNoted, ReportsLeftOut, Took, Queues};
     ghost use Rattle.ddcmp_streams.specs.Errors.{left_out_text, refused_text, reports_left_out};
-    ghost use Rattle.ddcmp_streams.specs.Errors.{settled, one_more};
+    ghost use Rattle.ddcmp_streams.specs.Errors.{settled, stamp_text, one_more};
 
     /// Makes a queue with room for `size` bytes of lines.
     pub fn new(alloc: Global, size: usize) -> Result<Errors, AllocError>
@@ -161,19 +160,21 @@ impl Errors {
 
     /// Writes the time of day between two texts, if lines begin with that.
     fn write_stamp(&mut self, before: &[u8], after: &[u8])
-        ensures { (stamp : List ℕ) × Stamps before.now after.now self.old.began self.old.now stamp
-            × Queues stamp self.old self.new }
+        ensures { Queues (stamp_text before.now after.now self.old.began self.old.now)
+            self.old self.new }
     {
         let Some(began) = self.began else {
             return;
         };
-        let Ok(moment) = Timestamp::from_nanosecond(nanoseconds(began, self.moment)) else {
-            return;
-        };
-        let time = DateTimePrinter::new()
-            .precision(Some(3))
-            .timestamp_text(moment);
-        self.write_between(before, time.as_str().as_bytes(), after);
+        let mut page = Page::new();
+        page.write(&mut self.queue, before);
+        write_time(
+            &mut page,
+            &mut self.queue,
+            began.saturating_add(self.moment),
+        );
+        page.write(&mut self.queue, after);
+        let _is_whole = page.flush(&mut self.queue);
     }
 
     /// Writes a text between two others.
@@ -267,13 +268,6 @@ impl Errors {
             self.report_left_out();
         }
     }
-}
-
-/// Returns how many nanoseconds after 1970 a moment is.
-fn nanoseconds(began: u64, moment: u64) -> i128
-    ensures { result ≡ pos ((began + moment) * 1_000_000) }
-{
-    (began as i128 + moment as i128) * 1_000_000
 }
 
 /// Returns the words after the number of lines that were left out.

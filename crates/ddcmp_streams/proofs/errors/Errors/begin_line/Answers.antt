@@ -4,9 +4,9 @@ use Rattle.ddcmp_streams.proofs.errors.Errors.begin_line.Goals as goal
 
 pub returns-then-has_room-clause-begun : goal.returns-then-has_room-clause-begun
 returns-then-has_room-clause-begun c =
-    let s = c.write_stamp.ensures in
     if-room _ _ _ (sym c.make_room-has_room.ensures.room ∙ c.if-has_room.true)
-    (begun _ _ _ _ _ _ _ (c.make_room-has_room.ensures.noted c.if-has_room.true) s.1 s.2)
+    (begun _ _ _ _ _ _ (c.make_room-has_room.ensures.noted c.if-has_room.true)
+    c.write_stamp.ensures)
 
 pub returns-else-has_room-clause-begun : goal.returns-else-has_room-clause-begun
 returns-else-has_room-clause-begun c =

@@ -5,8 +5,6 @@ use Rattle.ddcmp_streams.proofs.errors.Errors.report_left_out.Goals as goal
 
 pub returns : goal.returns
 returns c =
-    let s = c.write_stamp.ensures in
-    reports-noted _ _ _ _ s.0
-    (sym c.reports_left_out.ensures ∙ c.if-not-reports_left_out.false) s.1 s.2
-    c.write_left_out.ensures
+    reports-noted _ _ _ _ (sym c.reports_left_out.ensures ∙ c.if-not-reports_left_out.false)
+    c.write_stamp.ensures c.write_left_out.ensures
     (ap (λ (e : ErrorsView). record e { left_out = 0 }) c.self.view_is)
