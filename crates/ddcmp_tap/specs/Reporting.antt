@@ -1,8 +1,10 @@
 -- The reports of a tap while it runs.
-use Rattle.std.specs.Prelude.{◌≡◌, ◌⊎◌, ◌++◌, ℕ, List, [], Option, MatchBool}
+use Rattle.std.specs.Prelude.{◌≡◌, ◌==◌, ◌++◌, ℕ, List, [], Option, MatchBool, Result, Ok, Err}
+use Rattle.std.specs.Prelude.{length}
 use Rattle.ddcmp_log.specs.Items.{HasTold, ItemLogView}
 use Rattle.ddcmp_log.specs.Logged.{reported_line}
 use Rattle.ddcmp_log.specs.Scheduling.{is_due, next_due_after, schedule_of}
+use Rattle.ddcmp_log.specs.declared.no_memory.NoMemory.{NoMemory}
 use Rattle.ddcmp_log.specs.declared.schedule.Schedule.{Schedule}
 use Rattle.ddcmp_log.specs.declared.side.Added.{Added}
 use Rattle.ddcmp_log.specs.declared.side.Stamp.{Stamp}
@@ -34,14 +36,26 @@ report_lines stamp r caller called up down =
     reported_line caller.notation stamp caller.side caller.frames.max r.caller up
     ++ reported_line called.notation stamp called.side called.frames.max r.called down
 
--- A report was queued; or it was left out, as the last one isn't printed yet or an allocation
--- failed.
+-- A report was queued whole, or nothing if an allocation failed.
+abbrev pub WritesReport : Result (Unit {0}) NoMemory → Option Stamp → ItemLogView → ItemLogView
+    → TapReportsView → List ℕ → Type 0
+WritesReport (Ok u) stamp caller called old text =
+    (up down : List ℕ) → HasTold caller.frames caller.items up
+    → HasTold called.frames called.items down
+    → text ≡ report_lines stamp old caller called up down
+WritesReport (Err why) stamp caller called old text = text ≡ []
+
+-- It was, if the last report is printed; otherwise it was left out.
+abbrev pub QueuesReport : Result (Unit {0}) NoMemory → Option Stamp → ItemLogView → ItemLogView
+    → TapReportsView → List ℕ → Type 0
+QueuesReport result stamp caller called old text =
+    MatchBool (length old.text == 0) (WritesReport result stamp caller called old text)
+    ((text ≡ old.text) × (result ≡ Ok tt))
+
+-- A report was due.
 pub record HasReport (now : ℕ) (stamp : Option Stamp) (caller called : ItemLogView)
-    (old new : TapReportsView) : Type 0 where
-  pub lines : ((up down : List ℕ) → HasTold caller.frames caller.items up
-      → HasTold called.frames called.items down
-      → new.text ≡ report_lines stamp old caller called up down)
-      ⊎ (new.text ≡ old.text)
+    (old new : TapReportsView) (result : Result (Unit {0}) NoMemory) : Type 0 where
+  pub lines : QueuesReport result stamp caller called old new.text
   pub stays : new ≡ record {
     text = new.text;
     schedule = record old.schedule { due_at = next_due_after old.schedule now };
@@ -51,6 +65,7 @@ pub record HasReport (now : ℕ) (stamp : Option Stamp) (caller called : ItemLog
 
 -- if one is due
 abbrev pub ReportsIfDue : ℕ → Option Stamp → ItemLogView → ItemLogView
-    → TapReportsView → TapReportsView → Type 0
-ReportsIfDue now stamp caller called old new =
-    MatchBool (is_due old.schedule now) (HasReport now stamp caller called old new) (new ≡ old)
+    → TapReportsView → TapReportsView → Result (Unit {0}) NoMemory → Type 0
+ReportsIfDue now stamp caller called old new result =
+    MatchBool (is_due old.schedule now) (HasReport now stamp caller called old new result)
+    ((new ≡ old) × (result ≡ Ok tt))

@@ -1,5 +1,6 @@
 //! A tap between two lines, as a machine.
-ghost use Rattle.std.specs.Prelude.{◌≡◌, ◌+◌, ◌<◌, ◌≤◌, ◌⊎◌, [], IfOk, None, Some, ℕ, false, length};
+ghost use Rattle.std.specs.Prelude.{◌≡◌, ◌+◌, ◌<◌, ◌≤◌, ◌⊎◌, [], IfOk, None, Some, ℕ, false};
+ghost use Rattle.std.specs.Prelude.{length};
 ghost use Rattle.std.specs.Prelude.{if◌then◌else◌, is_some, List, IsOk, true};
 ghost use Rattle.ddcmp_frame.specs.Limits.{MAX_COUNT};
 ghost use Rattle.ddcmp_log.specs.Logged.{logged_last};
@@ -288,7 +289,9 @@ impl Machine for Tap {
     fn pass_time(&mut self, now: u64) {
         self.moment = now;
         let stamp = self.stamp();
-        self.reports
+        // Without memory it goes on, and leaves the report out.
+        let _is_queued = self
+            .reports
             .report_if_due(now, stamp, self.up.log(), self.down.log());
         if self.up.is_counted_out() || self.down.is_counted_out() {
             let _kept = self.fail(TapFault::Read);

@@ -1,12 +1,12 @@
 //! The reports of a tap while it runs.
-ghost use Rattle.std.specs.Prelude.{◌≡◌, ◌≤◌, ◌++◌, [], List, ℕ, drop, length, true, false};
+ghost use Rattle.std.specs.Prelude.{◌≡◌, ◌==◌, ◌≤◌, ◌++◌, [], List, ℕ, drop, length, true, false};
 ghost use Rattle.ddcmp_log.specs.Items.{HasTold};
 ghost use Rattle.ddcmp_log.specs.Logged.{reported_line};
 ghost use Rattle.ddcmp_log.specs.Scheduling.{schedule_of};
-ghost use Rattle.ddcmp_tap.specs.Reporting.{ReportsIfDue, no_reports, report_lines};
+ghost use Rattle.ddcmp_tap.specs.Reporting.{QueuesReport, ReportsIfDue, no_reports};
 
 use ddcmp_io::MemorySink;
-use ddcmp_log::{Added, ItemLog, Schedule, Stamp};
+use ddcmp_log::{Added, ItemLog, NoMemory, Schedule, Stamp};
 use std::alloc::Global;
 use std::marker::Model;
 
@@ -103,48 +103,50 @@ impl TapReports {
         stamp: Option<Stamp>,
         caller: &ItemLog,
         called: &ItemLog,
-    )
-        ensures { ReportsIfDue now stamp caller.now called.now self.old self.new }
+    ) -> Result<(), NoMemory>
+        ensures { ReportsIfDue now stamp caller.now called.now self.old self.new result }
     {
-        if self.schedule.is_due(now) {
-            let _is_queued = self.queue(stamp, caller, called);
-            self.schedule.pass(now);
-            self.caller = caller.added();
-            self.called = called.added();
+        if !self.schedule.is_due(now) {
+            return Ok(());
         }
+        let queued = self.queue(stamp, caller, called);
+        self.schedule.pass(now);
+        self.caller = caller.added();
+        self.called = called.added();
+        queued
     }
 
     /// Returns whether no report is queued.
     fn is_idle(&self) -> bool
-        ensures { result ≡ true → self.now.text ≡ [] }
+        ensures { result ≡ (length self.now.text == 0) }
     {
         self.unprinted().is_empty()
     }
 
-    /// Queues a report on both sides, if none is queued. Returns false if one is, or an allocation
-    /// failed.
-    fn queue(&mut self, stamp: Option<Stamp>, caller: &ItemLog, called: &ItemLog) -> bool
+    /// Queues a report on both sides, if none is queued.
+    fn queue(
+        &mut self,
+        stamp: Option<Stamp>,
+        caller: &ItemLog,
+        called: &ItemLog,
+    ) -> Result<(), NoMemory>
         ensures stays { self.new ≡ record self.old { text = self.new.text } }
-        ensures lines { result ≡ true → (up down : List ℕ)
-            → HasTold caller.now.frames caller.now.items up
-            → HasTold called.now.frames called.now.items down
-            → self.new.text ≡ report_lines stamp self.old caller.now called.now up down }
-        ensures none { result ≡ false → self.new.text ≡ self.old.text }
+        ensures lines { QueuesReport result stamp caller.now called.now self.old self.new.text }
     {
         if !self.is_idle() {
-            return false;
+            return Ok(());
         }
         self.text.clear();
         self.printed = 0;
         if !write_report(&mut self.text, caller, stamp, self.caller) {
             self.text.clear();
-            return false;
+            return Err(NoMemory);
         }
         if !write_report(&mut self.text, called, stamp, self.called) {
             self.text.clear();
-            return false;
+            return Err(NoMemory);
         }
-        true
+        Ok(())
     }
 }
 

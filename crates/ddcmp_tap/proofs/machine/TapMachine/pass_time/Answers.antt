@@ -26,9 +26,11 @@ pub returns-then-is_counted_out-clause-settled : goal.returns-then-is_counted_ou
 returns-then-is_counted_out-clause-settled c =
     subst (λ (t : TapView). NoneIsDue t.moment t.reports.schedule) (sym c.fail-kept.ensures.fault)
     (none-due c.args.now c.stamp-stamp.result c.log.result.now c.log-2.result.now
-    c.self.inside.reports c.report_if_due.new.self c.report_if_due.ensures)
+    c.self.inside.reports c.report_if_due-is_queued.new.self
+    c.report_if_due-is_queued.result c.report_if_due-is_queued.ensures)
 
 pub returns-else-is_counted_out-2-clause-settled : goal.returns-else-is_counted_out-2-clause-settled
 returns-else-is_counted_out-2-clause-settled c =
     none-due c.args.now c.stamp-stamp.result c.log.result.now c.log-2.result.now
-    c.self.inside.reports c.report_if_due.new.self c.report_if_due.ensures
+    c.self.inside.reports c.report_if_due-is_queued.new.self
+    c.report_if_due-is_queued.result c.report_if_due-is_queued.ensures
