@@ -148,8 +148,8 @@ line_app =
 
 abbrev pub link_app : App
 link_app =
-    with_rule (with_rule (with_rule (with_rule (with_rule (with_rule (with_rule (with_rule (with_rule (with_rule
-    (with_rule (with_rule (with_rule (with_rule (with_rule (with_rule (with_rule
+    with_rule (with_rule (with_rule (with_rule (with_rule (with_rule (with_rule (with_rule (with_rule
+    (with_rule (with_rule (with_rule (with_rule (with_rule (with_rule (with_rule (with_rule
     (with_sizes line_app)
     (number_rule (codes "timer-ms") 1 MOST))
     (number_rule (codes "attempts") 0 MOST))

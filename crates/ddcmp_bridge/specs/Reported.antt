@@ -1,5 +1,6 @@
 -- What a bridge reports while it runs, and when.
-use Rattle.std.specs.Prelude.{◌≡◌, ℕ, Bool, true, false, MatchBool, if◌then◌else◌, Option, Some, None}
+use Rattle.std.specs.Prelude.{◌≡◌, ℕ, Bool, true, false, MatchBool, if◌then◌else◌, Option, Some}
+use Rattle.std.specs.Prelude.{None}
 use Rattle.ddcmp_log.specs.declared.notation.LogNotation.{LogNotation}
 use Rattle.ddcmp_log.specs.declared.notation.LogNotation.TheVariants.{Plain, Json, Ladder}
 use Rattle.ddcmp_bridge.specs.Crossing.{Counted}
@@ -39,4 +40,5 @@ pub record ReportsNow (old new : Bridge) : Type 0 where
 
 -- if that is due
 abbrev pub ReportsIfDue : Bridge → Bridge → Type 0
-ReportsIfDue old new = MatchBool (is_due old.reports.schedule old.moment) (ReportsNow old new) (new ≡ old)
+ReportsIfDue old new =
+    MatchBool (is_due old.reports.schedule old.moment) (ReportsNow old new) (new ≡ old)

@@ -113,7 +113,8 @@ pub trait LineSystem {
     ) -> Result<LinkOutcome, LinkFailure<'a>>
         ensures broken { (result ≡ Err Write) ↔ IsTrue (W.broken writer.new) }
         ensures known { (ended : Result OutcomeValue FaultValue)
-            → (lines self.now).links (word_of line.entry.name) (text_of line.entry.only) options ≡ Some ended
+            → (lines self.now).links (word_of line.entry.name) (text_of line.entry.only) options
+            ≡ Some ended
             → result ≡ ended };
 
     /// Opens two lines and passes frames on between them.

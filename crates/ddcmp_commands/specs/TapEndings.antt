@@ -77,7 +77,8 @@ notation_of tapped = if tapped.ladder then told.Ladder else lines_in tapped.nota
 abbrev pub Taps : TapArgs → Known → Known → Ending → Type 0
 Taps tapped old new ending =
     (result : Result (Unit {0}) TapFault) × TapEnds tapped result ending
-    × Says (head_of (notation_of tapped)) (notation_of tapped) (times_of tapped) tapped.max old new result
+    × Says (head_of (notation_of tapped)) (notation_of tapped) (times_of tapped) tapped.max old new
+    result
 
 -- callers were served one after another, until a fault that isn't of one side, which the ending
 -- reports

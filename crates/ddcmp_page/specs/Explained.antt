@@ -1,5 +1,6 @@
 -- What a page sees of an input that was explained.
-use Rattle.std.specs.Prelude.{◌≡◌, ◌⊎◌, ℕ, ◌==◌, List, [], ◌++◌, Bool, if◌then◌else◌, Some, Result, Err}
+use Rattle.std.specs.Prelude.{◌≡◌, ◌⊎◌, ℕ, ◌==◌, List, [], ◌++◌, Bool, if◌then◌else◌, Some}
+use Rattle.std.specs.Prelude.{Result, Err}
 use Rattle.ddcmp_io.specs.Written.{Known}
 use Rattle.ddcmp_explain.specs.declared.explain_fault.ExplainFault.{ExplainFault}
 use Rattle.ddcmp_explain.specs.declared.explain_fault.ExplainFault.TheVariants.{Memory}

@@ -78,8 +78,8 @@ head_of Ladder =
     "> who connected to the tap                         whom the tap connected to <\n"
 
 -- A tap wrote a heading and its log, for some pieces of what both sides sent.
-pub record Says (head : List ℕ) (notation : LogNotation) (times : LogTimes) (max : ℕ) (old new : Known)
-    (result : Result (Unit {0}) TapFault) : Type 0 where
+pub record Says (head : List ℕ) (notation : LogNotation) (times : LogTimes) (max : ℕ)
+    (old new : Known) (result : Result (Unit {0}) TapFault) : Type 0 where
   pub pieces : List Piece
   pub stamp : Option Stamp
   pub stamped : AreStamped times pieces × IsStamp times stamp

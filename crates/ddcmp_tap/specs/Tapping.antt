@@ -5,7 +5,8 @@ use Rattle.ddcmp_ports.specs.declared.port.Port.{Port}
 use Rattle.ddcmp_ports.specs.declared.port.Port.TheVariants.{Input, Output, Errors, First, Second}
 use Rattle.ddcmp_ports.specs.declared.port.Need.{Need}
 use Rattle.ddcmp_ports.specs.declared.port.Need.TheVariants.{Closing, Nothing}
-use Rattle.ddcmp_ports.specs.Running.{Event, Gave, Left, Passage, Passed, Rested, Shut, Stopped, Told}
+use Rattle.ddcmp_ports.specs.Running.{Event, Gave, Left, Passage, Passed, Rested, Shut, Stopped}
+use Rattle.ddcmp_ports.specs.Running.{Told}
 use Rattle.ddcmp_ports.specs.Running.{Took, Trace, taken, told, used, used_whole}
 use Rattle.ddcmp_ports.specs.declared.port.News.{News}
 use Rattle.ddcmp_ports.specs.declared.port.News.TheVariants as news

@@ -5,7 +5,8 @@ ghost use Rattle.ddcmp_frame.specs.Limits.{MAX_COUNT};
 ghost use Rattle.ddcmp_ports.specs.declared.port.Need.{Need as NeedValue};
 ghost use Rattle.ddcmp_log.specs.Items.{HasTold};
 ghost use Rattle.ddcmp_log.specs.Logged.{items_added, logged_lines};
-ghost use Rattle.ddcmp_tap.specs.Forwarding.{Forwards, IsOf, ends, is_counted_out, need_of, room_of};
+ghost use Rattle.ddcmp_tap.specs.Forwarding.{Forwards, IsOf, ends, is_counted_out, need_of};
+ghost use Rattle.ddcmp_tap.specs.Forwarding.{room_of};
 
 use ddcmp_io::{ByteQueue, MemorySink};
 use ddcmp_log::{ItemLog, LogNotation, NoMemory, Side, Stamp};

@@ -315,8 +315,8 @@ fn lines_are_opened_again(rt: HostRuntime) {
     has_done(&rt, &ran(&rt, options, plan), calls, errors, output);
 }
 
-/// Each message is written after its notice, and acknowledged then. All that can be moved is moved in each pass, and the
-/// devices are polled in each sixteenth.
+/// Each message is written after its notice, and acknowledged then. All that can be moved is moved
+/// in each pass, and the devices are polled in each sixteenth.
 #[test]
 fn messages_follow_their_notices(rt: HostRuntime) {
     let options = Options {
