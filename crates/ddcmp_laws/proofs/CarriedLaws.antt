@@ -30,7 +30,7 @@ use Rattle.ddcmp_io.specs.declared.carrier.End.TheVariants.{A, B}
 use Rattle.ddcmp_pair.specs.declared.event.Event.{Event}
 use Rattle.ddcmp_pair.specs.declared.event.Event.TheVariants as event
 use Rattle.ddcmp_pair.specs.declared.event.Reply.TheVariants as reply
-use Rattle.ddcmp_pair.specs.InOrder.{IsRun}
+use Rattle.ddcmp_pair.specs.Pairs.{IsRun}
 use Rattle.ddcmp_pair.specs.Link.{message_at}
 use Rattle.ddcmp_pair.specs.Place.{WholeFrame}
 use Rattle.ddcmp_pair.specs.Run.{EndState, PairState, at, whole_frame, frames_polled, accepted}

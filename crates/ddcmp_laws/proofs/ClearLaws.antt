@@ -37,7 +37,7 @@ use Rattle.ddcmp_io.specs.declared.carrier.End.{End}
 use Rattle.ddcmp_io.specs.declared.carrier.End.TheVariants.{A, B}
 use Rattle.ddcmp_pair.specs.declared.event.Event.{Event}
 use Rattle.ddcmp_pair.specs.declared.event.Event.TheVariants as event
-use Rattle.ddcmp_pair.specs.InOrder.{IsRun}
+use Rattle.ddcmp_pair.specs.Pairs.{IsRun}
 use Rattle.ddcmp_pair.specs.Link.{link_of}
 use Rattle.ddcmp_pair.specs.Place.{WholeFrame, place_of}
 use Rattle.ddcmp_pair.specs.Run.{EndState, PairState, with_station, restarts_in, notices_at}

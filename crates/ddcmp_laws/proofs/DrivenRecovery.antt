@@ -12,7 +12,7 @@ use Rattle.ddcmp_io.specs.declared.carrier.End.{End}
 use Rattle.ddcmp_io.specs.declared.carrier.End.TheVariants.{A, B}
 use Rattle.ddcmp_pair.specs.declared.event.Event.{Event}
 use Rattle.ddcmp_pair.specs.declared.event.Event.TheVariants as event
-use Rattle.ddcmp_pair.specs.InOrder.{IsRun}
+use Rattle.ddcmp_pair.specs.Pairs.{IsRun}
 use Rattle.ddcmp_pair.specs.Recovery.{IsDelivered, IsDone}
 use Rattle.ddcmp_pair.specs.Run.{EndState, PairState, line_bytes, run, after_event, new_pair}
 use Rattle.ddcmp_pair.proofs.Runs.{run-append}

@@ -7,7 +7,7 @@ use Rattle.ddcmp_core.specs.Sequence.{distance}
 use Rattle.ddcmp_core.specs.Table.{StationState, resp_of, is_running, owed_after_take, after_take}
 use Rattle.ddcmp_io.specs.declared.carrier.End.TheVariants.{A, B}
 use Rattle.ddcmp_pair.specs.declared.event.Event.{Event}
-use Rattle.ddcmp_pair.specs.InOrder.{IsRun}
+use Rattle.ddcmp_pair.specs.Pairs.{IsRun}
 use Rattle.ddcmp_pair.specs.Run.{PairState, after_event, new_pair}
 use Rattle.ddcmp_pair.proofs.Modes.{after-mode, run-modes}
 use Rattle.ddcmp_laws.specs.LossFree.{IsEarly}

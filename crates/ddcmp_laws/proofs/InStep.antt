@@ -9,7 +9,7 @@ use Rattle.ddcmp_io.specs.declared.carrier.End.{End}
 use Rattle.ddcmp_io.specs.declared.carrier.End.TheVariants.{A, B}
 use Rattle.ddcmp_pair.specs.declared.event.Event.{Event}
 use Rattle.ddcmp_pair.specs.declared.event.Event.TheVariants as event
-use Rattle.ddcmp_pair.specs.InOrder.{IsRun}
+use Rattle.ddcmp_pair.specs.Pairs.{IsRun}
 use Rattle.ddcmp_pair.specs.Recovery.{both_expire, rounding, rounded, is_ready}
 use Rattle.ddcmp_pair.specs.Run.{PairState, line_bytes, after_event, run}
 use Rattle.ddcmp_pair.specs.Settle.{mail_events, carried, crossing_of, crossing, exchange}

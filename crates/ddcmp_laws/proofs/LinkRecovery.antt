@@ -22,7 +22,7 @@ use Rattle.ddcmp_station.specs.Linking.{after_polled, with_state, total_plus}
 use Rattle.ddcmp_io.specs.declared.carrier.End.{End}
 use Rattle.ddcmp_io.specs.declared.carrier.End.TheVariants.{A, B}
 use Rattle.ddcmp_pair.specs.declared.event.Event.{Event}
-use Rattle.ddcmp_pair.specs.InOrder.{IsRun}
+use Rattle.ddcmp_pair.specs.Pairs.{IsRun}
 use Rattle.ddcmp_pair.specs.Recovery.{IsDone}
 use Rattle.ddcmp_pair.specs.Run.{EndState, PairState, line_bytes, run, new_pair}
 use Rattle.ddcmp_pair.proofs.Runs.{run-append}

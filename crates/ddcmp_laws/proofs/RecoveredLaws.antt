@@ -21,7 +21,7 @@ use Rattle.ddcmp_io.specs.declared.carrier.End.TheVariants.{A, B}
 use Rattle.ddcmp_pair.specs.declared.event.Event.{Event}
 use Rattle.ddcmp_pair.specs.declared.event.Event.TheVariants as event
 use Rattle.ddcmp_pair.specs.declared.event.Reply.TheVariants as reply
-use Rattle.ddcmp_pair.specs.InOrder.{IsRun}
+use Rattle.ddcmp_pair.specs.Pairs.{IsRun}
 use Rattle.ddcmp_pair.specs.Recovery.{both_expire, is_ready, rounded, recovering, recovered}
 use Rattle.ddcmp_pair.specs.Recovery.{IsDelivered, IsDone}
 use Rattle.ddcmp_pair.specs.Run.{EndState, PairState, at, handed_up, with_station, accepted}

@@ -29,7 +29,7 @@ use Rattle.ddcmp_proto.proofs.FeedLaws.{after_piece-limits}
 use Rattle.ddcmp_io.specs.declared.carrier.End.TheVariants.{A, B}
 use Rattle.ddcmp_pair.specs.declared.event.Event.{Event}
 use Rattle.ddcmp_pair.specs.declared.event.Event.TheVariants as event
-use Rattle.ddcmp_pair.specs.InOrder.{IsRun}
+use Rattle.ddcmp_pair.specs.Pairs.{IsRun}
 use Rattle.ddcmp_pair.specs.Place.{WholeFrame, place_of, IsSubsequence}
 use Rattle.ddcmp_pair.specs.Recovery.{is_ready_here, is_ready, IsRepaired}
 use Rattle.ddcmp_pair.specs.Run.{EndState, line_bytes, whole_frame, frames_polled, notices_at}

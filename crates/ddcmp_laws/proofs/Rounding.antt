@@ -12,7 +12,7 @@ use Rattle.ddcmp_proto.proofs.FeedLaws.{items_added-none}
 use Rattle.ddcmp_io.specs.declared.carrier.End.TheVariants.{A, B}
 use Rattle.ddcmp_pair.specs.declared.event.Event.{Event}
 use Rattle.ddcmp_pair.specs.declared.event.Event.TheVariants as event
-use Rattle.ddcmp_pair.specs.InOrder.{IsRun}
+use Rattle.ddcmp_pair.specs.Pairs.{IsRun}
 use Rattle.ddcmp_pair.specs.Prefix.{IsPrefixOf}
 use Rattle.ddcmp_pair.specs.Recovery.{larger_window, IsDelivered, IsDone}
 use Rattle.ddcmp_pair.specs.Run.{EndState, PairState, handed_up, line_bytes, after_event, new_pair}

@@ -10,7 +10,7 @@ use Rattle.ddcmp_io.specs.declared.carrier.End.{End}
 use Rattle.ddcmp_io.specs.declared.carrier.End.TheVariants.{A, B}
 use Rattle.ddcmp_pair.specs.declared.event.Event.{Event}
 use Rattle.ddcmp_pair.specs.declared.event.Event.TheVariants as event
-use Rattle.ddcmp_pair.specs.InOrder.{IsRun}
+use Rattle.ddcmp_pair.specs.Pairs.{IsRun}
 use Rattle.ddcmp_pair.specs.Recovery.{IsDone, larger_window}
 use Rattle.ddcmp_pair.specs.Run.{EndState, PairState, at, after_expire_here, after_event, run}
 use Rattle.ddcmp_laws.specs.LossFree.{Line, after_on_line, IsLossFree, run_on_line, IsWhole}

@@ -31,7 +31,7 @@ use Rattle.ddcmp_proto.specs.Bytes.{received_of, after_item, after_items, items_
 use Rattle.ddcmp_io.specs.declared.carrier.End.TheVariants.{A, B}
 use Rattle.ddcmp_pair.specs.declared.event.Event.{Event}
 use Rattle.ddcmp_pair.specs.declared.event.Event.TheVariants as event
-use Rattle.ddcmp_pair.specs.InOrder.{IsRun}
+use Rattle.ddcmp_pair.specs.Pairs.{IsRun}
 use Rattle.ddcmp_pair.specs.Prefix.{IsPrefixOf}
 use Rattle.ddcmp_pair.specs.Recovery.{larger_window}
 use Rattle.ddcmp_pair.specs.Run.{EndState, PairState, handed_up, after_poll_here, after_take_here}

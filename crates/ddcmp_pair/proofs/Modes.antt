@@ -14,15 +14,15 @@ use Rattle.ddcmp_io.specs.declared.carrier.End.{End}
 use Rattle.ddcmp_io.specs.declared.carrier.End.TheVariants.{A, B}
 use Rattle.ddcmp_pair.specs.declared.event.Event.{Event}
 use Rattle.ddcmp_pair.specs.declared.event.Event.TheVariants as event
-use Rattle.ddcmp_pair.specs.Choices.{Act, Happens, Chooses, after_choice_here, after_act, run_acts}
+use Rattle.ddcmp_pair.specs.Choices.{Act, Happens, Chooses, after_act, run_acts}
 use Rattle.ddcmp_pair.specs.Choices.{IsAcknowledgedTaken}
+use Rattle.ddcmp_pair.specs.Pairs.{new_pair_by, IsRunBy}
 use Rattle.ddcmp_pair.specs.Run.{EndState, PairState, at, after_event_here, after_event_at}
 use Rattle.ddcmp_pair.specs.Run.{after_clear_by, clear_refusal, end_of, after_event, run, new_pair}
 use Rattle.ddcmp_pair.specs.Run.{is_clean}
 use Rattle.ddcmp_pair.proofs.Links.{rising-ends}
 use Rattle.ddcmp_pair.proofs.Relation.{face, confirmed}
-use Rattle.ddcmp_pair.proofs.Linked.{Linked, linked-choose, linked-turned}
-use Rattle.ddcmp_pair.proofs.Ordered.{Holds, holds-after, holds-new}
+use Rattle.ddcmp_pair.proofs.Ordered.{Holds, holds-after, holds-choice, holds-new}
 use Rattle.ddcmp_pair.proofs.Alone.{alone-act, alone-begun}
 use Rattle.ddcmp_pair.proofs.Ready.{Holding}
 
@@ -84,25 +84,6 @@ run-modes (e ∷ rest) p end = run-modes rest (after_event e p) end ∙ after-mo
 
 -- ---- acts
 
-holds-choice : (end : End) (by_user : Bool) (p : PairState) → Holds p
-    → Holds (after_act (Chooses end by_user) p)
-holds-choice A by_user p h = record {
-  small = h.small;
-  small' = h.small';
-  room = h.room;
-  room' = h.room';
-  linked = λ honest clean. linked-choose by_user p.a p.b (h.linked honest clean);
-}
-holds-choice B by_user p h = record {
-  small = h.small;
-  small' = h.small';
-  room = h.room;
-  room' = h.room';
-  linked = λ honest clean.
-      linked-turned _ _
-      (linked-choose by_user p.b p.a (linked-turned p.a p.b (h.linked honest clean)));
-}
-
 holds-act : (act : Act) (p : PairState) → Holds p → Holds (after_act act p)
 holds-act (Happens e) p h = holds-after e p h
 holds-act (Chooses end by_user) p h = holds-choice end by_user p h
@@ -135,3 +116,20 @@ holds-taken p h honest clean =
       taken-of p.a p.b (rising-ends p.a.acknowledged (confirmed (face p.b)) f.back f.rising),
       taken-of p.b p.a (rising-ends p.b.acknowledged (confirmed (face p.a)) f.back' f.rising'),
     )
+
+-- ---- the mode of a run
+
+pub mode-of-run : {by_user : Bool} (p : PairState) → IsRunBy by_user p → (end : End)
+    → (at end p).core.station.by_user ≡ by_user
+mode-of-run {by_user} p r end =
+    ap (λ (q : PairState). (at end q).core.station.by_user) (sym r.leads)
+    ∙ run-modes r.events (new_pair_by by_user r.first r.second) end ∙ by end
+  where
+    by : (e : End)
+        → (at e (new_pair_by by_user r.first r.second)).core.station.by_user ≡ by_user
+    by A = refl
+    by B = refl
+
+pub run-by-mode : {by_user : Bool} (p : PairState) → IsRunBy by_user p
+    → IsRunBy p.a.core.station.by_user p
+run-by-mode p r = subst (λ (b : Bool). IsRunBy b p) (sym (mode-of-run p r A)) r

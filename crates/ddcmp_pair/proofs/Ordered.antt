@@ -26,7 +26,9 @@ use Rattle.ddcmp_io.specs.declared.carrier.End.TheVariants.{A, B}
 use Rattle.ddcmp_pair.specs.declared.event.Event.{Event}
 use Rattle.ddcmp_pair.specs.declared.event.Event.TheVariants as event
 use Rattle.ddcmp_pair.specs.declared.event.Reply.{Reply}
-use Rattle.ddcmp_pair.specs.InOrder.{Delivers, IsInOrder, IsRun, IsLink, NoRestart}
+use Rattle.ddcmp_pair.specs.InOrder.{Delivers, IsInOrder, IsLink, NoRestart}
+use Rattle.ddcmp_pair.specs.Choices.{after_choice}
+use Rattle.ddcmp_pair.specs.Pairs.{new_pair_by, IsRun, IsRunBy}
 use Rattle.ddcmp_pair.specs.Link.{IsReached, link_of}
 use Rattle.ddcmp_pair.specs.Place.{WholeFrame, place_of}
 use Rattle.ddcmp_pair.specs.Run.{EndState, PairState, handed_up, after_event_here, is_honest_here}
@@ -40,7 +42,7 @@ use Rattle.ddcmp_pair.proofs.Relation.{face, no_wire, not_begun, Fits, Mail}
 use Rattle.ddcmp_pair.proofs.Startups.{starting-nothing}
 use Rattle.ddcmp_pair.proofs.Arrivals.{on_the_way, Related}
 use Rattle.ddcmp_pair.proofs.Linked.{Linked, linked-turned, linked-event, linked-arrival}
-use Rattle.ddcmp_pair.proofs.Linked.{starts-grow}
+use Rattle.ddcmp_pair.proofs.Linked.{starts-grow, linked-choose}
 use Rattle.ddcmp_pair.proofs.Runs.{run-append, run-one}
 
 -- ---- the invariant of a run
@@ -312,11 +314,32 @@ unfolding run
 holds-run [] p h = h
 holds-run (e ∷ events) p h = holds-run events (after_event e p) (holds-after e p h)
 
-pub run-holds : (p : PairState) → IsRun p → Holds p
-run-holds p r =
+-- a choice at an end
+pub holds-choice : (end : End) (by_user : Bool) (p : PairState) → Holds p
+    → Holds (after_choice end by_user p)
+holds-choice A by_user p h = record {
+  small = h.small;
+  small' = h.small';
+  room = h.room;
+  room' = h.room';
+  linked = λ honest clean. linked-choose by_user p.a p.b (h.linked honest clean);
+}
+holds-choice B by_user p h = record {
+  small = h.small;
+  small' = h.small';
+  room = h.room;
+  room' = h.room';
+  linked = λ honest clean.
+      linked-turned _ _
+      (linked-choose by_user p.b p.a (linked-turned p.a p.b (h.linked honest clean)));
+}
+
+pub run-holds : {by_user : Bool} (p : PairState) → IsRunBy by_user p → Holds p
+run-holds {by_user} p r =
     subst Holds r.leads
-    (holds-run r.events (new_pair r.first r.second)
-    (holds-new r.first r.second r.first_made r.second_made))
+    (holds-run r.events (new_pair_by by_user r.first r.second)
+    (holds-choice B by_user _
+    (holds-choice A by_user _ (holds-new r.first r.second r.first_made r.second_made))))
 
 -- ---- what follows of it
 
@@ -328,8 +351,8 @@ holds-linked p r h c =
       record { sent = f.sent'; forward = f.forward'; back = f.back'; is_reached = f.reached' },
     )
 
-pub run-linked : (p : PairState) → IsRun p → p.honest ≡ true → is_clean p ≡ true
-    → IsLink p.a p.b × IsLink p.b p.a
+pub run-linked : {by_user : Bool} (p : PairState) → IsRunBy by_user p → p.honest ≡ true
+    → is_clean p ≡ true → IsLink p.a p.b × IsLink p.b p.a
 run-linked p r h c = holds-linked p (run-holds p r) h c
 
 pub delivers : (from to : EndState) → IsLink from to → Delivers from to
@@ -347,15 +370,16 @@ holds-in-order p r = record {
   };
 }
 
-pub run-in-order : (p : PairState) → IsRun p → IsInOrder p
+pub run-in-order : {by_user : Bool} (p : PairState) → IsRunBy by_user p → IsInOrder p
 run-in-order p r = holds-in-order p (run-holds p r)
 
 -- ---- more events of a run
 
-pub run-new : (first second : Config) → first_refusal first ≡ None → first_refusal second ≡ None
-    → (p : PairState) → p ≡ new_pair first second → IsRun p
+pub run-begun : (by_user : Bool) (first second : Config) → first_refusal first ≡ None
+    → first_refusal second ≡ None → (p : PairState) → p ≡ new_pair_by by_user first second
+    → IsRunBy by_user p
 unfolding run
-run-new first second f g p e =
+run-begun by_user first second f g p e =
     record {
       first = first;
       second = second;
@@ -364,6 +388,10 @@ run-new first second f g p e =
       events = [];
       leads = sym e;
     }
+
+pub run-new : (first second : Config) → first_refusal first ≡ None → first_refusal second ≡ None
+    → (p : PairState) → p ≡ new_pair first second → IsRun p
+run-new first second f g p e = run-begun false first second f g p e
 
 pub run-of : (first second : Config) (events : List Event) → first_refusal first ≡ None
     → first_refusal second ≡ None → IsRun (run events (new_pair first second))
@@ -377,24 +405,30 @@ run-of first second events f g =
       leads = refl;
     }
 
-pub run-more : (events : List Event) (p q : PairState) → q ≡ run events p → IsRun p → IsRun q
-run-more events p q e r = record {
+pub run-more : {by_user : Bool} (events : List Event) (p q : PairState) → q ≡ run events p
+    → IsRunBy by_user p → IsRunBy by_user q
+run-more {by_user} events p q e r = record {
   first = r.first;
   second = r.second;
   first_made = r.first_made;
   second_made = r.second_made;
   events = r.events ++ events;
-  leads = run-append r.events events (new_pair r.first r.second) ∙ ap (run events) r.leads ∙ sym e;
+  leads =
+      run-append r.events events (new_pair_by by_user r.first r.second)
+      ∙ ap (run events) r.leads ∙ sym e;
 }
 
-pub run-event : (e : Event) (p q : PairState) → q ≡ after_event e p → IsRun p → IsRun q
+pub run-event : {by_user : Bool} (e : Event) (p q : PairState) → q ≡ after_event e p
+    → IsRunBy by_user p → IsRunBy by_user q
 run-event e p q a r = run-more (e ∷ []) p q (a ∙ sym (run-one e p)) r
 
 -- after an event that was done, or for which there was no memory
-pub stepped : {X E : Type 0} (answer : Result X E) (e : Event) (p q : PairState)
-    → (IsOk answer → q ≡ after_event e p) → OnErr answer (q ≡ p) → IsRun p → IsRun q
+pub stepped : {X E : Type 0} {by_user : Bool} (answer : Result X E) (e : Event) (p q : PairState)
+    → (IsOk answer → q ≡ after_event e p) → OnErr answer (q ≡ p) → IsRunBy by_user p
+    → IsRunBy by_user q
 stepped (Ok x) e p q done same r = run-event e p q (done refl) r
-stepped (Err f) e p q done same r = subst IsRun (sym same) r
+stepped {X} {E} {by_user} (Err f) e p q done same r =
+    subst (λ (t : PairState). IsRunBy by_user t) (sym same) r
 
 pub made : {X E : Type 0} (refusal : Option E) (answer : Result X E) (x : X)
     → ((f : E) → refusal ≡ Some f → answer ≡ Err f) → answer ≡ Ok x → refusal ≡ None
@@ -445,15 +479,15 @@ none-at (Some B) e p h c honest =
     none-here e p.b p.a (clean-means _ _ c).1 f.0 (linked-turned _ _ (h.linked f.1 c))
 none-at None e p h c honest = none-cleared (clear_refusal p)
 
-pub no-restart : (e : Event) (p : PairState) → IsRun p → is_clean p ≡ true
-    → (after_event e p).honest ≡ true → NoRestart (reply_to e p)
+pub no-restart : {by_user : Bool} (e : Event) (p : PairState) → IsRunBy by_user p
+    → is_clean p ≡ true → (after_event e p).honest ≡ true → NoRestart (reply_to e p)
 unfolding after_event reply_to
 no-restart e p r c h = none-at (end_of e) e p (run-holds p r) c h
 
-pub stepped-quiet : {E : Type 0} (answer : Result Reply E) (e : Event) (p q : PairState)
-    → (IsOk answer → q ≡ after_event e p)
-    → IfOk answer (λ reply. reply ≡ reply_to e p) → IsRun p → is_clean p ≡ true → q.honest ≡ true
-    → IfOk answer NoRestart
+pub stepped-quiet : {E : Type 0} {by_user : Bool} (answer : Result Reply E) (e : Event)
+    (p q : PairState) → (IsOk answer → q ≡ after_event e p)
+    → IfOk answer (λ reply. reply ≡ reply_to e p) → IsRunBy by_user p → is_clean p ≡ true
+    → q.honest ≡ true → IfOk answer NoRestart
 stepped-quiet (Ok reply) e p q done told r c h =
     subst NoRestart (sym told)
     (no-restart e p r c (sym (ap (λ (p : PairState). p.honest) (done refl)) ∙ h))

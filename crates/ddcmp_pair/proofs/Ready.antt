@@ -1,20 +1,23 @@
 -- Every pair that a run leads to is repaired where it is ready.
-use Rattle.std.proofs.Common.{◌≡◌, ◌≢◌, ℕ, ◌≤◌, true, List, [], ◌++◌, refl, ap, subst, arith}
+use Rattle.std.proofs.Common.{◌≡◌, ◌≢◌, ℕ, ◌≤◌, Bool, true, List, [], ◌++◌, refl, ap, subst, arith}
 use Rattle.std.specs.Prelude.{◌&&◌, nat_le, is_some}
 use Rattle.ddcmp_core.specs.declared.state.State.{State}
 use Rattle.ddcmp_core.specs.declared.state.State.TheVariants.{Halted, IStart, AStart, Running}
 use Rattle.ddcmp_core.specs.declared.state.State.TheVariants.{Maintenance}
 use Rattle.ddcmp_core.specs.Table.{is_starting}
 use Rattle.ddcmp_core.specs.Core.{IsSound}
-use Rattle.ddcmp_pair.specs.InOrder.{IsRun}
+use Rattle.ddcmp_io.specs.declared.carrier.End.TheVariants.{A, B}
+use Rattle.ddcmp_pair.specs.Choices.{Chooses}
+use Rattle.ddcmp_pair.specs.Pairs.{new_pair_by, IsRun, IsRunBy}
 use Rattle.ddcmp_pair.specs.Recovery.{is_ready, larger_window, IsRepaired}
-use Rattle.ddcmp_pair.specs.Run.{EndState, PairState, after_event, new_pair}
+use Rattle.ddcmp_pair.specs.Run.{EndState, PairState, after_event}
 use Rattle.ddcmp_pair.proofs.Reached.{reached-in-order, reached-counts}
 use Rattle.ddcmp_pair.proofs.Relation.{face, StateFits}
 use Rattle.ddcmp_pair.proofs.Sendings.{awake}
 use Rattle.ddcmp_pair.proofs.Linked.{Linked, linked-turned}
 use Rattle.ddcmp_pair.proofs.Ordered.{Holds, holds-after, run-holds, run-event}
-use Rattle.ddcmp_pair.proofs.Alone.{Alone, BothAlone, alone-after, alone-run, alone-begun}
+use Rattle.ddcmp_pair.proofs.Alone.{Alone, BothAlone, alone-act, alone-after, alone-run}
+use Rattle.ddcmp_pair.proofs.Alone.{alone-begun}
 use Rattle.ddcmp_pair.proofs.Steady.{Shows, IsKept}
 use Rattle.ddcmp_pair.proofs.Rounds.{Recovers}
 use Rattle.ddcmp_pair.proofs.Repairs.{ready-recovers, ready-repaired}
@@ -50,10 +53,12 @@ shows-of x y l a once w =
       placed = ap is_some l.there_is;
     }
 
-run-alone : (p : PairState) → IsRun p → BothAlone p
-run-alone p r =
+run-alone : {by_user : Bool} (p : PairState) → IsRunBy by_user p → BothAlone p
+run-alone {by_user} p r =
     subst (λ (q : PairState). BothAlone q) r.leads
-    (alone-run r.events (new_pair r.first r.second) (alone-begun r.first r.second))
+    (alone-run r.events (new_pair_by by_user r.first r.second)
+    (alone-act (Chooses B by_user) _
+    (alone-act (Chooses A by_user) _ (alone-begun r.first r.second))))
 
 began-once : (m n : ℕ) → (nat_le m 1 && nat_le n 1) ≡ true → (m ≤ 1) × (n ≤ 1)
 began-once m n c = (grind (arith, c), grind (arith, c))
@@ -90,9 +95,11 @@ pub holding-repaired : (p : PairState) → Holding p → IsSound p.a.core.limits
     → IsSound p.b.core.limits p.b.core.station → is_ready p ≡ true → IsRepaired p
 holding-repaired p h a b e = ready-repaired (λ q. Holding q) holding-kept p h h.alone a b e
 
-pub run-repaired : (p : PairState) → IsRun p → IsSound p.a.core.limits p.a.core.station
-    → IsSound p.b.core.limits p.b.core.station → is_ready p ≡ true → IsRepaired p
-run-repaired p r a b e = ready-repaired (λ q. IsRun q) kept p r (run-alone p r) a b e
+pub run-repaired : {by_user : Bool} (p : PairState) → IsRunBy by_user p
+    → IsSound p.a.core.limits p.a.core.station → IsSound p.b.core.limits p.b.core.station
+    → is_ready p ≡ true → IsRepaired p
+run-repaired p r a b e =
+    holding-repaired p (record { holds = run-holds p r; alone = run-alone p r }) a b e
 
 pub run-recovers : (p : PairState) → IsRun p → IsSound p.a.core.limits p.a.core.station
     → IsSound p.b.core.limits p.b.core.station → is_ready p ≡ true

@@ -1,15 +1,12 @@
 -- The main law: in order, once, unchanged, or not at all.
-use Rattle.std.specs.Prelude.{◌≡◌, ℕ, ◌≤◌, true, false, List, length, None}
+use Rattle.std.specs.Prelude.{◌≡◌, ℕ, ◌≤◌, true, false, List, length}
 use Rattle.std.specs.List.{All}
 use Rattle.ddcmp_core.specs.Laws.{tells_restart}
-use Rattle.ddcmp_proto.specs.Config.{first_refusal}
-use Rattle.ddcmp_proto.specs.declared.config.Config.{Config}
-use Rattle.ddcmp_pair.specs.declared.event.Event.{Event}
 use Rattle.ddcmp_pair.specs.declared.event.Reply.{Reply}
 use Rattle.ddcmp_pair.specs.declared.event.Reply.TheVariants as reply
 use Rattle.ddcmp_pair.specs.Link.{IsReached, link_of}
 use Rattle.ddcmp_pair.specs.Prefix.{IsPrefixOf}
-use Rattle.ddcmp_pair.specs.Run.{EndState, PairState, handed_up, is_clean, new_pair, run}
+use Rattle.ddcmp_pair.specs.Run.{EndState, PairState, handed_up, is_clean}
 
 -- The messages delivered at `to` are a prefix of those that `from` accepted, and no more of them
 -- were reported acknowledged than were delivered.
@@ -25,15 +22,6 @@ pub record DeliversBothWays (p : PairState) : Type 0 where
 -- end accepted them, each once and unchanged, or not at all.
 pub record IsInOrder (p : PairState) : Type 0 where
   pub where_clean : p.honest ≡ true → is_clean p ≡ true → DeliversBothWays p
-
--- A pair after some list of events, from two new stations of any sizes in range.
-pub record IsRun (p : PairState) : Type 0 where
-  pub first : Config
-  pub second : Config
-  pub first_made : first_refusal first ≡ None
-  pub second_made : first_refusal second ≡ None
-  pub events : List Event
-  pub leads : run events (new_pair first second) ≡ p
 
 -- The messages that one end accepted and the other delivered are a run of an abstract link, whose
 -- window is that of the sending end.

@@ -2,6 +2,7 @@ pub mod Choices
 pub mod InOrder
 pub mod Inside
 pub mod Link
+pub mod Pairs
 pub mod Place
 pub mod Prefix
 pub mod Recovery

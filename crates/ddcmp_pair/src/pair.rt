@@ -29,15 +29,16 @@ impl Drop for Pair {
 }
 
 impl Model for Pair {
+    ghost use Rattle.std.specs.Prelude.{Bool};
     ghost use Rattle.ddcmp_pair.specs.Run.{PairState};
-    ghost use Rattle.ddcmp_pair.specs.InOrder.{IsRun};
+    ghost use Rattle.ddcmp_pair.specs.Pairs.{IsRunBy};
 
     ghost Value = { PairState };
 
     ghost view = { λ p. p.ends };
 
     // Everything that holds for honest and clean runs follows from this alone.
-    ghost invariant = { λ p. IsRun p.ends };
+    ghost invariant = { λ p. (by_user : Bool) × IsRunBy by_user p.ends };
 }
 
 impl Pair {
@@ -49,7 +50,9 @@ impl Pair {
     ghost use Rattle.ddcmp_io.specs.declared.carrier.End.{End as EndValue};
     ghost use Rattle.ddcmp_pair.specs.Run.{new_pair, after_event, reply_to, asks_memory, at};
     ghost use Rattle.ddcmp_pair.specs.Run.{handed_up, is_clean};
-    ghost use Rattle.ddcmp_pair.specs.InOrder.{IsRun, IsInOrder, NoRestart};
+    ghost use Rattle.ddcmp_pair.specs.InOrder.{IsInOrder, NoRestart};
+    ghost use Rattle.ddcmp_pair.specs.Choices.{IsAcknowledgedTaken};
+    ghost use Rattle.ddcmp_pair.specs.Pairs.{new_pair_by, IsRun, IsRunBy};
     ghost use Rattle.ddcmp_pair.specs.Steps.{Reports};
 
     /// Makes two stations on an empty line.
@@ -68,11 +71,35 @@ impl Pair {
             ⊎ ((result ≡ Err (PairRefusal.First ConfigRefusal.Memory))
             ⊎ (result ≡ Err (PairRefusal.Second ConfigRefusal.Memory))) }
     {
-        let a = match Side::new(alloc, first) {
+        Pair::new_with(alloc, first, second, false)
+    }
+
+    /// Makes two stations on an empty line, which acknowledge messages when they are taken if
+    /// `by_user` is set.
+    pub fn new_with(
+        alloc: Global,
+        first: Config,
+        second: Config,
+        by_user: bool,
+    ) -> Result<Pair, PairRefusal>
+        ensures made { IfOk result (λ pair. pair ≡ new_pair_by by_user first second) }
+
+        // The refusals are those of `new`.
+        ensures first { (refusal : ConfigRefusal) → first_refusal first ≡ Some refusal → result
+            ≡ Err (PairRefusal.First refusal) }
+        ensures second { (refusal : ConfigRefusal) → first_refusal first ≡ None
+            → first_refusal second ≡ Some refusal
+            → (result ≡ Err (PairRefusal.Second refusal))
+            ⊎ (result ≡ Err (PairRefusal.First ConfigRefusal.Memory)) }
+        ensures only { first_refusal first ≡ None → first_refusal second ≡ None → IsOk result
+            ⊎ ((result ≡ Err (PairRefusal.First ConfigRefusal.Memory))
+            ⊎ (result ≡ Err (PairRefusal.Second ConfigRefusal.Memory))) }
+    {
+        let a = match Side::new(alloc, first, by_user) {
             Ok(side) => side,
             Err(refusal) => return Err(PairRefusal::First(refusal)),
         };
-        let b = match Side::new(alloc, second) {
+        let b = match Side::new(alloc, second, by_user) {
             Ok(side) => side,
             Err(refusal) => return Err(PairRefusal::Second(refusal)),
         };
@@ -137,9 +164,15 @@ impl Pair {
     }
 
     /// A pair results from two new stations by a list of events, so that its messages are in order.
+    /// Both stations acknowledge messages at the time that was chosen when the pair was made.
     pub fn is_run(&self)
-        ensures run { IsRun self.now }
+        ensures run { IsRunBy self.now.a.core.station.by_user self.now }
+        ensures mode { self.now.b.core.station.by_user ≡ self.now.a.core.station.by_user }
+        ensures early { self.now.a.core.station.by_user ≡ false → IsRun self.now }
         ensures order { IsInOrder self.now }
+        ensures taken { self.now.honest ≡ true → is_clean self.now ≡ true
+            → IsAcknowledgedTaken self.now.a self.now.b
+            × IsAcknowledgedTaken self.now.b self.now.a }
     {
         let _ends = &self.ends;
     }

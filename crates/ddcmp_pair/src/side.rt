@@ -76,21 +76,25 @@ impl Side {
     ghost use Rattle.ddcmp_pair.specs.Run.{new_end, after_start_here, after_event_here, started};
     ghost use Rattle.ddcmp_pair.specs.Run.{reply_here, is_honest_here, cleared, handed_up};
     ghost use Rattle.ddcmp_pair.specs.Run.{asks_here};
+    ghost use Rattle.ddcmp_pair.specs.Choices.{after_choice_here};
     ghost use Rattle.ddcmp_pair.specs.Inside.Sides.{IsPlaced};
 
-    /// Makes an end with an empty history.
-    pub(crate) fn new(alloc: Global, config: Config) -> Result<Side, ConfigRefusal>
-        ensures made { IfOk result (λ s. s.state ≡ new_end config) }
+    /// Makes an end with an empty history, which acknowledges messages when they are taken if
+    /// `by_user` is set.
+    pub(crate) fn new(alloc: Global, config: Config, by_user: bool) -> Result<Side, ConfigRefusal>
+        ensures made { IfOk result (λ s. s.state ≡ after_choice_here by_user (new_end config)) }
         ensures place { IfOk result (λ s. s.place ≡ Some 0) }
         ensures refused { (refusal : ConfigRefusal) → first_refusal config ≡ Some refusal → result
             ≡ Err refusal }
         ensures only { first_refusal config ≡ None → IsOk result
             ⊎ (result ≡ Err ConfigRefusal.Memory) }
     {
-        let station = match Station::new(alloc, config) {
+        let mut station = match Station::new(alloc, config) {
             Ok(station) => station,
             Err(refusal) => return Err(refusal),
         };
+        // Not refused: a new station is halted, and its inbox is empty.
+        let _chosen = station.acknowledge_on_take(by_user);
         let Ok(reader) = Reader::new(alloc, config.max) else {
             return Err(ConfigRefusal::Memory);
         };

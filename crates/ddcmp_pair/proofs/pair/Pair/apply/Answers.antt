@@ -11,18 +11,20 @@ returns-clause-limits c = λ end.
     ∙ ap (λ t. (at end t).core.limits) c.self.view_is
 
 pub invariant_of-self : goal.invariant_of-self
-invariant_of-self c =
-    stepped c.apply.result c.args.event.now c.self.inside.ends c.apply.new.self
-    c.apply.ensures.state c.apply.ensures.memory c.self.invariant
+invariant_of-self c = (
+  c.self.invariant.0,
+  stepped c.apply.result c.args.event.now c.self.inside.ends
+      c.apply.new.self c.apply.ensures.state c.apply.ensures.memory c.self.invariant.1,
+)
 
 pub returns-clause-order : goal.returns-clause-order
 returns-clause-order c =
     run-in-order c.apply.new.self
     (stepped c.apply.result c.args.event.now c.self.inside.ends c.apply.new.self
-    c.apply.ensures.state c.apply.ensures.memory c.self.invariant)
+    c.apply.ensures.state c.apply.ensures.memory c.self.invariant.1)
 
 pub returns-clause-no_restart : goal.returns-clause-no_restart
 returns-clause-no_restart c = λ clean honest.
     stepped-quiet c.apply.result c.args.event.now c.self.inside.ends c.apply.new.self
-    c.apply.ensures.state c.apply.ensures.reply c.self.invariant
+    c.apply.ensures.state c.apply.ensures.reply c.self.invariant.1
     (ap is_clean c.self.view_is ∙ clean) honest
