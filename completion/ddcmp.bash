@@ -18,9 +18,9 @@ _ddcmp() {
     explain:--from) words='hexdump xxd od text auto' ;;
     explain:*) words='--raw --from --json --discarded --ladder --max -h --help' files=yes ;;
     simulate:--window | simulate:--inbox | simulate:--max | simulate:--syn) ;;
-    simulate:*) words='--begun --window --inbox --max --syn --restart --svg --ladder --counters -h --help' files=yes ;;
+    simulate:*) words='--begun --acknowledge-on-take --window --inbox --max --syn --restart --svg --ladder --counters -h --help' files=yes ;;
     pair:--window | pair:--inbox | pair:--max | pair:--syn) ;;
-    pair:*) words='--begun --window --inbox --max --syn --restart --svg --ladder --counters -h --help' files=yes ;;
+    pair:*) words='--begun --acknowledge-on-take --window --inbox --max --syn --restart --svg --ladder --counters -h --help' files=yes ;;
     station:--addr | station:--turns | station:--timer-ms | station:--send) ;;
     station:--role) words='connect listen' ;;
     station:*) words='--role --addr --turns --timer-ms --send --restart --counters -h --help' ;;

@@ -20,6 +20,7 @@ complete -c ddcmp -n '__fish_seen_subcommand_from explain' -l max -x -d 'Longest
 complete -c ddcmp -n '__fish_seen_subcommand_from explain' -s h -l help -d 'Print help'
 complete -c ddcmp -n '__fish_seen_subcommand_from explain' -F
 complete -c ddcmp -n '__fish_seen_subcommand_from simulate' -l begun -d 'Begin with both stations running, the startup handshake done'
+complete -c ddcmp -n '__fish_seen_subcommand_from simulate' -l acknowledge-on-take -d 'Acknowledge messages when they are taken, not when received'
 complete -c ddcmp -n '__fish_seen_subcommand_from simulate' -l window -x -d 'Most messages sent and not acknowledged, 1 to 255 [default: 7]'
 complete -c ddcmp -n '__fish_seen_subcommand_from simulate' -l inbox -x -d 'Most messages received and not taken, 1 to 255 [default: 8]'
 complete -c ddcmp -n '__fish_seen_subcommand_from simulate' -l max -x -d 'Longest message in bytes, 1 to 16383 [default: 1500]'
@@ -31,6 +32,7 @@ complete -c ddcmp -n '__fish_seen_subcommand_from simulate' -l counters -d 'Prin
 complete -c ddcmp -n '__fish_seen_subcommand_from simulate' -s h -l help -d 'Print help'
 complete -c ddcmp -n '__fish_seen_subcommand_from simulate' -F
 complete -c ddcmp -n '__fish_seen_subcommand_from pair' -l begun -d 'Begin with both stations running, the startup handshake done'
+complete -c ddcmp -n '__fish_seen_subcommand_from pair' -l acknowledge-on-take -d 'Acknowledge messages when they are taken, not when received'
 complete -c ddcmp -n '__fish_seen_subcommand_from pair' -l window -x -d 'Most messages sent and not acknowledged, 1 to 255 [default: 7]'
 complete -c ddcmp -n '__fish_seen_subcommand_from pair' -l inbox -x -d 'Most messages received and not taken, 1 to 255 [default: 8]'
 complete -c ddcmp -n '__fish_seen_subcommand_from pair' -l max -x -d 'Longest message in bytes, 1 to 16383 [default: 1500]'

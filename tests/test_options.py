@@ -124,6 +124,8 @@ pass A
 """
 SIMULATE = {
     "--begun": (["--begun"], lambda it: "NotHalted" in it),
+    "--acknowledge-on-take": (["--acknowledge-on-take"],
+                              lambda it: "Acknowledged" not in it.split("took 61")[0]),
     "--window": (["--window", "1"], lambda it: "WindowFull" in it),
     "--inbox": (["--inbox", "1"], lambda it: it.count("HandedUp") == 1),
     "--max": (["--max", "2"], lambda it: "TooLong" in it),
@@ -149,7 +151,9 @@ def scripted(command, chosen):
     if refused(command, chosen, ran, [{"--svg", "--ladder"}]):
         return
     assert ran[1:] == ("", 0)
-    compare(command, chosen, SIMULATE, ran[0])
+    # in a window of 1 nothing else arrives before the first message is taken, as in an inbox of 1
+    unseen = ["--inbox"] if set(chosen) == {"--acknowledge-on-take", "--window"} else []
+    compare(command, chosen, SIMULATE, ran[0], unseen)
 
 
 def test_begun():

@@ -99,10 +99,13 @@ with_view app =
     (flag_rule (codes "ladder")))
     (flag_rule (codes "counters"))
 
--- the file of a script, and whether it begins with both stations started
+-- the file of a script, whether it begins with both stations started, and when they acknowledge
 abbrev pub with_script : App → App
 with_script app =
-    with_rule (with_rule app (place_rule (codes "file"))) (flag_rule (codes "begun"))
+    with_rule (with_rule (with_rule app
+    (place_rule (codes "file")))
+    (flag_rule (codes "begun")))
+    (flag_rule (codes "acknowledge-on-take"))
 
 -- `ddcmp simulate` and `ddcmp pair`
 abbrev pub script_app : Text → App
@@ -308,6 +311,7 @@ pub record HasView (option : Text → Option Text) (view : ScriptView) : Type 0 
 pub record HasScript (option text : Text → Option Text) (scripted : ScriptArgs) : Type 0 where
   pub config : HasSizes 0 option scripted.from.config
   pub begun : HasFlag (option (codes "begun")) scripted.from.begun
+  pub by_user : HasFlag (option (codes "acknowledge-on-take")) scripted.from.by_user
   pub view : HasView option scripted.view
   pub file : option_map (λ name. name.now) scripted.file ≡ file_of (text (codes "file"))
 

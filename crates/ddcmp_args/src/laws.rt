@@ -37,8 +37,8 @@ pub fn explain_is_asked()
 {}
 
 /// The words `ddcmp simulate` ask for the command that runs a script, without its options. The name
-/// of a file, `--begun`, `--window 255`, `--syn=16`, `--restart`, `--svg`, `--ladder` and
-/// `--counters` are accepted.
+/// of a file, `--begun`, `--acknowledge-on-take`, `--window 255`, `--syn=16`, `--restart`, `--svg`,
+/// `--ladder` and `--counters` are accepted.
 pub fn simulate_is_asked()
     ensures plain { IsAsked (codes "ddcmp" ∷ codes "simulate" ∷ []) (codes "simulate") }
     ensures no_window { option_in (codes "ddcmp" ∷ codes "simulate" ∷ []) (codes "window") ≡ None }
@@ -47,6 +47,8 @@ pub fn simulate_is_asked()
     ensures syn { option_in (codes "ddcmp" ∷ codes "simulate" ∷ codes "--syn=16" ∷ [])
         (codes "syn") ≡ Some (codes "16") }
     ensures begun { IsSwitch (codes "simulate") (codes "--begun") (codes "begun") }
+    ensures by_user { IsSwitch (codes "simulate") (codes "--acknowledge-on-take")
+        (codes "acknowledge-on-take") }
     ensures restart { IsSwitch (codes "simulate") (codes "--restart") (codes "restart") }
     ensures svg { IsSwitch (codes "simulate") (codes "--svg") (codes "svg") }
     ensures ladder { IsSwitch (codes "simulate") (codes "--ladder") (codes "ladder") }
@@ -68,6 +70,8 @@ pub fn pair_is_asked()
     ensures syn { option_in (codes "ddcmp" ∷ codes "pair" ∷ codes "--syn=16" ∷ [])
         (codes "syn") ≡ Some (codes "16") }
     ensures begun { IsSwitch (codes "pair") (codes "--begun") (codes "begun") }
+    ensures by_user { IsSwitch (codes "pair") (codes "--acknowledge-on-take")
+        (codes "acknowledge-on-take") }
     ensures restart { IsSwitch (codes "pair") (codes "--restart") (codes "restart") }
     ensures ladder { IsSwitch (codes "pair") (codes "--ladder") (codes "ladder") }
     ensures counters { IsSwitch (codes "pair") (codes "--counters") (codes "counters") }

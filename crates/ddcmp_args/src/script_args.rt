@@ -20,6 +20,8 @@ pub struct Beginning {
     pub config: Config,
     /// Whether both were started, and settled.
     pub begun: bool,
+    /// Whether both acknowledge messages when they are taken, and not when they are received.
+    pub by_user: bool,
 }
 
 /// The arguments of a script between two stations.
@@ -65,10 +67,11 @@ pub(crate) static PAIR: CommandText = CommandText {
     help: SCRIPT_HELP,
 };
 
-/// The options for the file of a script and its start.
-static SCRIPT_OPTIONS: [CommandOption; 2] = table! {
+/// The options for the file of a script and its stations.
+static SCRIPT_OPTIONS: [CommandOption; 3] = table! {
     "file": Place("FILE"), "Script to read; standard input if left out or -";
     "begun": Nothing, "Begin with both stations running, the startup handshake done";
+    "acknowledge-on-take": Nothing, "Acknowledge messages when they are taken, not when received";
 };
 
 /// Returns the parser of a command that runs a script, with its options.
@@ -90,6 +93,7 @@ pub(crate) fn script_given<'a>(options: &ArgMatches<'a>) -> ScriptArgs<'a>
         from: Beginning {
             config: sizes_given(options, 0),
             begun: flag_given(options, "begun"),
+            by_user: flag_given(options, "acknowledge-on-take"),
         },
         view: view_given(options),
         file,

@@ -6,7 +6,8 @@ use Rattle.ddcmp_line.specs.declared.script_fault.ScriptFault.{ScriptFault}
 use Rattle.ddcmp_commands.specs.declared.fault.Fault.TheVariants.{Memory as NoMemory, Carrier}
 use Rattle.ddcmp_io.specs.declared.carrier.End.TheVariants.{A, B}
 use Rattle.ddcmp_pair.specs.declared.event.Event.TheVariants as event
-use Rattle.ddcmp_pair.specs.Run.{PairState, new_pair, run}
+use Rattle.ddcmp_pair.specs.Pairs.{new_pair_by}
+use Rattle.ddcmp_pair.specs.Run.{PairState, run}
 use Rattle.ddcmp_pair.specs.Settle.{settled}
 use Rattle.ddcmp_line.specs.ScriptEnds.{Around, around, Plays}
 use Rattle.ddcmp_picture.specs.Drawn.{DrawsScript}
@@ -30,8 +31,8 @@ begun p = settled (run (event.Start A ∷ event.Start B ∷ []) p)
 -- the pair that a script begins with
 abbrev pub pair_with : Beginning → PairState
 pair_with from =
-    if from.begun then begun (new_pair from.config from.config)
-    else new_pair from.config from.config
+    if from.begun then begun (new_pair_by from.by_user from.config from.config)
+    else new_pair_by from.by_user from.config from.config
 
 -- A script was drawn, or its text was written. What is written of a drawing isn't defined here.
 abbrev pub Ran : Bool → Bool → Streams → Around → Result (Unit {0}) ScriptFault → Type 0

@@ -58,7 +58,7 @@ fn picture_of(alloc: Global, view: ScriptView) -> Result<Option<Picture>, Ending
 fn pair_of(alloc: Global, from: Beginning) -> Option<Pair>
     ensures made { IfSome result (λ pair. pair ≡ pair_with from) }
 {
-    let Ok(mut pair) = Pair::new(alloc, from.config, from.config) else {
+    let Ok(mut pair) = Pair::new_with(alloc, from.config, from.config, from.by_user) else {
         return None;
     };
     if !from.begun {

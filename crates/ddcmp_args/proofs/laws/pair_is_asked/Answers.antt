@@ -11,6 +11,7 @@ returns c = record {
   inbox = refl;
   syn = refl;
   begun = (refl, refl);
+  by_user = (refl, refl);
   restart = (refl, refl);
   ladder = (refl, refl);
   counters = (refl, refl);

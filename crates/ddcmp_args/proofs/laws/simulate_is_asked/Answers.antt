@@ -11,6 +11,7 @@ returns c = record {
   window = refl;
   syn = refl;
   begun = (refl, refl);
+  by_user = (refl, refl);
   restart = (refl, refl);
   svg = (refl, refl);
   ladder = (refl, refl);
