@@ -69,7 +69,7 @@ complete -c ddcmp -n '__fish_seen_subcommand_from link' -l max -x -d 'Longest me
 complete -c ddcmp -n '__fish_seen_subcommand_from link' -l syn -x -d 'SYN bytes before each frame, 0 to 16 [default: 0]'
 complete -c ddcmp -n '__fish_seen_subcommand_from link' -l restart -d 'Restart when the peer restarts, if no received message is waiting'
 complete -c ddcmp -n '__fish_seen_subcommand_from link' -l timer-ms -x -d 'Reply timer in milliseconds, from 1 [default: 3000, over UDP 500]'
-complete -c ddcmp -n '__fish_seen_subcommand_from link' -l attempts -x -d 'Leave after N tries without progress, 0: never [default: 7 to start]'
+complete -c ddcmp -n '__fish_seen_subcommand_from link' -l attempts -x -d 'Leave after N tries without a reply, 0: never [default: 7 to start]'
 complete -c ddcmp -n '__fish_seen_subcommand_from link' -l linger-ms -x -d 'Once done, stay until no reply was due for N ms [default: 500 over TCP]'
 complete -c ddcmp -n '__fish_seen_subcommand_from link' -l baud -x -d 'Write to a device at this speed, 0: as it takes them [default: 0]'
 complete -c ddcmp -n '__fish_seen_subcommand_from link' -l seconds -x -d 'End after N seconds, whatever the state'

@@ -137,6 +137,35 @@ def test_refused(reason, words):
     assert f"ddcmp: peer refuses: {words}" in link.errors()
 
 
+def asleep(_peer, frame):
+    """What a peer answers whose output isn't read: it acknowledges nothing new."""
+    return {"STRT": STACK, "STACK": ack(0), "REP": ack(0)}.get(frame.name, b"")
+
+
+@pytest.mark.parametrize("is_of_datagrams", [False, True])
+def test_asleep(is_of_datagrams):
+    """A peer that replies to each REP isn't given up, however many tries there are; once it is
+    silent it is, after as many as are asked for."""
+    options = (*QUICK, "--attempts", "3")
+    for then in (good, silent):
+        if is_of_datagrams:
+            link, peer, _local = datagram_peer(*options, answer=asleep, timer=())
+            assert peer.runs()
+        else:
+            link, peer = running(*options, answer=asleep)
+        link.give(b"61\n")
+        assert peer.waits(lambda it: len(it.named("REP")) >= 10, 5) and link.is_running()
+        count, begun = len(peer.named("REP")), time.monotonic()
+        peer.answer = then
+        if then is good:
+            must_end("awake", link, 0, seconds=10)
+            assert peer.mail == [b"a"] and LEFT not in link.errors()
+        else:
+            must_end("silent", link, 3, unacknowledged(1), seconds=5)
+            assert LEFT in link.errors() and 2 <= len(peer.named("REP")) - count <= 4
+            assert 0.1 <= time.monotonic() - begun
+
+
 def test_slow_progress():
     """Progress between two tries keeps a line, however many tries there are."""
     link, peer = running(*QUICK, "--attempts", "3", "--window", "1", answer=no_ack)

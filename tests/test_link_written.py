@@ -161,7 +161,7 @@ def test_sleeping_reader():
     with line_of("tcp") as (there, here):
         one, reading = into_pipe(Link, there, "--stay")
         assert one.waits(lambda it: b"\n" in it.err, 10), one
-        two = Link(here, "--stay", "--timer-ms", "100")
+        two = Link(here, "--stay", "--timer-ms", "100", "--attempts", "3")
         two.give(digits(SENT[:3000]), close=False)
         own = messages_of(2000, 300)
         one.give(digits(own), close=False)

@@ -71,7 +71,7 @@ static LINK_OPTIONS: [CommandOption; 17] = table! {
     "timer-ms": Number(1, u32::MAX),
         "Reply timer in milliseconds, from 1 [default: 3000, over UDP 500]";
     "attempts": Number(0, u32::MAX),
-        "Leave after N tries without progress, 0: never [default: 7 to start]";
+        "Leave after N tries without a reply, 0: never [default: 7 to start]";
     "linger-ms": Number(0, u32::MAX),
         "Once done, stay until no reply was due for N ms [default: 500 over TCP]";
     "baud": Number(0, u32::MAX),

@@ -63,7 +63,9 @@ use Rattle.ddcmp_session.specs.Course.{after_looked, after_notice, after_notices
 use Rattle.ddcmp_session.specs.Course.{after_acknowledged, after_heard, after_refusal, after_noise}
 use Rattle.ddcmp_session.specs.Course.{after_progress, after_state, goes_on, is_at, progress_of}
 use Rattle.ddcmp_session.specs.Course.{after_naks, naks_of, next_pause, pause_begun}
-use Rattle.ddcmp_session.specs.Course.{refusal_between, try_counted}
+use Rattle.ddcmp_session.specs.Course.{expiry_counted, refusal_between, silence_counted}
+use Rattle.ddcmp_session.specs.Course.{try_counted}
+use Rattle.ddcmp_session.specs.Session.{course_tried, is_deaf, is_sending}
 use Rattle.ddcmp_session.specs.Timing.{PassesTime, after_failure, after_line}
 use Rattle.ddcmp_session.specs.Calls.{SessionStep}
 use Rattle.ddcmp_io.specs.declared.carrier.End.{End}
@@ -373,12 +375,21 @@ received-lost s d ns = by (wants_line s)
         ∙ notices-lost ns _ e
     by false e = e
 
+tried-lost : (s : SessionView) → (course_tried s).lost ≡ s.course.lost
+unfolding course_tried
+tried-lost s =
+    let runs = is_running s.link.station.core.station.state in
+    let one =
+    if-lost runs (silence_counted s.course) (try_counted None s.course) s.course.lost refl refl in
+    if-lost (is_sending s || is_deaf s) s.course (expiry_counted runs s.is_read s.course)
+    s.course.lost refl
+    (if-lost s.is_read _ (cond runs (silence_counted s.course) (try_counted None s.course))
+    s.course.lost one one)
+
 timeout-lost : (now : ℕ) (s : SessionView) → (after_timeout now s).course.lost ≡ s.course.lost
 timeout-lost now s =
-    let counted =
-    if-lost _ _ _ s.course.lost refl (if-lost s.is_read _ _ s.course.lost refl refl) in
     let tried =
-    if-lost (expires now s && not (awaits_peer s)) _ _ s.course.lost counted refl in
+    if-lost (expires now s && not (awaits_peer s)) _ _ s.course.lost (tried-lost _) refl in
     if-lost _ _ _ s.course.lost tried tried
 
 line-lost : (s : SessionView) → (after_line s).course.lost ≡ s.course.lost

@@ -3,7 +3,7 @@
 use Rattle.std.proofs.Common.{◌≡◌, ◌∙◌, ap, sym, subst, refl, ℕ, zero, suc}
 use Rattle.std.proofs.Common.{Bool, true, false, cond, List, [], ◌++◌, drop, take, Some, None}
 use Rattle.std.proofs.Common.{◌⊎◌, inl, inr}
-use Rattle.std.specs.Prelude.{◌&&◌, not}
+use Rattle.std.specs.Prelude.{◌&&◌, ◌||◌, not}
 use Rattle.std.proofs.Math.Seq.{drop-nil}
 use Rattle.ddcmp_window.specs.Store.{first_message}
 use Rattle.ddcmp_core.specs.Core.{CoreView}
@@ -11,7 +11,7 @@ use Rattle.ddcmp_core.specs.declared.state.State.TheVariants.{Halted}
 use Rattle.ddcmp_core.specs.declared.state.Timer.{Timer}
 use Rattle.ddcmp_core.specs.declared.state.Timer.TheVariants as timer
 use Rattle.ddcmp_core.specs.Table.{StationState, after_expire_in, after_expire_with, after_halt}
-use Rattle.ddcmp_core.specs.Table.{is_on, next, next_by, next_frame}
+use Rattle.ddcmp_core.specs.Table.{is_on, is_running, next, next_by, next_frame}
 use Rattle.ddcmp_proto.specs.Bytes.{items_added, notices_of_piece}
 use Rattle.ddcmp_station.specs.Driving.{core_after_expire, core_after_take_arm, deadline_at, is_due}
 use Rattle.ddcmp_station.specs.Linking.{LinkView, after_frame, after_frames, after_polled}
@@ -29,7 +29,8 @@ use Rattle.ddcmp_session.specs.Session.{SessionView, after_last_line, after_time
 use Rattle.ddcmp_session.specs.Session.{after_told, after_tried, after_unfinished}
 use Rattle.ddcmp_session.specs.Session.{after_output, awaits_peer, is_awaited, taken_when_written}
 use Rattle.ddcmp_laws.proofs.Holding.{takes_none}
-use Rattle.ddcmp_session.specs.Session.{expires, form_of, is_sending, unless_read, wants_line}
+use Rattle.ddcmp_session.specs.Session.{expires, form_of, is_deaf, is_sending, unless_read}
+use Rattle.ddcmp_session.specs.Session.{course_tried, wants_line}
 use Rattle.ddcmp_streams.specs.Options.{report_ms, speed_of}
 use Rattle.ddcmp_session.specs.Timing.{after_failure, after_line, is_listener}
 use Rattle.ddcmp_session.specs.Calls.{Closed, Connected, Delivered, Filled, HasDelivered}
@@ -143,9 +144,11 @@ wake-inbox now d halted =
 -- no moment lets a station run
 timed-run : (now : ℕ) (s : SessionView)
     → (after_timeout now s).course.has_run ≡ s.course.has_run
+unfolding course_tried
 timed-run now s =
     unheard (after_told (expires now s) (after_tried (expires now s) passed))
-    ∙ tried (expires now s && not (awaits_peer passed)) (is_sending passed) s.is_read
+    ∙ tried (expires now s && not (awaits_peer passed)) (is_sending passed || is_deaf passed)
+    (is_running passed.link.station.core.station.state) s.is_read
   where
     passed : SessionView
     passed = record s {
@@ -164,17 +167,19 @@ timed-run now s =
         by true = refl
         by false = refl
 
-    tried : (b sends is_read : Bool)
+    tried : (b is_none runs is_read : Bool)
         → (cond b
-        (record (cond sends passed.course (expiry_counted is_read passed.course)) {
+        (record (cond is_none passed.course (expiry_counted runs is_read passed.course)) {
           written_then = passed.course.written;
         })
         passed.course).has_run
         ≡ s.course.has_run
-    tried true true is_read = refl
-    tried true false true = refl
-    tried true false false = refl
-    tried false sends is_read = refl
+    tried true true runs is_read = refl
+    tried true false true true = refl
+    tried true false true false = refl
+    tried true false false true = refl
+    tried true false false false = refl
+    tried false is_none runs is_read = refl
 
 passed-run : (s : SessionView) (c : Course) (now : ℕ)
     → (c ≡ (after_time now s).course)

@@ -1,7 +1,8 @@
 -- How the run gets on after bytes of the line.
-use Rattle.std.proofs.Common.{◌≡◌, ◌∙◌, ap, sym, refl, ℕ, arith, Bool, true, false, ◌&&◌, not}
+use Rattle.std.proofs.Common.{◌≡◌, ◌∙◌, ap, sym, refl, ℕ, arith, Bool, true, false, ◌&&◌, ◌||◌, not}
 use Rattle.std.proofs.Common.{List, [], ◌∷◌, cond, Some, None, nat_le}
 use Rattle.std.proofs.lemmas.Bool.{le-leb}
+use Rattle.ddcmp_core.specs.Table.{is_running}
 use Rattle.ddcmp_core.specs.declared.counters.NakCounts.{NakCounts}
 use Rattle.ddcmp_core.specs.declared.notice.Notice.{Notice}
 use Rattle.ddcmp_station.specs.Linking.{LinkView, after_wake}
@@ -9,9 +10,10 @@ use Rattle.ddcmp_session.specs.declared.course.Course.{Course}
 use Rattle.ddcmp_session.specs.declared.session.EndReason.TheVariants.{Time}
 use Rattle.ddcmp_session.specs.Course.{after_looked, after_moment, after_notice, after_notices}
 use Rattle.ddcmp_session.specs.Course.{after_pauses, after_unheard, after_writing}
-use Rattle.ddcmp_session.specs.Course.{expiry_counted, try_counted}
+use Rattle.ddcmp_session.specs.Course.{expiry_counted, silence_counted, try_counted}
 use Rattle.ddcmp_session.specs.Session.{SessionView, after_told, after_timeout, awaits_peer}
-use Rattle.ddcmp_session.specs.Session.{course_received, expires, is_sending, timed_out}
+use Rattle.ddcmp_session.specs.Session.{course_tried}
+use Rattle.ddcmp_session.specs.Session.{course_received, expires, is_deaf, is_sending, timed_out}
 use Rattle.ddcmp_streams.specs.Options.{report_ms, speed_of}
 use Rattle.ddcmp_session.specs.Timing.{end, run_ends_at}
 use Rattle.ddcmp_session.specs.Session.{wants_line}
@@ -53,15 +55,18 @@ either true x y n p q = p
 either false x y n p q = q
 
 moment-is : (now : ℕ) (s : SessionView) → (after_timeout now s).course.moment ≡ now
+unfolding course_tried
 moment-is now s =
     let c =
     after_writing (speed_of s.options) s.link.totals.written
     (after_pauses (after_moment (report_ms s.options) now s.course)) in
     let t = record s { link = after_wake now s.link; course = c } in
     let u = timed_out now s in
+    let runs = is_running t.link.station.core.station.state in
+    let one = either runs (silence_counted c) (try_counted None c) now refl refl in
     let counted =
-    either (is_sending t) c (expiry_counted s.is_read c) now refl
-    (either s.is_read _ (try_counted None c) now refl refl) in
+    either (is_sending t || is_deaf t) c (expiry_counted runs s.is_read c) now refl
+    (either s.is_read _ (cond runs (silence_counted c) (try_counted None c)) now one one) in
     let at = either (expires now s && not (awaits_peer t)) _ c now counted refl in
     either (wants_line u) _ (after_unheard (after_told (expires now s) u).course) now at at
 

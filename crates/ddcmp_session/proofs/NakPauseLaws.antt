@@ -4,6 +4,7 @@ use Rattle.std.proofs.Common.{Bool, true, false, cond, not, List}
 use Rattle.std.proofs.Common.{Option, Some, None}
 use Rattle.std.specs.Prelude.{◌==◌, ◌&&◌, ◌||◌, is_none, is_some}
 use Rattle.ddcmp_frame.specs.declared.nak.Nak.{Nak}
+use Rattle.ddcmp_core.specs.Table.{is_running}
 use Rattle.ddcmp_core.specs.declared.counters.NakCounts.{NakCounts}
 use Rattle.ddcmp_core.specs.declared.notice.Notice.{Notice}
 use Rattle.ddcmp_proto.specs.Bytes.{notices_of_piece}
@@ -17,10 +18,12 @@ use Rattle.ddcmp_session.specs.Course.{after_acknowledged, after_heard, after_lo
 use Rattle.ddcmp_session.specs.Course.{after_naks, after_notices, after_opening_failed}
 use Rattle.ddcmp_session.specs.Course.{after_pauses, after_refusal, after_unheard, after_writing}
 use Rattle.ddcmp_session.specs.Course.{expiry_counted, is_at, lost_more, naks_of, next_pause}
-use Rattle.ddcmp_session.specs.Course.{pause_at, progress_of, refusal_between, try_counted}
+use Rattle.ddcmp_session.specs.Course.{pause_at, progress_of, refusal_between, silence_counted}
+use Rattle.ddcmp_session.specs.Course.{try_counted}
 use Rattle.ddcmp_session.specs.Session.{SessionView, after_connecting_in, after_entries}
 use Rattle.ddcmp_session.specs.Session.{after_input_end, after_told, after_time, after_timeout}
-use Rattle.ddcmp_session.specs.Session.{awaits_peer, expires, is_sending, lost_by_start, starts}
+use Rattle.ddcmp_session.specs.Session.{awaits_peer, expires, is_deaf, is_sending, lost_by_start}
+use Rattle.ddcmp_session.specs.Session.{course_tried, starts}
 use Rattle.ddcmp_session.specs.Session.{timed_out, wants_line}
 use Rattle.ddcmp_session.specs.Timing.{PassesTime, after_failure, after_line, is_listener}
 use Rattle.ddcmp_session.specs.Calls.{SessionCall, SessionDoes, InputRead, InputEnded, Connected}
@@ -139,6 +142,7 @@ received s d ns new e = subst (NakGoes s.options.timer_ms s.course) (sym e) (by 
 
 timed-pause : (now : ℕ) (s : SessionView)
     → (after_timeout now s).course.nak_pause ≡ pause_at now s.course.nak_pause
+unfolding course_tried
 timed-pause now s =
     let c =
     after_writing (speed_of s.options) s.link.totals.written
@@ -146,9 +150,11 @@ timed-pause now s =
     let t = record s { link = after_wake now s.link; course = c } in
     let u = timed_out now s in
     let p = pause_at now s.course.nak_pause in
+    let runs = is_running t.link.station.core.station.state in
+    let one = either-nak runs (silence_counted c) (try_counted None c) p refl refl in
     let counted =
-    either-nak (is_sending t) c (expiry_counted s.is_read c) p refl
-    (either-nak s.is_read _ (try_counted None c) p refl refl) in
+    either-nak (is_sending t || is_deaf t) c (expiry_counted runs s.is_read c) p refl
+    (either-nak s.is_read _ (cond runs (silence_counted c) (try_counted None c)) p one one) in
     let at = either-nak (expires now s && not (awaits_peer t)) _ c p counted refl in
     either-nak (wants_line u) _ (after_unheard (after_told (expires now s) u).course) p at at
 

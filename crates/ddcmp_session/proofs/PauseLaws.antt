@@ -7,6 +7,7 @@ use Rattle.std.proofs.lemmas.Bool.{le-leb}
 use Rattle.ddcmp_frame.specs.declared.nak.Nak.{Nak}
 use Rattle.ddcmp_input.specs.declared.entry.Entry.{Entry}
 use Rattle.ddcmp_input.specs.declared.entry.Entry.TheVariants as entry
+use Rattle.ddcmp_core.specs.Table.{is_running}
 use Rattle.ddcmp_core.specs.declared.counters.NakCounts.{NakCounts}
 use Rattle.ddcmp_core.specs.declared.notice.Notice.{Notice}
 use Rattle.ddcmp_core.specs.declared.notice.Notice.TheVariants as notice
@@ -27,7 +28,7 @@ use Rattle.ddcmp_session.specs.Course.{after_pauses, after_progress, after_refus
 use Rattle.ddcmp_session.specs.Course.{goes_on, is_at, lost_more, next_pause, pause_at, pause_begun}
 use Rattle.ddcmp_session.specs.Course.{after_naks, after_writing, naks_of, progress_of}
 use Rattle.ddcmp_session.specs.Course.{refusal_between}
-use Rattle.ddcmp_session.specs.Course.{try_counted}
+use Rattle.ddcmp_session.specs.Course.{silence_counted, try_counted}
 use Rattle.ddcmp_session.specs.Session.{SessionView, after_connecting_in}
 use Rattle.ddcmp_session.specs.Session.{after_command, after_entries, after_entry}
 use Rattle.ddcmp_session.specs.Session.{after_input_end, after_message, is_held}
@@ -35,8 +36,8 @@ use Rattle.ddcmp_streams.specs.Messages.{command_in}
 use Rattle.ddcmp_streams.specs.declared.messages.Command.{Command}
 use Rattle.ddcmp_streams.specs.declared.messages.Command.TheVariants as command
 use Rattle.ddcmp_session.specs.Session.{after_last_line, after_told, after_time, after_timeout}
-use Rattle.ddcmp_session.specs.Session.{after_unfinished, awaits_peer, expires, is_sending}
-use Rattle.ddcmp_session.specs.Session.{lost_by_start, starts}
+use Rattle.ddcmp_session.specs.Session.{after_unfinished, awaits_peer, expires, is_deaf, is_sending}
+use Rattle.ddcmp_session.specs.Session.{course_tried, lost_by_start, starts}
 use Rattle.ddcmp_session.specs.Session.{takes_end, timed_out, wants_line}
 use Rattle.ddcmp_session.specs.Timing.{PassesTime, after_failure, after_line, is_listener}
 use Rattle.ddcmp_session.specs.Calls.{SessionCall, SessionDoes, InputRead, InputEnded, Connected}
@@ -267,6 +268,7 @@ received s d ns new e =
 
 timed-pause : (now : ℕ) (s : SessionView)
     → (after_timeout now s).course.pause ≡ pause_at now s.course.pause
+unfolding course_tried
 timed-pause now s =
     let c =
     after_writing (speed_of s.options) s.link.totals.written
@@ -274,9 +276,11 @@ timed-pause now s =
     let t = record s { link = after_wake now s.link; course = c } in
     let u = timed_out now s in
     let p = pause_at now s.course.pause in
+    let runs = is_running t.link.station.core.station.state in
+    let one = either-pause runs (silence_counted c) (try_counted None c) p refl refl in
     let counted =
-    either-pause (is_sending t) c (expiry_counted s.is_read c) p refl
-    (either-pause s.is_read _ (try_counted None c) p refl refl) in
+    either-pause (is_sending t || is_deaf t) c (expiry_counted runs s.is_read c) p refl
+    (either-pause s.is_read _ (cond runs (silence_counted c) (try_counted None c)) p one one) in
     let at = either-pause (expires now s && not (awaits_peer t)) _ c p counted refl in
     either-pause (wants_line u) _ (after_unheard (after_told (expires now s) u).course) p at at
 

@@ -29,6 +29,7 @@ course_begun report_ms = record {
   replies = 0;
   tries = 0;
   refusal = None;
+  unheard = 0;
   unanswered = 0;
   unanswered_since = 0;
   progress = None;
@@ -107,6 +108,7 @@ abbrev pub after_connecting : Course → Course
 after_connecting c = record c {
   tries = 0;
   refusal = None;
+  unheard = 0;
   unanswered = 0;
   progress = None;
   is_refused = false;
@@ -132,11 +134,16 @@ after_entering enters c = record (after_connecting c) {
 abbrev pub try_counted : Option Nak → Course → Course
 try_counted refusal c = record c { tries = min (c.tries + 1) 4294967295; refusal = refusal }
 
--- An expiry of the reply timer is a try. Once all of the input was read it is noted since when the
+-- one more try of a running station without a byte of the peer
+abbrev pub silence_counted : Course → Course
+silence_counted c = record c { unheard = min (c.unheard + 1) 4294967295; refusal = None }
+
+-- An expiry of the reply timer is a try; while the station runs only one of silence, since its peer
+-- may reply and acknowledge nothing yet. Once all of the input was read it is noted since when the
 -- timer has expired without a byte of the peer.
-abbrev pub expiry_counted : Bool → Course → Course
-expiry_counted is_read c =
-    let tried = try_counted None c in if is_read
+abbrev pub expiry_counted : Bool → Bool → Course → Course
+expiry_counted runs is_read c =
+    let tried = if runs then silence_counted c else try_counted None c in if is_read
     then record tried {
       unanswered = min (c.unanswered + 1) 4294967295;
       unanswered_since = if c.unanswered == 0 then c.moment else c.unanswered_since;
@@ -145,7 +152,7 @@ expiry_counted is_read c =
 
 -- The line isn't read, so the peer isn't heard: it counts neither as quiet nor as silent.
 abbrev pub after_unheard : Course → Course
-after_unheard c = record c { quiet_since = c.moment; unanswered = 0 }
+after_unheard c = record c { quiet_since = c.moment; unheard = 0; unanswered = 0 }
 
 -- The peer waits for an acknowledgement, if `waits`, and doesn't count as quiet.
 abbrev pub after_awaited : Bool → Course → Course
@@ -153,7 +160,7 @@ after_awaited waits c = record c { quiet_since = if waits then c.moment else c.q
 
 -- Bytes were received, with which there were this many.
 abbrev pub after_heard : ℕ → Course → Course
-after_heard read c = record c { unanswered = 0; read = read }
+after_heard read c = record c { unheard = 0; unanswered = 0; read = read }
 
 -- The reason of a NAK, other than a reply to REP, that was received between these two counts.
 abbrev pub refusal_between : NakCounts → NakCounts → Option Nak
@@ -252,7 +259,7 @@ after_noise d p c =
     then record c { quiet_since = c.moment; replies = c.replies + 1 }
     else c
 
--- any progress resets the number of tries
+-- any progress resets the number of tries, as any byte does that of silence
 abbrev pub after_progress : Progress → Course → Course
 after_progress p c =
     if is_at p c.progress then c

@@ -6,7 +6,7 @@ use Rattle.std.specs.Prelude.{if◌then◌else◌, List, [], ◌∷◌, length, 
 use Rattle.std.specs.Prelude.{Option}
 use Rattle.std.specs.Prelude.{option_to_list}
 use Rattle.ddcmp_core.specs.Choosing.{after_choose}
-use Rattle.ddcmp_core.specs.Table.{after_halt, answer_to_start, is_maintenance}
+use Rattle.ddcmp_core.specs.Table.{after_halt, answer_to_start, is_maintenance, is_running}
 use Rattle.ddcmp_core.specs.declared.notice.Notice.{Notice}
 use Rattle.ddcmp_input.specs.declared.entry.Entry.{Entry}
 use Rattle.ddcmp_input.specs.declared.entry.Entry.TheVariants.{Message, NotHexadecimal}
@@ -322,14 +322,22 @@ is_sending s =
     || (not (length s.link.outbox.waiting == 0)
     && not (s.course.written == s.course.written_then)))
 
--- An expiry counts as a try if a peer is there, and has all that was sent.
+-- A running station whose line isn't read doesn't hear its peer.
+abbrev pub is_deaf : SessionView → Bool
+is_deaf s = is_running s.link.station.core.station.state && not (wants_line s)
+
+-- An expiry counts as a try if a peer is there, has all that was sent, and is heard.
+unfoldable pub course_tried : SessionView → Course
+course_tried s =
+    if is_sending s || is_deaf s
+    then s.course
+    else expiry_counted (is_running s.link.station.core.station.state) s.is_read s.course
+
 abbrev pub after_tried : Bool → SessionView → SessionView
 after_tried has_expired s = record s {
   course =
       if has_expired && not (awaits_peer s)
-      then record (if is_sending s then s.course else expiry_counted s.is_read s.course) {
-        written_then = s.course.written;
-      }
+      then record (course_tried s) { written_then = s.course.written }
       else s.course;
 }
 

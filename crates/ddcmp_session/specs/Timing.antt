@@ -1,7 +1,7 @@
 -- When a session leaves its line, how long it waits, and when it opens a line again.
 use Rattle.std.specs.Prelude.{◌≡◌, ◌⊎◌, ℕ, ◌-◌, ◌*◌, Bool, true, false, ◌&&◌, ◌||◌, not, ◌==◌}
 use Rattle.std.specs.Prelude.{nat_le, nat_lt}
-use Rattle.std.specs.Prelude.{min, if◌then◌else◌, Option, None, Some}
+use Rattle.std.specs.Prelude.{min, max, if◌then◌else◌, Option, None, Some}
 use Rattle.ddcmp_core.specs.Table.{is_running}
 use Rattle.ddcmp_station.specs.Driving.{later}
 use Rattle.ddcmp_station.specs.Linking.{wakes_at as timer_at}
@@ -60,10 +60,12 @@ is_gone s =
     && is_silent s
     && nat_le (later s.course.unanswered_since 300000) s.course.moment
 
+-- Too many tries in a row were without progress, before the station ran or since the peer refuses
+-- messages, or without a byte of the peer since then; or such a peer is gone.
 abbrev pub is_given_up : SessionView → Bool
 is_given_up s =
     too_many (most_tries s.options.attempts (is_running s.link.station.core.station.state))
-    s.course.tries
+    (max s.course.tries s.course.unheard)
     || is_gone s
 
 -- The seventh try has just expired, and it isn't the last one.

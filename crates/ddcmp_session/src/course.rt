@@ -6,7 +6,7 @@ ghost use Rattle.ddcmp_session.specs.Course.{after_opening_failed, after_progres
 ghost use Rattle.ddcmp_session.specs.Course.{after_unheard};
 ghost use Rattle.ddcmp_session.specs.Course.{after_writing, course_begun, expiry_counted};
 ghost use Rattle.ddcmp_session.specs.Course.{lost_more, one_ready, unready_by};
-ghost use Rattle.ddcmp_session.specs.Course.{reports_at, sending_ms, try_counted};
+ghost use Rattle.ddcmp_session.specs.Course.{reports_at, sending_ms, silence_counted, try_counted};
 
 mod pauses;
 mod progress;
@@ -41,9 +41,11 @@ pub(crate) enum Wrong {
 
 /// How the run of a session proceeds. All moments are in milliseconds since the session was made.
 ///
-/// The line is to be left after too many tries in a row without progress: no message was
-/// acknowledged, none was received and the startup handshake made no step. A try is an expiry of
-/// the reply timer, or a pause of the same length since the peer refuses messages.
+/// The line is to be left after too many tries in a row. Before the station runs a try is an expiry
+/// of the reply timer without progress: no message was acknowledged, none was received and the
+/// startup handshake made no step. Once it runs it is an expiry without a received byte: a peer
+/// whose output isn't read acknowledges nothing new, but it replies. If the peer refuses messages,
+/// a pause as long as the reply timer without progress is a try, too.
 ///
 /// After a NAK the station retransmits its messages at once, which repairs what a line has damaged.
 /// If a second NAK is received before the peer has acknowledged a message, they are held back for
@@ -65,10 +67,13 @@ pub(crate) struct Course {
     pub(crate) quiet_since: u64,
     /// How many replies there were since then to frames that brought nothing new, at most 7.
     pub(crate) replies: u8,
-    /// How many tries there were in a row.
+    /// How many tries there were in a row without progress, before the station ran or since the
+    /// peer refuses messages.
     pub(crate) tries: u32,
     /// Why the peer refused the last message, if that was the last try.
     pub(crate) refusal: Option<Nak>,
+    /// How many tries of a running station there were since a byte was received.
+    pub(crate) unheard: u32,
     /// How many times the reply timer expired since a byte was received and all of the input was
     /// read, and when it did so first.
     pub(crate) unanswered: u32,
@@ -141,6 +146,7 @@ impl Course {
             replies: 0,
             tries: 0,
             refusal: None,
+            unheard: 0,
             unanswered: 0,
             unanswered_since: 0,
             progress: None,
@@ -208,6 +214,7 @@ impl Course {
     {
         self.tries = 0;
         self.refusal = None;
+        self.unheard = 0;
         self.unanswered = 0;
         self.progress = None;
         self.is_refused = false;
@@ -240,12 +247,24 @@ impl Course {
         self.refusal = refusal;
     }
 
-    /// Counts an expiry of the reply timer as a try. `is_read` means that all of the input was
-    /// read.
-    pub(crate) fn count_expiry(&mut self, is_read: bool)
-        ensures { self.new ≡ expiry_counted is_read self.old }
+    /// Counts a try of a running station, whose peer isn't heard.
+    fn count_silence(&mut self)
+        ensures { self.new ≡ silence_counted self.old }
     {
-        self.count_try(None);
+        self.unheard = self.unheard.saturating_add(1);
+        self.refusal = None;
+    }
+
+    /// Counts an expiry of the reply timer as a try. `runs` means that the station runs, and
+    /// `is_read` that all of the input was read.
+    pub(crate) fn count_expiry(&mut self, runs: bool, is_read: bool)
+        ensures { self.new ≡ expiry_counted runs is_read self.old }
+    {
+        if runs {
+            self.count_silence();
+        } else {
+            self.count_try(None);
+        }
         if !is_read {
             return;
         }
@@ -260,6 +279,7 @@ impl Course {
         ensures { self.new ≡ after_unheard self.old }
     {
         self.quiet_since = self.moment;
+        self.unheard = 0;
         self.unanswered = 0;
     }
 
@@ -276,6 +296,7 @@ impl Course {
     pub(crate) fn look(&mut self, before: &NakCounts, link: &Link, timer_ms: u32)
         ensures { self.new ≡ after_looked timer_ms before.now link.now self.old }
     {
+        self.unheard = 0;
         self.unanswered = 0;
         self.read = link.totals().read;
         self.note_acknowledged(link.totals().acknowledged);

@@ -21,6 +21,7 @@ const SILENT_MS: u64 = 300_000;
 
 impl Session {
     ghost use Rattle.std.specs.Prelude.{◌≡◌, MatchBool, Some};
+    ghost use Rattle.ddcmp_core.specs.Table.{is_running};
     ghost use Rattle.ddcmp_session.specs.Logged.{ReportsGivenUp, ReportsRefusals, ReportsSilence};
     ghost use Rattle.ddcmp_session.specs.Logged.{ReportsWrong};
     ghost use Rattle.ddcmp_session.specs.Session.{after_refusals, refusals_of};
@@ -34,8 +35,16 @@ impl Session {
     pub(super) fn is_given_up(&self) -> bool
         ensures { result ≡ is_given_up self.now.state }
     {
-        let most = most_tries(self.options.attempts, self.link.state() == State::Running);
-        (most > 0 && most <= self.course.tries) || self.is_gone()
+        let most = most_tries(self.options.attempts, self.runs());
+        let tries = self.course.tries.max(self.course.unheard);
+        (most > 0 && most <= tries) || self.is_gone()
+    }
+
+    /// Returns whether the station runs.
+    pub(super) fn runs(&self) -> bool
+        ensures { result ≡ is_running self.now.state.link.station.core.station.state }
+    {
+        self.link.state() == State::Running
     }
 
     /// Returns whether only the peer can go on and nothing was received of it for seven tries, on a

@@ -9,7 +9,7 @@ impl Session {
     ghost use Rattle.ddcmp_session.specs.Logged.{HandlesTimeout, PassesMoment, TellsPeer};
     ghost use Rattle.ddcmp_session.specs.Session.{after_time, after_timeout, after_told};
     ghost use Rattle.ddcmp_session.specs.Session.{after_tried};
-    ghost use Rattle.ddcmp_session.specs.Session.{awaits_peer, is_delivered, is_sending};
+    ghost use Rattle.ddcmp_session.specs.Session.{awaits_peer, is_deaf, is_delivered, is_sending};
     ghost use Rattle.ddcmp_session.specs.Session.{unless_read};
     ghost use Rattle.ddcmp_session.specs.Timing.{after_line, end, is_done, is_spent};
     ghost use Rattle.ddcmp_session.specs.Timing.{lingers_until, next_timeout, reopens, run_ends_at};
@@ -106,7 +106,9 @@ impl Session {
         self.tell_refusals();
     }
 
-    /// Counts an expiry of the reply timer as a try, if a peer is there and has all that was sent.
+    /// Counts an expiry of the reply timer as a try, if a peer is there, has all that was sent, and
+    /// is heard.
+    #[tactic(auto, unfolding(crate::specs::Session::course_tried))]
     fn count_expiry(&mut self, has_expired: bool)
         ensures { self.new
             ≡ record self.old { state = after_tried has_expired self.old.state } }
@@ -114,10 +116,18 @@ impl Session {
         if !has_expired || self.awaits_peer() {
             return;
         }
-        if !self.is_sending() {
-            self.course.count_expiry(self.input_is_read);
+        if !self.is_sending() && !self.is_deaf() {
+            let runs = self.runs();
+            self.course.count_expiry(runs, self.input_is_read);
         }
         self.course.written_then = self.course.written;
+    }
+
+    /// Returns whether the station runs and its line isn't read.
+    fn is_deaf(&self) -> bool
+        ensures { result ≡ is_deaf self.now.state }
+    {
+        self.runs() && !self.wants_line()
     }
 
     /// Returns whether a serial device has bytes underway, or took some since the last expiry and
