@@ -178,26 +178,28 @@ def test_sleeping_reader():
         os.close(reading)
 
 
+@pytest.mark.parametrize("kind", ["udp", "device"])
 @pytest.mark.parametrize("again", [True, False])
-def test_peer_restarts_while_unread(again):
+def test_peer_restarts_while_unread(kind, again):
     """A peer that restarts while messages wait for an output that nobody reads: once these are
-    written, the link opens its line again with --again, and ends without."""
-    there, here = line_names("udp")
-    one, reading = into_pipe(Link, there, "--stay", "--restart", *["--again"] * again,
-                             stdin=subprocess.DEVNULL)
-    two = Link(here, "--timer-ms", "100")
-    two.give(digits(SENT[:2000]), close=False)
-    assert two.waits(lambda it: b"Running" in it.out, 10), two
-    time.sleep(0.7)
-    two.kill()
-    three = Link(here, "--timer-ms", "100")
-    three.give(b"6262\n")
-    time.sleep(0.5)
-    got = b"" if again else rest_of(reading)
-    while again and b"mail 6262\n" not in got:
-        got += os.read(reading, 1 << 16)
-    mails = mail_in(got)
-    assert mails == [*SENT[:len(mails) - again], *[b"bb"] * again]
-    assert three.ended(10) == 0 if again else one.ended(10) == 0
-    one.kill()
-    three.kill()
+    written, the link restarts over the line that it has, without opening it again."""
+    with line_of(kind) as (there, here):
+        one, reading = into_pipe(Link, there, "--stay", "--restart", "--timer-ms", "100",
+                                 *["--again"] * again, stdin=subprocess.DEVNULL)
+        two = Link(here, "--timer-ms", "100")
+        two.give(digits(SENT[:2000]), close=False)
+        assert two.waits(lambda it: b"Running" in it.out, 10), two
+        time.sleep(0.7)
+        two.kill()
+        three = Link(here, "--timer-ms", "100")
+        three.give(b"6262\n")
+        time.sleep(0.5)
+        got, until = b"", time.monotonic() + LONG
+        while b"mail 6262\n" not in got and time.monotonic() < until:
+            got += os.read(reading, 1 << 16) if select.select([reading], [], [], 1)[0] else b""
+        mails = mail_in(got)
+        assert mails == [*SENT[:len(mails) - 1], b"bb"] and len(mails) > 1
+        assert three.ended(10) == 0 and one.is_running()
+        assert sum("opened" in it or "bound" in it for it in one.errors()) == 1
+        one.kill()
+        os.close(reading)

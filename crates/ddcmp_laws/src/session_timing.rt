@@ -5,6 +5,7 @@ ghost use Rattle.std.specs.Prelude.{false, true};
 ghost use Rattle.hex.specs.Hex.{IsBytes};
 ghost use Rattle.ddcmp_input.specs.InLines.{Spells};
 ghost use Rattle.ddcmp_streams.specs.declared.messages.MessageForm.TheVariants.{Digits};
+ghost use Rattle.ddcmp_core.specs.declared.state.State.TheVariants.{Halted};
 ghost use Rattle.ddcmp_session.specs.declared.session.EndReason.TheVariants.{Done};
 ghost use Rattle.ddcmp_session.specs.Session.{SessionView, is_awaited, is_delivered};
 ghost use Rattle.ddcmp_session.specs.Text.{mail_text};
@@ -28,6 +29,10 @@ pub fn done_once_all_is_read()
 /// at most, or at once if the station ran on it; and the session wakes for that.
 pub fn opens_again()
     ensures reopens { (s : SessionView) → s.options.again ≡ true → reopens s ≡ true }
+    // With `--restart` a link whose peer has restarted doesn't end by that.
+    ensures restarts { (s : SessionView) → s.link.station.core.limits.restart ≡ true
+        → s.link.station.core.station.state ≡ Halted → s.course.leaves ≡ true
+        → reopens s ≡ true }
     ensures at_once { (s : SessionView) → s.course.has_run_here ≡ true
         → (after_line s).course.opens_at ≡ 0 }
     ensures later { (s : SessionView) → s.course.opens_at ≤ s.course.moment + 30000

@@ -198,7 +198,7 @@ fn report_opened(session: &mut Session, name: LineName<'_>, opened: &Opened)
 }
 
 impl<S: System, C: Clock + Drop, R: Source, W: Sink> Devices for Live<'_, S, C, R, W> {
-    ghost use Rattle.std.specs.Prelude.{IfOk, OnErr, None, Some, is_some};
+    ghost use Rattle.std.specs.Prelude.{IfOk, Ok, OnErr, None, Some, false, is_some, true};
     ghost use Rattle.ddcmp_link.specs.Events.{HasReported, Reports, ReportsOpened};
     ghost use Rattle.std.specs.Prelude.{◌⊎◌, Option};
     ghost use Rattle.ddcmp_ports.specs.declared.event.LineEvent.{LineEvent};
@@ -215,7 +215,9 @@ impl<S: System, C: Clock + Drop, R: Source, W: Sink> Devices for Live<'_, S, C, 
         ensures session { session.new.state ≡ session.old.state }
         ensures log { session.new.log
             ≡ record session.old.log { errors = session.new.log.errors } }
-        ensures reports { IfOk result (λ is_open. (opened : Opened)
+        ensures kept { is_some self.old.line ≡ true → (result ≡ Ok true)
+            × (self.new ≡ self.old) × (session.new ≡ session.old) }
+        ensures reports { is_some self.old.line ≡ false → IfOk result (λ is_open. (opened : Opened)
             × Opens (line_kind self.old.opener.name) opened
             × SameIfNotYet self.old.opener.connecting self.new.opener.connecting opened
             × SameIfNotYet self.old.opener.listener self.new.opener.listener opened
@@ -224,6 +226,9 @@ impl<S: System, C: Clock + Drop, R: Source, W: Sink> Devices for Live<'_, S, C, 
             session.new.log.errors) }
         ensures refused { OnErr result (session.new ≡ session.old) }
     {
+        if self.line.is_some() {
+            return Ok(true);
+        }
         let opened = {
             let Poller { poll, line, .. } = &mut self.poller;
             self.opener.open(self.system, poll, line)?

@@ -2,7 +2,7 @@
 use Rattle.std.specs.Prelude.{◌≡◌, ◌⊎◌, ℕ, ◌-◌, ◌*◌, Bool, true, false, ◌&&◌, ◌||◌, not, ◌==◌}
 use Rattle.std.specs.Prelude.{nat_le, nat_lt}
 use Rattle.std.specs.Prelude.{min, max, if◌then◌else◌, Option, None, Some}
-use Rattle.ddcmp_core.specs.Table.{is_running}
+use Rattle.ddcmp_core.specs.Table.{is_halted, is_running}
 use Rattle.ddcmp_station.specs.Driving.{later}
 use Rattle.ddcmp_station.specs.Linking.{wakes_at as timer_at}
 use Rattle.ddcmp_io.specs.LineKinds.{is_connection}
@@ -120,9 +120,17 @@ wakes_without_line_at now s =
     let first = unless_done (min (run_ends_at s) s.course.report_at) s in
     if nat_lt now s.course.opens_at then min first s.course.opens_at else first
 
--- a line that has ended is opened again
+-- The peer restarted while received messages weren't written, and this end is to restart with it:
+-- it does once they are, over the same line.
+abbrev pub restarts : SessionView → Bool
+restarts s =
+    s.link.station.core.limits.restart && s.course.leaves
+    && is_halted s.link.station.core.station.state
+
+-- a line that was left is opened again, or kept
 abbrev pub reopens : SessionView → Bool
-reopens s = s.options.again || (is_listener s.kind && not s.course.peer_has_started)
+reopens s =
+    s.options.again || ((is_listener s.kind && not s.course.peer_has_started) || restarts s)
 
 -- the pause after a line: none if the station ran on it or the session listens
 abbrev pub after_line : SessionView → SessionView

@@ -25,7 +25,7 @@ pub trait Devices {
     type Refusal: Copy;
 
     /// Opens a line as far as that is possible without waiting, and reports the peer; returns
-    /// whether it is open.
+    /// whether it is open. A line that is open stays so, and counts as a new one.
     fn open_line(&mut self, session: &mut Session) -> Result<bool, Self::Refusal>
         ensures session { session.new.state ≡ session.old.state }
         ensures log { session.new.log

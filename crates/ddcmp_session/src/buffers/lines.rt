@@ -99,7 +99,7 @@ impl Buffers {
                 Ok(false) => return Err(Stop::Left),
                 Err(stop) => return Err(stop),
             }
-            devices.close_line();
+            self.close_left(session, devices);
             match leave(session, devices) {
                 Ok(()) => {}
                 Err(fault) => return Err(Stop::Device(fault)),
@@ -107,6 +107,15 @@ impl Buffers {
         }
         pass_run(session);
         Err(Stop::Device(DeviceFault::Time))
+    }
+
+    /// Closes a line that was left, unless the session restarts over it: then `open_line` keeps it.
+    fn close_left<D: Devices>(&self, session: &Session, devices: &mut D)
+        ensures { D.traffic devices.new ≡ D.traffic devices.old }
+    {
+        if !session.restarts() || self.down.is_some() {
+            devices.close_line();
+        }
     }
 
     /// Runs a session over a line; returns whether all is done, or the line was left.

@@ -2,6 +2,7 @@
 
 use crate::session::{EndReason, Session};
 use ddcmp_io::LineKind;
+use ddcmp_station::State;
 
 impl Session {
     ghost use Rattle.std.specs.Prelude.{◌≡◌, Some, if◌then◌else◌};
@@ -12,7 +13,8 @@ impl Session {
     ghost use Rattle.ddcmp_session.specs.Session.{awaits_peer, is_deaf, is_delivered, is_sending};
     ghost use Rattle.ddcmp_session.specs.Session.{unless_read};
     ghost use Rattle.ddcmp_session.specs.Timing.{after_line, end, is_done, is_spent};
-    ghost use Rattle.ddcmp_session.specs.Timing.{lingers_until, next_timeout, reopens, run_ends_at};
+    ghost use Rattle.ddcmp_session.specs.Timing.{lingers_until, next_timeout, reopens, restarts};
+    ghost use Rattle.ddcmp_session.specs.Timing.{run_ends_at};
     ghost use Rattle.ddcmp_session.specs.Timing.{seconds_after_line, stays, unless_done, wait_ms};
     ghost use Rattle.ddcmp_session.specs.Timing.{wakes_at, wakes_without_line_at};
 
@@ -262,11 +264,20 @@ impl Session {
         self.options.stay || self.kind == LineKind::Listen && !had_input
     }
 
-    /// Returns whether a line that has ended is opened again.
+    /// Returns whether the peer restarted while received messages weren't written, and this end is
+    /// to restart with it: it does once they are, over the same line.
+    pub fn restarts(&self) -> bool
+        ensures { result ≡ restarts self.now.state }
+    {
+        self.link.config().restart && self.course.leaves && self.link.state() == State::Halted
+    }
+
+    /// Returns whether a line that was left is opened again, or kept.
     pub fn reopens(&self) -> bool
         ensures { result ≡ reopens self.now.state }
     {
-        self.options.again || self.kind == LineKind::Listen && !self.course.peer_has_started
+        let is_awaited = self.kind == LineKind::Listen && !self.course.peer_has_started;
+        self.options.again || is_awaited || self.restarts()
     }
 
     /// Returns whether a line that can't be opened is tried again.

@@ -11,7 +11,7 @@ pub loop-line-preserved : goal.loop-line-preserved
 loop-line-preserved g c = (
   over-then
       (over-then (over-next c.loop-line.invariant.0 c.loop-line.invariant.1 c.run_one.ensures.over)
-      (none-over refl c.close_line.ensures)) (c.leave.ensures.over _),
+      (none-over refl c.close_left.ensures)) (c.leave.ensures.over _),
   λ r. c.leave.ensures.ready c.in-Ok.is,
 )
 
@@ -19,13 +19,13 @@ pub returns-in-Err-leave-clause-over : goal.returns-in-Err-leave-clause-over
 returns-in-Err-leave-clause-over g c =
     over-then
     (over-then (over-next c.loop-line.invariant.0 c.loop-line.invariant.1 c.run_one.ensures.over)
-    (none-over refl c.close_line.ensures)) (c.leave.ensures.over _)
+    (none-over refl c.close_left.ensures)) (c.leave.ensures.over _)
 
 pub returns-in-Err-leave-clause-reports : goal.returns-in-Err-leave-clause-reports
 returns-in-Err-leave-clause-reports g c = λ fault untimed e.
     reports-later c.loop-line.invariant.0
     (reports-later c.run_one.ensures.over
-    (reports-later (none-over refl c.close_line.ensures)
+    (reports-later (none-over refl c.close_left.ensures)
     (c.in-Err-leave.ensures.reports _ fault untimed (same-fault e))))
 
 pub returns-in-Ok-true-clause-over : goal.returns-in-Ok-true-clause-over
