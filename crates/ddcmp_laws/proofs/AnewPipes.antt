@@ -15,9 +15,9 @@ use Rattle.ddcmp_pair.specs.Run.{EndState, PairState, at as end_at, is_clean, no
 use Rattle.ddcmp_pair.specs.Run.{restarts_in}
 use Rattle.ddcmp_session.specs.Calls.{SessionCall, InputRead, InputEnded, Connected, LineEnded}
 use Rattle.ddcmp_session.specs.Calls.{Received, Filled, LineTook, TimedOut, TimePassed, Delivered}
-use Rattle.ddcmp_session.specs.Calls.{HasClosed, OutputTook, Closed, SessionStep}
+use Rattle.ddcmp_session.specs.Calls.{OutputTook, Closed, SessionStep}
 use Rattle.ddcmp_session.specs.Connections.{Connection, Does, after_step}
-use Rattle.ddcmp_session.specs.Session.{SessionView, after_connected, lost_among, lost_at_end}
+use Rattle.ddcmp_session.specs.Session.{SessionView, after_connected}
 use Rattle.ddcmp_laws.specs.PairCalls.{Call, Start, Halt, Send, Poll, Arrive, Expire, Take, Arm, Ask}
 use Rattle.ddcmp_laws.specs.PairCalls.{after_call_here, after_calls_here}
 use Rattle.ddcmp_laws.specs.Links.{LinkCall, Starts, BeginsAnew, Halts, Wakes, Offers, FillsOne}
@@ -454,13 +454,6 @@ AcknowledgedAnew made giver taker =
     giver.history.session.link.station.core.station.out ≡ []
     → delivered_since taker ++ undelivered taker.history ≡ read_since made giver
 
--- a session that is closed and has lost nothing keeps no message
-abbrev pub KeepsNone : Connection → Type 0
-KeepsNone c = (left : List ℕ) (over r : Bool) (closed : SessionView)
-    → HasClosed left over r c.history.session closed → closed.course.lost ≡ 0
-    → (unacknowledged c.history ≡ []) × (lost_among left c.history.session ≡ 0)
-    × (lost_at_end left over c.history.session ≡ 0)
-
 module _ (first second : Made) (steps : List (End × SessionStep))
     (f : first_refusal first.options.config ≡ None) (g : first_refusal second.options.config ≡ None)
     (does : AreCalls steps (first_connections first second))
@@ -579,24 +572,18 @@ module _ (first second : Made) (steps : List (End × SessionStep))
       (anew-acknowledged-to-a start (links_made first second) same kept calls are honest clean)
       (ap length none)
 
-  pub keeps_none_a : KeepsNone ended.a
-  keeps_none_a left over r closed is none =
-      closed-none left over r ended.a.history.session closed is none
-      (counts-anew-a steps begun does (new-counts first))
-
-  pub keeps_none_b : KeepsNone ended.b
-  keeps_none_b left over r closed is none =
-      closed-none left over r ended.b.history.session closed is none
-      (counts-anew-b steps begun does (new-counts second))
-
   pub closed_anew_b : PipesClosedAnew first ended.a ended.b
   closed_anew_b left over r closed is none =
-      let nothing = keeps_none_a left over r closed is none in
+      let s = ended.a.history.session in
+      let nothing = closed-none left over r s closed is none
+      (counts-anew-a steps begun does (new-counts first)) in
       (acknowledged_anew_b nothing.0, nothing.1, nothing.2)
 
   pub closed_anew_a : PipesClosedAnew second ended.b ended.a
   closed_anew_a left over r closed is none =
-      let nothing = keeps_none_b left over r closed is none in
+      let s = ended.b.history.session in
+      let nothing = closed-none left over r s closed is none
+      (counts-anew-b steps begun does (new-counts second)) in
       (acknowledged_anew_a nothing.0, nothing.1, nothing.2)
 
   pub written_anew_b : PipesWrittenAnew first second ended.a ended.b

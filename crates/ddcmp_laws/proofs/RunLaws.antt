@@ -32,14 +32,14 @@ use Rattle.ddcmp_laws.specs.Connections.{AreCalls, Connections, PipesAnew, Pipes
 use Rattle.ddcmp_laws.specs.Written.{PipesWrittenAnew, unacknowledged}
 use Rattle.ddcmp_laws.specs.Connections.{WritesAnew, after_steps, after_step_at, delivered_since}
 use Rattle.ddcmp_laws.specs.Connections.{first_connection, first_connections, read_since}
-use Rattle.ddcmp_laws.specs.EachLine.{DeliversLine, IsReadOverLines, read_over_lines}
+use Rattle.ddcmp_laws.specs.EachLine.{DeliversLine, IsReadOverLines, WritesLine, read_over_lines}
 use Rattle.ddcmp_laws.specs.Loops.{messages_given}
 use Rattle.ddcmp_laws.specs.SessionRuns.{DeliversAll, DeliversFirst, FilesBegin, FilesPass}
 use Rattle.ddcmp_laws.specs.SessionRuns.{InFiles}
 use Rattle.ddcmp_laws.specs.SessionRuns.{Ran, RanTogether, WasEnded, calls_of, given_since, got_to}
 use Rattle.ddcmp_laws.proofs.Anew.{Stays}
-use Rattle.ddcmp_laws.proofs.AnewPipes.{AcknowledgedAnew, KeepsNone, acknowledged_anew_a}
-use Rattle.ddcmp_laws.proofs.AnewPipes.{keeps_none_a, keeps_none_b, written_anew_a, written_anew_b}
+use Rattle.ddcmp_laws.proofs.AnewPipes.{AcknowledgedAnew, acknowledged_anew_a, written_anew_a}
+use Rattle.ddcmp_laws.proofs.AnewPipes.{written_anew_b}
 use Rattle.ddcmp_laws.proofs.Anew.{left_out}
 use Rattle.ddcmp_laws.proofs.AnewPipes.{acknowledged_anew_b, closed_anew_a, closed_anew_b}
 use Rattle.ddcmp_laws.proofs.Anew.{stays_all}
@@ -292,8 +292,28 @@ files_pass giver taker delivers writes files messages fit held other_held t othe
     ∙ written_is taker files.taker_form files.none_delivered writes
     ∙ ap in_binary given
 
--- All messages that one was given since it was connected, if it was ended and lost nothing, are in
--- what the other has written.
+writes_line : (giver taker : Ran)
+    → PipesWrittenAnew giver.made taker.made (got_to giver) (got_to taker)
+    → AreDone giver.steps (first_connection giver.made) → WritesLine giver taker
+writes_line giver taker writes does early rest more over held t closed ended none =
+    let w = writes early in
+    let out = left-with-none giver rest does more over held t closed ended none in
+    let all : w.mail ≡ read_since giver.made (got_to giver) =
+    sym (append-nil w.mail)
+    ∙ ap (λ ms. w.mail ++ ms)
+    (sym (nothing-left w.rest (unacknowledged (got_to giver).history) w.few out))
+    ∙ w.all in
+    subst
+    (λ ms. IsTakenAsWritten taker.made.options.form (got_to taker).history
+    (mail_in (got_to taker).shown_before ++ ms)) all w.written
+  where
+    nothing-left : (left out : List (List ℕ)) → length left ≤ length out → out ≡ [] → left ≡ []
+    nothing-left [] out few none = refl
+    nothing-left (m ∷ left) out few none =
+        let e = ap length none in absurd (omega (arith, few, e))
+
+-- Of a run that was ended and lost nothing, the other has written all messages that it was given
+-- since it was connected.
 abbrev pub WritesAll : Ran → Ran → Type 0
 WritesAll giver taker = taker.made.options.acknowledge_early ≡ false
     → (held : BuffersView) (t : Traffic) (closed : SessionView) → WasEnded giver held t closed
@@ -301,30 +321,18 @@ WritesAll giver taker = taker.made.options.acknowledge_early ≡ false
     → IsTakenAsWritten taker.made.options.form (got_to taker).history
     (mail_in (got_to taker).shown_before ++ given_since giver.made (got_to giver) t)
 
-writes_all : (giver taker : Ran)
-    → PipesWrittenAnew giver.made taker.made (got_to giver) (got_to taker)
-    → KeepsNone (got_to giver) → AreDone giver.steps (first_connection giver.made)
-    → WritesAll giver taker
-writes_all giver taker writes keeps does early held t closed ended none =
-    let f = giver.made.options.form in
-    let max = giver.made.options.config.max in
-    let c = got_to giver in
-    let w = writes early in
-    let out =
-    (keeps held.input held.is_over ended.closes.is_reported closed ended.closes.closed none).0 in
-    let given : w.mail ≡ given_since giver.made c t =
-    sym (append-nil w.mail)
-    ∙ ap (λ ms. w.mail ++ ms) (sym (nothing-left w.rest (unacknowledged c.history) w.few out))
-    ∙ w.all
-    ∙ ap (drop (length (messages_of f max c.input_before)))
-    (sym (given-read giver does held t closed ended none)) in
+writes_all : (giver taker : Ran) → WritesLine giver taker
+    → AreDone giver.steps (first_connection giver.made) → WritesAll giver taker
+writes_all giver taker writes does early held t closed ended none =
+    let made = giver.made in
+    let before = messages_of made.options.form made.options.config.max (got_to giver).input_before in
     subst
     (λ ms. IsTakenAsWritten taker.made.options.form (got_to taker).history
-    (mail_in (got_to taker).shown_before ++ ms)) given w.written
-  where
-    nothing-left : (rest out : List (List ℕ)) → length rest ≤ length out → out ≡ [] → rest ≡ []
-    nothing-left [] out few none = refl
-    nothing-left (m ∷ rest) out few none = let e = ap length none in absurd (omega (arith, few, e))
+    (mail_in (got_to taker).shown_before ++ ms))
+    (ap (drop (length before)) (sym (given-read giver does held t closed ended none)))
+    (writes early [] tt tt held t closed
+    (subst (λ xs. WasEnded (record { made = made; steps = xs }) held t closed)
+    (sym (append-nil giver.steps)) ended) none)
 
 -- of two lists of which each begins with the other
 pub begins-both : {X : Type 0} (xs ys more rest : List X) → xs ++ more ≡ ys → ys ++ rest ≡ xs → xs ≡ ys
@@ -460,21 +468,23 @@ module _ (a b : Ran) (f : first_refusal a.made.options.config ≡ None)
   pub files-begin-a : FilesBegin b a
   files-begin-a = files_begin b a first-to-a writes_a
 
-  pub writes-all-b : WritesAll a b
-  writes-all-b =
-      writes_all a b
+  pub writes-line-b : WritesLine a b
+  writes-line-b =
+      writes_line a b
       (subst (λ (q : Connections). PipesWrittenAnew a.made b.made q.a q.b) both_at
-      (written_anew_b a.made b.made steps f g in_order.0 together.honest together.clean))
-      (subst (λ (q : Connections). KeepsNone q.a) both_at
-      (keeps_none_a a.made b.made steps f g in_order.0 together.honest together.clean)) done_a
+      (written_anew_b a.made b.made steps f g in_order.0 together.honest together.clean)) done_a
+
+  pub writes-line-a : WritesLine b a
+  writes-line-a =
+      writes_line b a
+      (subst (λ (q : Connections). PipesWrittenAnew b.made a.made q.b q.a) both_at
+      (written_anew_a a.made b.made steps f g in_order.0 together.honest together.clean)) done_b
+
+  pub writes-all-b : WritesAll a b
+  writes-all-b = writes_all a b writes-line-b done_a
 
   pub writes-all-a : WritesAll b a
-  writes-all-a =
-      writes_all b a
-      (subst (λ (q : Connections). PipesWrittenAnew b.made a.made q.b q.a) both_at
-      (written_anew_a a.made b.made steps f g in_order.0 together.honest together.clean))
-      (subst (λ (q : Connections). KeepsNone q.b) both_at
-      (keeps_none_b a.made b.made steps f g in_order.0 together.honest together.clean)) done_b
+  writes-all-a = writes_all b a writes-line-a done_b
 
   pub files-written-b : FilesWritten a b
   files-written-b = files_written a b files-begin-b writes-all-b

@@ -12,7 +12,7 @@ ghost use Rattle.ddcmp_session.specs.Traffic.{Traffic, no_traffic};
 ghost use Rattle.ddcmp_session.specs.Lines.{Ends};
 ghost use Rattle.ddcmp_laws.specs.Connections.{AreCalls, Connections, after_steps};
 ghost use Rattle.ddcmp_laws.specs.Connections.{first_connection};
-ghost use Rattle.ddcmp_laws.specs.EachLine.{DeliversLine, IsReadOverLines};
+ghost use Rattle.ddcmp_laws.specs.EachLine.{DeliversLine, IsReadOverLines, WritesLine};
 ghost use Rattle.ddcmp_laws.specs.LastConnection.{IsKeptOverLastConnection, StartsEach};
 ghost use Rattle.ddcmp_laws.specs.LastConnection.{StartsLast};
 ghost use Rattle.ddcmp_laws.specs.Pipe.{Made, session_of};
@@ -83,4 +83,13 @@ pub fn runs_over_each_line()
     ensures connected_to_a { IsKeptOverLastConnection (λ a b. DeliversLine b a) }
     ensures input { (ran : Ran) → AreDone ran.steps (first_connection ran.made)
         → IsReadOverLines ran }
+{}
+
+/// And the session at the other end has written all of them, after those of earlier lines, unless
+/// it is to acknowledge early.
+pub fn each_line_is_written()
+    ensures to_b { IsKeptByRuns (λ a b. WritesLine a b) }
+    ensures to_a { IsKeptByRuns (λ a b. WritesLine b a) }
+    ensures connected_to_b { IsKeptOverLastConnection (λ a b. WritesLine a b) }
+    ensures connected_to_a { IsKeptOverLastConnection (λ a b. WritesLine b a) }
 {}
