@@ -124,8 +124,9 @@ def echoes(pair):
 
 
 def restarted(pair):
-    """The peer starts again with messages outstanding: the link with --restart goes on, and each
-    message that it reports neither lost nor refused arrived once, in order."""
+    """The peer starts again with messages outstanding: the link with --restart goes on, at once or,
+    if received messages aren't written then, once they are; and each message that it reports
+    neither lost nor refused arrived once, in order."""
     sent = pair.scenario.messages()
     pair.scenario.keys.setdefault("expect", 1)
     pair.join()
@@ -138,7 +139,10 @@ def restarted(pair):
     lost = sum(int(it.split()[1]) for it in lines if it.startswith("lost "))
     got, given, echoed = (unpacked(it) for it in (contents(f"{pair.folder}/got"),
                                                   contents(f"{pair.folder}/sent"), pair.other.out))
-    assert any(it.startswith("notice Restarted") for it in lines) and status == (3 if lost else 0)
+    at_once = any(it.startswith("notice Restarted") for it in lines)
+    ran = [it for it in lines if it.startswith("notice Running")]
+    assert (at_once or "notice PeerRestarted" in lines) and len(ran) == 2
+    assert status == (3 if lost else 0)
     assert is_part(got, sent) and is_part(echoed, given) and len(got) >= len(sent) - lost
 
 
