@@ -4,6 +4,7 @@ and taps and links don't wait; these test a quiet connection, and a link has roo
 datagrams as far as the system lets it."""
 import contextlib
 import ctypes
+import errno
 import os
 import socket
 import stat
@@ -27,6 +28,8 @@ def sockets_of(pid):
     found = {}
     for name in os.listdir(f"/proc/{pid}/fd"):
         lent = LIBC.syscall(PIDFD_GETFD, handle, int(name), 0)
+        if lent < 0 and ctypes.get_errno() == errno.EBADF:  # closed meanwhile
+            continue
         if lent < 0:
             raise OSError(ctypes.get_errno(), "pidfd_getfd")
         about = os.fstat(lent)
