@@ -16,8 +16,8 @@ use std::alloc::Global;
 /// Suppose that each opened at most one line, and that in some order of what both did there, at
 /// each moment, the good frames in what each had received were a subsequence of those in what the
 /// other had written. Then what the second wrote to its output is a prefix of the messages that the
-/// first read from its input, however both end; and it is all of them if the first ends well and the
-/// second isn't to acknowledge early, however it ends, or if both end well.
+/// first read from its input, however both end; and it is all of them if the first ends well and
+/// the second isn't to acknowledge early, however it ends, or if both end well.
 pub fn bytes_arrive<D: Devices, E: Devices>(
     alloc: Global,
     options: Options,

@@ -56,10 +56,10 @@ pub fn closed_without_loss()
     ensures anew_to_a { IsKeptAnew (λ first second p. PipesClosedAnew second p.b p.a) }
 {}
 
-/// Acknowledged means written. Of the messages read from one of two such sessions' input, all that
-/// were acknowledged, which are all but those that it still keeps, are in what the other has written
-/// to its output, unless that is to acknowledge early; however the other goes on. The same holds for
-/// sessions that are connected again, since they were connected last.
+/// Acknowledged means written: at each moment the other of two such sessions has written all
+/// messages read from one's input but those that this still keeps until they are acknowledged,
+/// unless the other is to acknowledge early. The same holds for sessions that are connected again,
+/// since they were connected last.
 pub fn acknowledged_is_written()
     ensures to_b { IsKeptByPipes (λ first second p. PipesWritten first second p.a p.b) }
     ensures to_a { IsKeptByPipes (λ first second p. PipesWritten second first p.b p.a) }
@@ -71,8 +71,8 @@ pub fn acknowledged_is_written()
     ensures anew_to_a { IsKeptAnew (λ first second p. PipesWrittenAnew second first p.b p.a) }
 {}
 
-/// The laws of messages in bytes, if both have theirs in binary: if the bytes read from one's input are
-/// a prefix of a file of messages that fit, each after its length, then those written to the
+/// The laws of messages in bytes, if both have theirs in binary: if the bytes read from one's input
+/// are a prefix of a file of messages that fit, each after its length, then those written to the
 /// other's standard output are a prefix of that file; and it is the whole file if all of it was
 /// read, `is_delivered` holds for the one, and nothing is left to be delivered or written at the
 /// other.

@@ -14,8 +14,9 @@ ghost use Rattle.ddcmp_laws.specs.Sessions.{AreShort, history_begun, mail_among,
 
 /// Each list of calls of a new session of data messages without events makes a list of calls of its
 /// link. These use and write the same bytes of the line; they offer the messages of the input, in
-/// their order, each once, and all of them are accepted; and the messages that the session delivered
-/// are those that they take, and then the first of the inbox, whose text isn't written yet.
+/// their order, each once, and all of them are accepted; and the messages that the session
+/// delivered are those that they take, and then the first of the inbox, whose text isn't written
+/// yet.
 pub fn session_calls_are_link_calls()
     ensures calls { (options : OptionsValue) (kind : LineKindValue) (line : ReaderView)
         (steps : List SessionStep) → IsPlain options
