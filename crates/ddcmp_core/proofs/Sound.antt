@@ -182,11 +182,14 @@ sound_nak l s q e hq h = by (is_within s.a q s.n)
         }
     by false = h
 
-offer_fits : (o : Offer) (reply : Owed) → is_sent_reply reply ≡ true
-    → is_sent_reply (reply_to_offer o reply) ≡ true
-offer_fits offer.Accepted reply r = refl
-offer_fits offer.NoRoom reply r = refl
-offer_fits offer.OutOfSequence reply r = r
+offer_fits : (b : Bool) (o : Offer) (reply : Owed) → is_sent_reply reply ≡ true
+    → is_sent_reply (reply_to_offer b o reply) ≡ true
+offer_fits true offer.Accepted Quiet r = refl
+offer_fits true offer.Accepted Ack r = refl
+offer_fits true offer.Accepted (Nak why) r = refl
+offer_fits false offer.Accepted reply r = refl
+offer_fits b offer.NoRoom reply r = refl
+offer_fits b offer.OutOfSequence reply r = r
 
 byte_if : (b : Bool) (x y : ℕ) → x < 256 → y < 256 → cond b x y < 256
 byte_if true x y hx hy = hx
@@ -203,7 +206,8 @@ sound_put l s num message e hn low high h =
       inbox_stored = by (takes_data l s num) refl;
       fits =
           fits_any (after_offer l s num message) (ap is_starting e) (running_other s.state e)
-          (offer_fits (answer_to_offer l.room (incoming s) num) s.reply h.fits.sent_reply);
+          (offer_fits s.by_user (answer_to_offer l.room (incoming s) num) s.reply
+          h.fits.sent_reply);
     }
   where
     by : (b : Bool) → takes_data l s num ≡ b

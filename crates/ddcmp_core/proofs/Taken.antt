@@ -1,12 +1,12 @@
 -- Messages that are taken, one after another, are all taken.
 use Rattle.std.proofs.Common.{◌≡◌, ℕ, Bool, true, false, cond, List, [], ◌∷◌, length, drop, refl}
-use Rattle.std.proofs.Common.{sym, ap, subst, arith}
+use Rattle.std.proofs.Common.{sym, ap, subst, arith, ◌++◌, ◌<◌, length-append}
 use Rattle.std.specs.Prelude.{◌&&◌, nat_lt}
 use Rattle.ddcmp_core.specs.declared.state.Owed.{Owed}
 use Rattle.ddcmp_core.specs.declared.state.Owed.TheVariants.{Quiet, Ack, Nak}
 use Rattle.ddcmp_core.specs.Core.{IsSound, IsTimed}
 use Rattle.ddcmp_core.specs.Table.{StationState, Limits, is_running, owed_after_take}
-use Rattle.ddcmp_core.specs.Table.{acknowledges_by_take, after_take}
+use Rattle.ddcmp_core.specs.Table.{acknowledges_by_take, after_take, owed_after_message}
 use Rattle.ddcmp_core.specs.Choosing.{after_take_all}
 use Rattle.ddcmp_core.proofs.Sound.{reply_taken}
 
@@ -44,6 +44,24 @@ pub take_all_after : (s : StationState) → after_take_all (after_take s) ≡ af
 take_all_after s =
     ap (λ (y : Owed). record s { inbox = []; reply = y })
     (reply_after s.by_user (is_running s.state) s.inbox s.reply)
+
+-- once a message is taken that came to a running station, an ACK is owed
+pub owed_taken : (b r n : Bool) (reply : Owed) → r ≡ true → n ≡ true
+    → cond ((b && r) && n) (owed_after_take (owed_after_message b reply))
+    (owed_after_message b reply) ≡ Ack
+owed_taken true true true Quiet e f = refl
+owed_taken true true true Ack e f = refl
+owed_taken true true true (Nak why) e f = refl
+owed_taken true true false reply e f = absurd (cc f)
+owed_taken true false n reply e f = absurd (cc e)
+owed_taken false r n reply e f = refl
+
+pub some_more : (inbox : List (List ℕ)) (message : List ℕ)
+    → nat_lt 0 (length (inbox ++ message ∷ [])) ≡ true
+some_more inbox message =
+    let n = length-append inbox (message ∷ []) in
+    let above : 0 < length (inbox ++ message ∷ []) = omega (arith, n) in
+    grind (arith, above)
 
 -- nothing is owed for no message
 pub none_owed : (b : Bool) (inbox : List (List ℕ)) → inbox ≡ []

@@ -275,15 +275,25 @@ maintenance_notice l s _ = None
 abbrev pub takes_data : Limits → StationState → ℕ → Bool
 takes_data l s num = may_receive l.room (incoming s) num
 
-abbrev pub reply_to_offer : Offer → Owed → Owed
-reply_to_offer offer.Accepted reply = Ack
-reply_to_offer offer.NoRoom reply = Nak reason.NoBuffer
-reply_to_offer offer.OutOfSequence reply = reply
+abbrev pub without_nak : Owed → Owed
+without_nak (Nak why) = Quiet
+without_nak Quiet = Quiet
+without_nak Ack = Ack
+
+-- What is owed once a message is in the inbox: an ACK, or, if messages are acknowledged when they
+-- are taken, nothing more; a NAK isn't sent any more.
+abbrev pub owed_after_message : Bool → Owed → Owed
+owed_after_message by_user reply = if by_user then without_nak reply else Ack
+
+abbrev pub reply_to_offer : Bool → Offer → Owed → Owed
+reply_to_offer by_user offer.Accepted reply = owed_after_message by_user reply
+reply_to_offer by_user offer.NoRoom reply = Nak reason.NoBuffer
+reply_to_offer by_user offer.OutOfSequence reply = reply
 
 abbrev pub after_offer : Limits → StationState → ℕ → List ℕ → StationState
 after_offer l s num message =
     record (with_incoming s (incoming_after_offer l.room (incoming s) num message)) {
-      reply = reply_to_offer (answer_to_offer l.room (incoming s) num) s.reply;
+      reply = reply_to_offer s.by_user (answer_to_offer l.room (incoming s) num) s.reply;
     }
 
 abbrev pub on_data : Limits → StationState → ℕ → ℕ → List ℕ → StationState

@@ -1,6 +1,6 @@
 //! The states of a station, its pending reply, and its reply timer.
 ghost use Rattle.std.specs.Prelude.{◌≡◌};
-ghost use Rattle.ddcmp_core.specs.Table.{timer_started, owed_after_take};
+ghost use Rattle.ddcmp_core.specs.Table.{timer_started, owed_after_take, owed_after_message};
 
 use ddcmp_frame::Nak;
 
@@ -38,6 +38,20 @@ impl Owed {
         match self {
             Owed::Quiet | Owed::Ack => Owed::Ack,
             Owed::Nak(_) => self,
+        }
+    }
+
+    /// Returns the pending reply after a message was received in sequence: no NAK, and an ACK only
+    /// if it isn't the user who acknowledges.
+    pub(crate) fn after_message(self, by_user: bool) -> Owed
+        ensures { result ≡ owed_after_message by_user self }
+    {
+        if !by_user {
+            return Owed::Ack;
+        }
+        match self {
+            Owed::Nak(_) => Owed::Quiet,
+            Owed::Quiet | Owed::Ack => self,
         }
     }
 }

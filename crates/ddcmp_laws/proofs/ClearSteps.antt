@@ -16,7 +16,7 @@ use Rattle.ddcmp_core.specs.declared.state.Owed.{Owed}
 use Rattle.ddcmp_core.specs.declared.state.Owed.TheVariants.{Quiet, Ack, Nak}
 use Rattle.ddcmp_core.specs.declared.state.Timer.{Timer}
 use Rattle.ddcmp_core.specs.declared.state.Timer.TheVariants.{Off, Fresh, On}
-use Rattle.ddcmp_core.specs.Table.{resp_of, owed_after_take}
+use Rattle.ddcmp_core.specs.Table.{resp_of, owed_after_take, owed_after_message}
 use Rattle.ddcmp_core.specs.Table.{StationState, Limits, Frame, Data, Acked, Naked, Rep, Strt}
 use Rattle.ddcmp_core.specs.Table.{Stack, Maint, Good, outgoing, before_next, newly_acknowledged}
 use Rattle.ddcmp_core.specs.Table.{after_ack, after_startup, after_offer, on_data, on_by, on}
@@ -206,8 +206,18 @@ offer_taken : (l : Limits) (s : StationState) (num : ℕ) (message : List ℕ)
     → (num == next_number s.r) ≡ true
     → nat_lt (length s.inbox) l.room ≡ true
     → after_offer l s num message
-    ≡ record s { r = num; inbox = s.inbox ++ message ∷ []; reply = Ack }
+    ≡ record s {
+      r = num;
+      inbox = s.inbox ++ message ∷ [];
+      reply = owed_after_message s.by_user s.reply;
+    }
 offer_taken l s num message e d = rw (e, d) refl
+
+message-quiet : (b : Bool) (r : Owed) → owes_nak (owed_after_message b r) ≡ false
+message-quiet true Quiet = refl
+message-quiet true Ack = refl
+message-quiet true (Nak why) = refl
+message-quiet false r = refl
 
 record Takes (s u : StationState) (num : ℕ) : Type 0 where
   goes : Goes s u
@@ -229,7 +239,10 @@ takes_data l s resp num message e w hq h is room =
         unsent = g.unsent;
         runs = λ z. z;
         halts = λ z. absurd (let y = sym e ∙ z in cc);
-        plain = record { quiet = refl; ahead = g.plain.ahead };
+        plain = record {
+          quiet = message-quiet s.by_user s.reply;
+          ahead = g.plain.ahead;
+        };
       };
       received = refl;
     })

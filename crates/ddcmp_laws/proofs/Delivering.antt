@@ -17,6 +17,7 @@ use Rattle.ddcmp_core.specs.declared.state.State.TheVariants.{Maintenance}
 use Rattle.ddcmp_core.specs.Table.{Limits, StationState, Frame, Good, Next, Idle, Sends, next}
 use Rattle.ddcmp_core.specs.Table.{next_frame, after_next, may_send, after_accept, is_running}
 use Rattle.ddcmp_core.specs.Table.{notice_of, acknowledged_by}
+use Rattle.ddcmp_core.proofs.ModeLaws.{mode_on}
 use Rattle.ddcmp_core.proofs.Sent.{sending}
 use Rattle.ddcmp_core.proofs.StartLaws.{read_sent}
 use Rattle.ddcmp_proto.specs.Bytes.{received_of, after_item, after_items, notices_of_item}
@@ -257,28 +258,29 @@ module _ (Knows : Bool → Bool → View → View → List Flight → List Fligh
       }
 
   comes : (p q : Bool) (given rest : List ReadItem) (k : CoreView) (x : Face) (told : ℕ) (y : Face)
-      (fl gl : List Flight) → Carried (given ++ rest) gl → Both (faced k x told) y fl gl
-      → Knows p q (sight (faced k x told)) (sight y) fl gl → Come p q given rest k x told y fl
+      (fl gl : List Flight) → k.station.by_user ≡ false → Carried (given ++ rest) gl
+      → Both (faced k x told) y fl gl → Knows p q (sight (faced k x told)) (sight y) fl gl → Come p q given rest k x told y fl
   unfolding Carried
-  comes p q [] rest k x told y fl gl c b i = come-none p q rest k x told y fl gl b i c
-  comes p q (g ∷ given) rest k x told y fl [] c b i = absurd c
-  comes p q (g ∷ given) rest k x told y fl (f ∷ gl) c b i =
+  comes p q [] rest k x told y fl gl early c b i = come-none p q rest k x told y fl gl b i c
+  comes p q (g ∷ given) rest k x told y fl [] early c b i = absurd c
+  comes p q (g ∷ given) rest k x told y fl (f ∷ gl) early c b i =
       let x0 = faced k x told in
       let h : HeardAs x0 f (hearing x0 (received_of g)) =
       subst (λ r. HeardAs x0 f (hearing x0 r)) (sym c.0)
-      (hears-as x0 y fl f gl b.base b.base_there b.counted b.counted_there) in
+      (hears-as x0 y fl f gl b.base b.base_there b.counted b.counted_there early) in
       let told' = told + acknowledged_by (notice_of k.limits k.station (received_of g)) in
       let n = both-heard x0 y fl f gl (after_item g k).station told' b h in
       come-more p q g given rest k x told y fl
-      (comes p q given rest (after_item g k) x told' y fl gl c.1 n
+      (comes p q given rest (after_item g k) x told' y fl gl
+      (mode_on k.limits k.station (received_of g) ∙ early) c.1 n
       (stays.hears k.limits.window y.limits.window p q (sight x0) (sight y)
       fl f gl b.base b.base_there (sight (faced (after_item g k) x told'))
       n.base n.base_there h.heard i))
 
   pub flies-arrives : (p q : Bool) (x y : EndState) (bytes rest here there : List ℕ)
-      → bytes ++ rest ≡ here → Flies p q x y here there
+      → bytes ++ rest ≡ here → x.core.station.by_user ≡ false → Flies p q x y here there
       → Flies p q (after_arrival_here bytes x) y (drop (length bytes) here) there
-  flies-arrives p q x y bytes rest here there e h =
+  flies-arrives p q x y bytes rest here there e early h =
       let l = x.core.limits in
       let first = items_added l.longest x.arrived bytes in
       let later = items_added l.longest (x.arrived ++ bytes) rest in
@@ -286,7 +288,7 @@ module _ (Knows : Bool → Bool → View → View → List Flight → List Fligh
       ap (λ z. items_added l.longest x.arrived z) (sym e)
       ∙ items_added-append l.longest x.arrived bytes rest in
       let c =
-      comes p q first later x.core (face x) x.acknowledged (face y) h.fl h.gl
+      comes p q first later x.core (face x) x.acknowledged (face y) h.fl h.gl early
       (subst (λ z. Carried z h.gl) split h.to_here) h.both h.knows in
       let same = ap (λ (m : Limits). m.longest) (after_piece-limits x.arrived bytes x.core) in
       let left : drop (length bytes) here ≡ rest =

@@ -57,9 +57,10 @@ heard-by x f x' v e h c =
 -- ---- a message is offered
 
 offer-taken : (l : Limits) (s : StationState) (num : ℕ) (m : List ℕ)
-    → (num == next_number s.r) ≡ true → nat_lt (length s.inbox) l.room ≡ true
+    → s.by_user ≡ false → (num == next_number s.r) ≡ true
+    → nat_lt (length s.inbox) l.room ≡ true
     → after_offer l s num m ≡ record s { r = num; inbox = s.inbox ++ m ∷ []; reply = Ack }
-offer-taken l s num m e d = rw (e, d) refl
+offer-taken l s num m early e d = rw (early, e, d) refl
 
 offer-full : (l : Limits) (s : StationState) (num : ℕ) (m : List ℕ)
     → (num == next_number s.r) ≡ true → nat_lt (length s.inbox) l.room ≡ false
@@ -79,10 +80,11 @@ record Offered (l : Limits) (w : ℕ) (given taken : List (List ℕ)) (s : Stati
   counts : Counts (after_offer l s (k % 256) m) w given q view.sent view.next view.up
 
 offered : (l : Limits) (w : ℕ) (given taken : List (List ℕ)) (s : StationState) (q k : ℕ)
-    (m : List ℕ) (v u : View) → looks s q taken given ≡ u → u.up ≡ v.up → Told v q u
+    (m : List ℕ) (v u : View) → s.by_user ≡ false → looks s q taken given ≡ u → u.up ≡ v.up
+    → Told v q u
     → Counts s w given q u.sent u.next u.up → k ≤ v.up + 256 → v.up ≤ k + 254
     → Offered l w given taken s q k m v (data_flies q k m) u
-offered l w given taken s q k m v u e p t c hi lo =
+offered l w given taken s q k m v u early e p t c hi lo =
     by (k % 256 == next_number s.r) refl (nat_lt (length s.inbox) l.room) refl
   where
     up : length (taken ++ s.inbox) ≡ u.up
@@ -102,7 +104,7 @@ offered l w given taken s q k m v u e p t c hi lo =
     by true g true d =
         let z : (k == v.up + 1) ≡ true = sym same ∙ g in
         let n : k ≡ v.up + 1 = grind (arith) in
-        let o = offer-taken l s (k % 256) m g d in
+        let o = offer-taken l s (k % 256) m early g d in
         let a = length-append taken (s.inbox ++ m ∷ []) in
         let a' = length-append taken s.inbox in
         let a'' = length-append s.inbox (m ∷ []) in
@@ -391,15 +393,16 @@ tells-same u q e l =
     by false t = absurd (grind (arith, e))
 
 data-as : (x : Face) (s : StationState) (q k : ℕ) (m : List ℕ) (u : View) (n : ℕ) → n ≡ q
+    → s.by_user ≡ false
     → looks (after_ack s (q % 256)) q x.taken x.given ≡ u → u.up ≡ (sight x).up → Told (sight x) q u
     → Counts (after_ack s (q % 256)) x.limits.window x.given q u.sent u.next u.up
     → k ≤ (sight x).up + 256 → (sight x).up ≤ k + 254
     → HeardAs x (data_flies q k m)
     (record x { station = on_data x.limits s (q % 256) (k % 256) m; acknowledged = n })
-data-as x s q k m u n z e p t c hi lo =
+data-as x s q k m u n z early e p t c hi lo =
     let o =
     offered x.limits x.limits.window x.given x.taken (after_ack s (q % 256)) q k m (sight x)
-    u e p t c hi lo in
+    u early e p t c hi lo in
     subst
     (λ j. HeardAs x (data_flies q k m)
     (record x { station = on_data x.limits s (q % 256) (k % 256) m; acknowledged = j })) (sym z)
@@ -420,13 +423,13 @@ data-as x s q k m u n z e p t c hi lo =
 pub hears-data : (p : State) (x y : Face) (fl gl : List Flight) (q k : ℕ) (m : List ℕ)
     → Base x.limits.window (sight x) (sight y) fl (data_flies q k m ∷ gl)
     → Base y.limits.window (sight y) (sight x) (data_flies q k m ∷ gl) fl → Counted x → Counted y
-    → x.station.state ≡ p
+    → x.station.state ≡ p → x.station.by_user ≡ false
     → HeardAs x (data_flies q k m) (hearing_by p x (Good (frame (data_flies q k m))))
-hears-data Halted x y fl gl q k m b b' c c' e = absurd (b.awake e)
-hears-data Maintenance x y fl gl q k m b b' c c' e = absurd (b.no_maintenance e)
-hears-data IStart x y fl gl q k m b b' c c' e =
+hears-data Halted x y fl gl q k m b b' c c' e early = absurd (b.awake e)
+hears-data Maintenance x y fl gl q k m b b' c c' e early = absurd (b.no_maintenance e)
+hears-data IStart x y fl gl q k m b b' c c' e early =
     never-first x y fl (data_flies q k m) gl b b' c c' e refl
-hears-data Running x y fl gl q k m b b' c c' e =
+hears-data Running x y fl gl q k m b b' c c' e early =
     let v = sight x in
     let lo = low x y fl (data_flies q k m) gl b b' c c' in
     let hi = high x y fl (data_flies q k m) gl b b' c c' in
@@ -434,12 +437,12 @@ hears-data Running x y fl gl q k m b b' c c' e =
     let far = peer-near x y fl (data_flies q k m) gl b b' c c' in
     let told = number_told_data x.limits x.station (q % 256) (k % 256) in
     let new = newly-is x.station x.limits.window x.given v.acked v.sent v.next v.up q c lo hi in
-    data-as x x.station q k m (tells v q) _ (omega (arith, told, new, lo))
+    data-as x x.station q k m (tells v q) _ (omega (arith, told, new, lo)) early
     (sees_tells x.station x.limits.window x.given v.acked v.sent v.next v.up c x.taken q lo hi)
     refl (t_runs e)
     (counts-after-ack x.station x.limits.window x.given v.acked v.sent v.next v.up q c lo hi)
     (omega (arith, near.1, far)) (omega (arith, near.0, c'.small))
-hears-data AStart x y fl gl q k m b b' c c' e =
+hears-data AStart x y fl gl q k m b b' c c' e early =
     let v = sight x in
     let lo = low x y fl (data_flies q k m) gl b b' c c' in
     let hi = high x y fl (data_flies q k m) gl b b' c c' in
@@ -466,7 +469,7 @@ hears-data AStart x y fl gl q k m b b' c c' e =
     + acknowledged_by
     (Some
     (cond (takes_data x.limits x.station (k % 256)) notice.RunningAndHandedUp notice.Running)))
-    (omega (arith, none, z.0, z.1))
+    (omega (arith, none, z.0, z.1)) early
     (sees_tells s x.limits.window x.given v.acked v.sent v.next v.up c x.taken q lo hi ∙ same) refl
     (t_starts e (z.0 ∙ sym z.1))
     (subst
@@ -479,17 +482,21 @@ hears-data AStart x y fl gl q k m b b' c c' e =
 hears-by : (p : State) (x y : Face) (fl : List Flight) (f : Flight) (gl : List Flight)
     → Base x.limits.window (sight x) (sight y) fl (f ∷ gl)
     → Base y.limits.window (sight y) (sight x) (f ∷ gl) fl → Counted x → Counted y
-    → x.station.state ≡ p → HeardAs x f (hearing_by p x (Good (frame f)))
-hears-by p x y fl (data_flies q k m) gl b b' c c' e = hears-data p x y fl gl q k m b b' c c' e
-hears-by p x y fl (ack_flies q) gl b b' c c' e = hears-ack p x y fl gl q b b' c c' e
-hears-by p x y fl (nak_flies why q) gl b b' c c' e = hears-nak p x y fl gl why q b b' c c' e
-hears-by p x y fl (rep_flies n) gl b b' c c' e = hears-rep p x y fl gl n b b' c c' e
-hears-by p x y fl strt_flies gl b b' c c' e = hears-strt p x y fl gl b b' c e
-hears-by p x y fl stack_flies gl b b' c c' e = hears-stack p x y fl gl b c e
+    → x.station.state ≡ p → x.station.by_user ≡ false
+    → HeardAs x f (hearing_by p x (Good (frame f)))
+hears-by p x y fl (data_flies q k m) gl b b' c c' e early =
+    hears-data p x y fl gl q k m b b' c c' e early
+hears-by p x y fl (ack_flies q) gl b b' c c' e early = hears-ack p x y fl gl q b b' c c' e
+hears-by p x y fl (nak_flies why q) gl b b' c c' e early =
+    hears-nak p x y fl gl why q b b' c c' e
+hears-by p x y fl (rep_flies n) gl b b' c c' e early = hears-rep p x y fl gl n b b' c c' e
+hears-by p x y fl strt_flies gl b b' c c' e early = hears-strt p x y fl gl b b' c e
+hears-by p x y fl stack_flies gl b b' c c' e early = hears-stack p x y fl gl b c e
 
 pub hears-as : (x y : Face) (fl : List Flight) (f : Flight) (gl : List Flight)
     → Base x.limits.window (sight x) (sight y) fl (f ∷ gl)
     → Base y.limits.window (sight y) (sight x) (f ∷ gl) fl → Counted x → Counted y
-    → HeardAs x f (hearing x (Good (frame f)))
+    → x.station.by_user ≡ false → HeardAs x f (hearing x (Good (frame f)))
 unfolding on notice_of
-hears-as x y fl f gl b b' c c' = hears-by x.station.state x y fl f gl b b' c c' refl
+hears-as x y fl f gl b b' c c' early =
+    hears-by x.station.state x y fl f gl b b' c c' refl early

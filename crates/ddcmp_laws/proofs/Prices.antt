@@ -93,11 +93,14 @@ rep_falls : (w : ℕ) (b c : Bool) → price_of_rep w (cond b c false) ≤ price
 rep_falls w true c = omega arith
 rep_falls w false c = omega arith
 
-offer_brings : (w : ℕ) (o : Offer) (r : Owed)
-    → price_of_reply w (reply_to_offer o r) ≤ price_of_reply w r + 1
-offer_brings w offer.Accepted r = omega arith
-offer_brings w offer.NoRoom r = omega arith
-offer_brings w offer.OutOfSequence r = omega arith
+offer_brings : (w : ℕ) (b : Bool) (o : Offer) (r : Owed)
+    → price_of_reply w (reply_to_offer b o r) ≤ price_of_reply w r + 1
+offer_brings w true offer.Accepted Quiet = omega arith
+offer_brings w true offer.Accepted Ack = omega arith
+offer_brings w true offer.Accepted (Nak why) = omega arith
+offer_brings w false offer.Accepted r = omega arith
+offer_brings w b offer.NoRoom r = omega arith
+offer_brings w b offer.OutOfSequence r = omega arith
 
 module _ (w : ℕ) (l : Limits) where
   ack_brings : (s : StationState) (q : ℕ) → q < 256 → IsInWindow (outgoing s)
@@ -116,7 +119,7 @@ module _ (w : ℕ) (l : Limits) where
   data_brings s q num message hq h =
       let a = ack_brings s q hq h in
       let b =
-      offer_brings w (answer_to_offer l.room (record { r = s.r; inbox = s.inbox }) num)
+      offer_brings w s.by_user (answer_to_offer l.room (record { r = s.r; inbox = s.inbox }) num)
       s.reply in
       omega (arith, a, b)
 

@@ -68,10 +68,10 @@ module _ (Knows : Bool → Bool → View → View → List Flight → List Fligh
       (flies-polls Knows stays n q p l.pair.b l.pair.a l.to_b l.to_a (sym s.same) s.b s.a
       (flies-turned Knows stays p q _ _ _ _ h))
   flies-event n p q (event.Arrive A bytes) rest l g f r s h =
-      flies-arrives Knows stays p q l.pair.a l.pair.b bytes f.0 l.to_a l.to_b f.1 h
+      flies-arrives Knows stays p q l.pair.a l.pair.b bytes f.0 l.to_a l.to_b f.1 s.a.early h
   flies-event n p q (event.Arrive B bytes) rest l g f r s h =
       from-b p q _ _ _ _
-      (flies-arrives Knows stays q p l.pair.b l.pair.a bytes f.0 l.to_b l.to_a f.1
+      (flies-arrives Knows stays q p l.pair.b l.pair.a bytes f.0 l.to_b l.to_a f.1 s.b.early
       (flies-turned Knows stays p q _ _ _ _ h))
   flies-event n p q (event.Expire A) rest l g f r s h =
       flies-expires Knows stays p q l.pair.a l.pair.b l.to_a l.to_b (run-alone l.pair r).a.timed h

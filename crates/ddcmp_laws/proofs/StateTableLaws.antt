@@ -20,6 +20,7 @@ use Rattle.ddcmp_core.specs.Table.{after_startup, next_maintenance, next_running
 use Rattle.ddcmp_laws.specs.StateTable.{Acknowledge, Action, Comes, Deliver, HandOver}
 use Rattle.ddcmp_laws.specs.StateTable.{HaltRequested}
 use Rattle.ddcmp_laws.specs.StateTable.{Input, OweAck, OweNak, OweRep, StartRequested, StopTimer}
+use Rattle.ddcmp_laws.specs.StateTable.{OweForMessage}
 use Rattle.ddcmp_laws.specs.StateTable.{TimerExpires, act_all}
 use Rattle.ddcmp_laws.specs.StateTable.{by_table, effects_in, next_by_table, run, state_table}
 use Rattle.ddcmp_laws.specs.StateTable.{first_of, first_pending, has_some, order_of}
@@ -37,11 +38,11 @@ offered : (resp num : ℕ) (message : List ℕ) (s : StationState) (b c : Bool)
     record u {
       r = if b && c then num else u.r;
       inbox = if b && c then u.inbox ++ message ∷ [] else u.inbox;
-      reply = reply_to_offer (if b then (if c then offer.Accepted else offer.NoRoom)
+      reply = reply_to_offer u.by_user (if b then (if c then offer.Accepted else offer.NoRoom)
           else offer.OutOfSequence) u.reply;
     })
     ≡ act_all
-    (if b && c then Acknowledge ∷ Deliver ∷ OweAck ∷ []
+    (if b && c then Acknowledge ∷ Deliver ∷ OweForMessage ∷ []
     else if b && not c then Acknowledge ∷ OweNak reason.NoBuffer ∷ [] else Acknowledge ∷ [])
     (Comes (Good (Data resp num message))) s
 offered resp num message s true true = refl
@@ -55,12 +56,12 @@ begun : (resp num : ℕ) (message : List ℕ) (s : StationState) (z b c : Bool)
     then record u {
       r = if b && c then num else u.r;
       inbox = if b && c then u.inbox ++ message ∷ [] else u.inbox;
-      reply = reply_to_offer (if b then (if c then offer.Accepted else offer.NoRoom)
+      reply = reply_to_offer u.by_user (if b then (if c then offer.Accepted else offer.NoRoom)
           else offer.OutOfSequence) u.reply;
     }
     else s)
     ≡ act_all
-    (if z && (b && c) then run (Acknowledge ∷ Deliver ∷ OweAck ∷ [])
+    (if z && (b && c) then run (Acknowledge ∷ Deliver ∷ OweForMessage ∷ [])
     else if z && (b && not c) then run (Acknowledge ∷ OweNak reason.NoBuffer ∷ [])
     else if z then run (Acknowledge ∷ []) else [])
     (Comes (Good (Data resp num message))) s

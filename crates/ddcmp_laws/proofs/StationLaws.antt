@@ -27,11 +27,13 @@ use Rattle.ddcmp_core.specs.Table.{maintenance_notice, on_running, running_notic
 use Rattle.ddcmp_core.specs.Table.{after_startup, on_astart, astart_notice, on_by, on, notice_by}
 use Rattle.ddcmp_core.specs.Table.{notice_of, Next, Idle, Sends, next_frame, next_by, next_running}
 use Rattle.ddcmp_core.specs.Table.{next_maintenance, next, timer_started, after_expire_in}
-use Rattle.ddcmp_core.specs.Table.{after_expire_with, after_expire}
+use Rattle.ddcmp_core.specs.Table.{after_expire_with, after_expire, is_running}
+use Rattle.ddcmp_core.specs.Table.{owed_after_message}
 use Rattle.ddcmp_core.specs.NextFrame.{SentFor, sends_strt, sends_stack, sends_nak, sends_rep}
 use Rattle.ddcmp_core.specs.NextFrame.{sends_data, sends_ack, sends_maint, halted_idles}
 use Rattle.ddcmp_core.specs.NextFrame.{starting_idles, running_idles, maintenance_idles}
 use Rattle.ddcmp_core.proofs.Sent.{sending}
+use Rattle.ddcmp_core.proofs.Taken.{owed_taken, some_more}
 use Rattle.ddcmp_core.proofs.ToldLaws.{number_told, number_told_data}
 use Rattle.ddcmp_laws.specs.Station.{Responds, Acknowledges, OnlyResponds, AcknowledgesUpTo}
 use Rattle.ddcmp_laws.specs.Station.{AcknowledgesNothing, tells_mail, HandsUp, HandsUpNothing}
@@ -291,7 +293,8 @@ data_by s resp num message b c =
       r = cond (b && c) num s.r;
       inbox = cond (b && c) (s.inbox ++ message ∷ []) s.inbox;
       reply =
-          reply_to_offer (cond b (cond c offer.Accepted offer.NoRoom) offer.OutOfSequence) s.reply;
+          reply_to_offer s.by_user
+          (cond b (cond c offer.Accepted offer.NoRoom) offer.OutOfSequence) s.reply;
     }
 
 abbrev notice_by_tests : StationState → ℕ → Bool → Bool → Option Notice
@@ -327,7 +330,11 @@ takes_next l s resp num message e is room =
       r = is;
       told =
           some_mail (newly_acknowledged s resp) (newly_acknowledged s resp == 0);
-      owed = refl;
+      owed = λ early. ap (λ b. owed_after_message b s.reply) early;
+      owed_later =
+          owed_taken s.by_user (is_running s.state)
+          (nat_lt 0 (length (s.inbox ++ message ∷ []))) s.reply (ap is_running e)
+          (some_more s.inbox message);
     })
 
 pub takes_no_other : (l : Limits) (s : StationState) (resp num : ℕ) (message : List ℕ)
@@ -899,8 +906,18 @@ pub startup_takes_next : (l : Limits) (s : StationState) (num : ℕ) (message : 
     (notice_of l s (Good (Data 0 num message)))
 startup_takes_next l s num message e is room =
     by_startup_tests (λ u told. (u.state ≡ Running) × HandsUp message s u told)
-    l s num message true true e (grind (arith)) (grind (arith))
-    (refl, record { inbox = refl; r = is; told = refl; owed = refl })
+    l s num message true true e (grind (arith)) (grind (arith)) (
+      refl,
+      record {
+        inbox = refl;
+        r = is;
+        told = refl;
+        owed = λ early. ap (λ b. owed_after_message b s.reply) early;
+        owed_later =
+            owed_taken s.by_user true (nat_lt 0 (length (s.inbox ++ message ∷ []))) s.reply refl
+            (some_more s.inbox message);
+      },
+    )
 
 pub startup_takes_no_other : (l : Limits) (s : StationState) (num : ℕ) (message : List ℕ)
     → s.state ≡ AStart → (num ≢ (s.r + 1) % 256) ⊎ (l.room ≤ length s.inbox)

@@ -20,6 +20,7 @@ use Rattle.ddcmp_core.specs.NextFrame.{SentFor, sends_strt, sends_stack, sends_n
 use Rattle.ddcmp_core.specs.NextFrame.{sends_data, sends_ack, sends_maint, halted_idles}
 use Rattle.ddcmp_core.specs.NextFrame.{starting_idles, running_idles, maintenance_idles}
 use Rattle.ddcmp_core.specs.Table.{resp_of, owed_after_take, acknowledges_by_take, after_take}
+use Rattle.ddcmp_core.specs.Table.{owed_after_message}
 use Rattle.ddcmp_core.specs.Table.{Limits, StationState, Data, Acked, Naked, Rep, Strt, Stack}
 use Rattle.ddcmp_core.specs.Table.{Frame, has_room, Maint, Received, Good, BadHeader, BadData}
 use Rattle.ddcmp_core.specs.Table.{TooLong, BadFormat, Next, next, next_frame, after_next}
@@ -87,17 +88,28 @@ module _ (l : Limits) where
   owes : (s : StationState) (r : Owed) → refused r ≡ 0 → Roomy l.room s (record s { reply = r })
   owes s r e = keeps s (record s { reply = r }) (omega (arith, e)) refl
 
+  received : (b : Bool) (r : Owed) → refused (owed_after_message b r) ≤ refused r
+  received true Quiet = omega arith
+  received true Ack = omega arith
+  received true (Nak why) = omega arith
+  received false r = omega arith
+
   data-rooms : (s : StationState) (message : List ℕ) (b c : Bool)
       → nat_lt (length s.inbox) l.room ≡ c
       → Roomy l.room s
       (record s {
-        reply = reply_to_offer (cond b (cond c offer.Accepted offer.NoRoom) offer.OutOfSequence)
-            s.reply;
+        reply =
+            reply_to_offer s.by_user
+            (cond b (cond c offer.Accepted offer.NoRoom) offer.OutOfSequence) s.reply;
         inbox = cond (b && c) (s.inbox ++ message ∷ []) s.inbox;
       })
   data-rooms s message true true e =
       let n = length-append s.inbox (message ∷ []) in
-      record { reply = λ f. omega arith; inbox = omega (arith, n); grows = omega (arith, n) }
+      record {
+        reply = λ f. received s.by_user s.reply;
+        inbox = omega (arith, n);
+        grows = omega (arith, n);
+      }
   data-rooms s message true false e =
       record {
         reply = λ f. absurd

@@ -18,7 +18,7 @@ use Rattle.ddcmp_core.specs.Table.{resp_of as resp_sent}
 use Rattle.ddcmp_core.specs.Table.{Limits, StationState, Frame, Data, Acked, Naked, Rep, Strt}
 use Rattle.ddcmp_core.specs.Table.{Stack, Maint, Received, Good, BadHeader, BadData, TooLong}
 use Rattle.ddcmp_core.specs.Table.{BadFormat, Next, Idle, Sends, after_ack, has_message}
-use Rattle.ddcmp_core.specs.Table.{message_at_next, timer_started}
+use Rattle.ddcmp_core.specs.Table.{message_at_next, timer_started, owed_after_message}
 
 -- ---- events
 
@@ -129,6 +129,8 @@ pub data Action : Type 0 where
   StopTimer : Action
   OweAck : Action
   OweNak : Reason → Action
+  -- an ACK for a message; profile: if its user acknowledges it, none until it is taken
+  OweForMessage : Action
   OweRep : Action
   -- no reply and no REP is to be sent
   OweNothing : Action
@@ -150,6 +152,7 @@ act StartIsDone i s = record s { due = false }
 act StopTimer i s = record s { timer = Off }
 act OweAck i s = record s { reply = Ack }
 act (OweNak why) i s = record s { reply = Nak why }
+act OweForMessage i s = record s { reply = owed_after_message s.by_user s.reply }
 act OweRep i s = record s { rep = true }
 act OweNothing i s = record s { reply = Quiet; rep = false }
 act Acknowledge i s = after_ack s (resp_of i)
@@ -212,7 +215,7 @@ state_table =
     -- unsure: whether other messages than these complete the handshake
     ∷ row AStart GotAck (RespIsZero ∷ []) (run [])
     ∷ row AStart GotData (RespIsZero ∷ NumIsNext ∷ [])
-    (run (Acknowledge ∷ Deliver ∷ OweAck ∷ []))
+    (run (Acknowledge ∷ Deliver ∷ OweForMessage ∷ []))
     ∷ row AStart GotData (RespIsZero ∷ NoBuffer ∷ [])
     (run (Acknowledge ∷ OweNak reason.NoBuffer ∷ []))
     ∷ row AStart GotData (RespIsZero ∷ []) (run (Acknowledge ∷ []))
@@ -226,7 +229,7 @@ state_table =
     ∷ row Running GotNak (RespIsOutstanding ∷ []) (Acknowledge ∷ SendAgain ∷ StopTimer ∷ [])
     ∷ row Running GotRep (NumIsReceived ∷ []) (OweAck ∷ [])
     ∷ row Running GotRep [] (OweNak reason.ReplyToRep ∷ [])
-    ∷ row Running GotData (NumIsNext ∷ []) (Acknowledge ∷ Deliver ∷ OweAck ∷ [])
+    ∷ row Running GotData (NumIsNext ∷ []) (Acknowledge ∷ Deliver ∷ OweForMessage ∷ [])
     ∷ row Running GotData (NoBuffer ∷ []) (Acknowledge ∷ OweNak reason.NoBuffer ∷ [])
     ∷ row Running GotData [] (Acknowledge ∷ [])
     ∷ row Running GotHeaderCheck [] (OweNak reason.HeaderCheck ∷ [])

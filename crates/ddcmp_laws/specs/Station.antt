@@ -17,7 +17,7 @@ use Rattle.ddcmp_core.specs.declared.state.Owed.TheVariants.{Quiet, Ack}
 use Rattle.ddcmp_core.specs.declared.state.Timer.TheVariants.{Off}
 use Rattle.ddcmp_core.specs.Table.{Limits, StationState, Data, Acked, Naked, Strt, Stack, Received}
 use Rattle.ddcmp_core.specs.Table.{BadHeader, BadData, TooLong, BadFormat, next, next_frame}
-use Rattle.ddcmp_core.specs.Table.{Frame, Rep, Good, acknowledged_by, Maint}
+use Rattle.ddcmp_core.specs.Table.{Frame, Rep, Good, acknowledged_by, Maint, after_take}
 
 -- ---- what a halt leaves
 
@@ -93,13 +93,15 @@ tells_mail (Some notice.RunningAndHandedUp) = true
 tells_mail (Some notice.MaintenanceHandedUp) = true
 tells_mail _ = false
 
--- One more message is in the inbox, and is reported; R is one more, and an ACK is pending.
+-- One more message is in the inbox, and is reported; R is one more, and an ACK is pending, or is
+-- once a message is taken.
 pub record HandsUp (message : List ℕ) (before after : StationState)
     (notice_told : Option Notice) : Type 0 where
   pub inbox : after.inbox ≡ before.inbox ++ message ∷ []
   pub r : after.r ≡ (before.r + 1) % 256
   pub told : tells_mail notice_told ≡ true
-  pub owed : after.reply ≡ Ack
+  pub owed : before.by_user ≡ false → after.reply ≡ Ack
+  pub owed_later : (after_take after).reply ≡ Ack
 
 -- the inbox and R are unchanged, and no received message is reported
 pub record HandsUpNothing (before after : StationState) (notice_told : Option Notice) : Type 0 where

@@ -184,8 +184,8 @@ counts_offer s w given acked sent next up up' num e c = record {
 }
 
 -- what is owed for data that come
-abbrev pub owed : Limits → StationState → ℕ → Owed
-owed l s num = reply_to_offer (answer_to_offer l.room (incoming s) num) s.reply
+abbrev owed : Limits → StationState → ℕ → Owed
+owed l s num = reply_to_offer s.by_user (answer_to_offer l.room (incoming s) num) s.reply
 
 -- data are taken, find no room, or aren't the next
 taken : (l : Limits) (s : StationState) (num : ℕ) (m : List ℕ) → (num == next_number s.r) ≡ true
@@ -193,13 +193,13 @@ taken : (l : Limits) (s : StationState) (num : ℕ) (m : List ℕ) → (num == n
     → after_offer l s num m ≡ record s { r = num; inbox = s.inbox ++ m ∷ []; reply = owed l s num }
 taken l s num m e d = rw (e, d) refl
 
-pub no-room : (l : Limits) (s : StationState) (num : ℕ) (m : List ℕ)
+no-room : (l : Limits) (s : StationState) (num : ℕ) (m : List ℕ)
     → (num == next_number s.r) ≡ true
     → nat_lt (length s.inbox) l.room ≡ false
     → after_offer l s num m ≡ record s { reply = owed l s num }
 no-room l s num m e d = rw (e, d) refl
 
-pub out-of-sequence : (l : Limits) (s : StationState) (num : ℕ) (m : List ℕ)
+out-of-sequence : (l : Limits) (s : StationState) (num : ℕ) (m : List ℕ)
     → (num == next_number s.r) ≡ false
     → after_offer l s num m ≡ record s { reply = owed l s num }
 out-of-sequence l s num m e = rw e refl

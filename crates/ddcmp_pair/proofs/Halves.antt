@@ -4,6 +4,7 @@ use Rattle.std.proofs.Common.{◌≡◌, ◌⊎◌, ℕ, ◌+◌, ◌-◌, ◌%�
 use Rattle.std.proofs.Common.{◌∷◌, ◌++◌, length, refl, sym, ap, ◌∙◌, subst, arith, append-nil}
 use Rattle.std.proofs.Common.{cond}
 use Rattle.std.specs.Prelude.{◌&&◌, ◌==◌, nat_lt, nat_le, is_some, option_map, option_to_list}
+use Rattle.ddcmp_frame.specs.declared.nak.Nak.{Nak as Reason}
 use Rattle.ddcmp_frame.specs.Reading.{good_frames}
 use Rattle.ddcmp_core.specs.Sequence.{distance}
 use Rattle.ddcmp_core.specs.declared.state.State.{State}
@@ -39,14 +40,13 @@ use Rattle.ddcmp_pair.specs.Run.{line_bytes, whole_frame}
 use Rattle.ddcmp_pair.proofs.WholeArrivals.{hears, arrives-as, still-closed, honest-arrival}
 use Rattle.ddcmp_pair.proofs.WholeArrivals.{no-restart, stays-awake}
 use Rattle.ddcmp_pair.proofs.Crossings.{emptied, emptied-none, turned, crossed_by, half}
-use Rattle.ddcmp_core.proofs.Taken.{none_owed, sound_taken_all, timed_taken_all}
+use Rattle.ddcmp_core.proofs.Taken.{sound_taken_all, timed_taken_all}
 use Rattle.ddcmp_pair.proofs.Relation.{Counts}
 use Rattle.ddcmp_pair.proofs.Numbering.{sent_is, next_is, out_length}
 use Rattle.ddcmp_pair.proofs.Views.{View, Ordered, Crossing, c_strt, c_stack, c_nak, c_rep, c_data}
 use Rattle.ddcmp_pair.proofs.Views.{c_ack, c_waits, c_rests}
 use Rattle.ddcmp_pair.proofs.Sees.{looks, same_test, sees_sent, sees_strt, sees_stack, sees_nak}
-use Rattle.ddcmp_pair.proofs.Sees.{sees_rep, sees_data, sees_ack, reply_up}
-use Rattle.ddcmp_pair.proofs.Comings.{owed, no-room, out-of-sequence}
+use Rattle.ddcmp_pair.proofs.Sees.{sees_rep, sees_data, sees_ack, looks_taken, looks-alike}
 use Rattle.ddcmp_pair.proofs.Steady.{Shows, IsKept, Steady, steady-turned, steady-shows, half-kept}
 use Rattle.ddcmp_pair.proofs.Steady.{inbox-sent, starts-same}
 
@@ -103,112 +103,70 @@ view x = looks x.core.station x.acknowledged x.taken x.given
 pub view-emptied : (x : EndState) → x.core.station.inbox ≡ [] → view (emptied x) ≡ view x
 view-emptied x e = ap view (emptied-none x e)
 
--- what came to an empty inbox is owed an ACK
-owes-none : (s : StationState) → s.inbox ≡ [] → acknowledges_by_take s ≡ true → s.reply ≡ Ack
-owes-none s e f =
-    absurd
-    (let z = none_owed (s.by_user && is_running s.state) s.inbox e in let y = sym f ∙ z in cc y)
+-- a frame that is no message leaves the inbox as it was
+module _ (l : Limits) (s : StationState) where
+  kept-strt : (p : State) → (on_by p l s (Good Strt)).inbox ≡ s.inbox
+  kept-strt Halted = refl
+  kept-strt IStart = refl
+  kept-strt AStart = refl
+  kept-strt Running = by (may_restart l s)
+    where
+      by : (b : Bool) → (cond b (after_restart s) (after_halt s)).inbox ≡ s.inbox
+      by true = refl
+      by false = refl
+  kept-strt Maintenance = refl
 
-owes-offer : (l : Limits) (s : StationState) (num : ℕ) (message : List ℕ) → s.inbox ≡ []
-    → acknowledges_by_take (after_offer l s num message) ≡ true
-    → (after_offer l s num message).reply ≡ Ack
-owes-offer l s num message e =
-    by (num == next_number s.r) refl (nat_lt (length s.inbox) l.room) refl
-  where
-    none : (reply : Owed) → acknowledges_by_take (record s { reply = reply }) ≡ false
-    none reply = none_owed (s.by_user && is_running s.state) s.inbox e
+  kept-stack : (p : State) → (on_by p l s (Good Stack)).inbox ≡ s.inbox
+  kept-stack Halted = refl
+  kept-stack IStart = refl
+  kept-stack AStart = refl
+  kept-stack Running = refl
+  kept-stack Maintenance = refl
 
-    by : (b : Bool) → (num == next_number s.r) ≡ b → (d : Bool)
-        → nat_lt (length s.inbox) l.room ≡ d
-        → acknowledges_by_take (after_offer l s num message) ≡ true
-        → (after_offer l s num message).reply ≡ Ack
-    by true e true d f =
-        reply_up l.room (incoming s) num s.reply d ∙ ap (λ b. cond b Ack s.reply) e
-    by true e false d f =
-        absurd
-        (let y = sym f ∙ ap acknowledges_by_take (no-room l s num message e d)
-        ∙ none (owed l s num) in cc y)
-    by false e d x f =
-        absurd
-        (let y = sym f ∙ ap acknowledges_by_take (out-of-sequence l s num message e)
-        ∙ none (owed l s num) in cc y)
+  kept-rep : (p : State) (num : ℕ) → (on_by p l s (Good (Rep num))).inbox ≡ s.inbox
+  kept-rep Halted num = refl
+  kept-rep IStart num = refl
+  kept-rep AStart num = refl
+  kept-rep Running num = refl
+  kept-rep Maintenance num = refl
 
-owes-by : (l : Limits) (s : StationState) (p : State) → s.state ≡ p → (f : Received) → s.inbox ≡ []
-    → acknowledges_by_take (on_by p l s f) ≡ true → (on_by p l s f).reply ≡ Ack
-owes-by l s Halted p f e = owes-none s e
-owes-by l s IStart p (Good Strt) e = owes-none (on_by IStart l s (Good Strt)) e
-owes-by l s IStart p (Good Stack) e = owes-none (on_by IStart l s (Good Stack)) e
-owes-by l s IStart p f e = owes-none s e
-owes-by l s AStart p (Good Stack) e = owes-none (on_by AStart l s (Good Stack)) e
-owes-by l s AStart p (Good Strt) e = owes-none (on_by AStart l s (Good Strt)) e
-owes-by l s AStart p (Good (Acked resp)) e = by (resp == 0)
-  where
-    by : (b : Bool) → acknowledges_by_take (cond b (after_startup s) s) ≡ true
-        → (cond b (after_startup s) s).reply ≡ Ack
-    by true = owes-none (after_startup s) e
-    by false = owes-none s e
-owes-by l s AStart p (Good (Data resp num message)) e = by (resp == 0)
-  where
-    by : (b : Bool)
-        → acknowledges_by_take (cond b (on_data l (after_startup s) resp num message) s) ≡ true
-        → (cond b (on_data l (after_startup s) resp num message) s).reply ≡ Ack
-    by true = owes-offer l (after_ack (after_startup s) resp) num message e
-    by false = owes-none s e
-owes-by l s AStart p f e = owes-none s e
-owes-by l s Running p (Good Strt) e = by (may_restart l s)
-  where
-    by : (b : Bool) → acknowledges_by_take (cond b (after_restart s) (after_halt s)) ≡ true
-        → (cond b (after_restart s) (after_halt s)).reply ≡ Ack
-    by true = owes-none (after_restart s) e
-    by false = owes-none (after_halt s) e
-owes-by l s Running p (Good (Naked why resp)) e = by (is_within s.a resp s.n)
-  where
-    by : (b : Bool)
-        → acknowledges_by_take
-        (cond b
-        (record (after_ack s resp)
-        { t = next_number (after_ack s resp).a; rep = false; timer = Off }) s) ≡ true
-        → (cond b
-        (record (after_ack s resp)
-        { t = next_number (after_ack s resp).a; rep = false; timer = Off }) s).reply ≡ Ack
-    by true =
-        owes-none
-        (record (after_ack s resp)
-        { t = next_number (after_ack s resp).a; rep = false; timer = Off }) e
-    by false = owes-none s e
-owes-by l s Running p (Good (Data resp num message)) e =
-    owes-offer l (after_ack s resp) num message e
-owes-by l s Running p f e = owes-none (on_by Running l s f) e
-owes-by l s Maintenance p (Good (Maint message)) e = λ f.
-    absurd
-    (maintains s.by_user s.state (ap is_running p)
-    (nat_lt 0 (length (on_by Maintenance l s (Good (Maint message))).inbox)) f)
-  where
-    maintains : (b : Bool) (q : State) → is_running q ≡ false → (d : Bool)
-        → ((b && is_running q) && d) ≡ true → ⊥
-    maintains b q n d f = by b (is_running q) n f
-      where
-        by : (b c : Bool) → c ≡ false → ((b && c) && d) ≡ true → ⊥
-        by true true n f = cc n
-        by true false n f = cc f
-        by false c n f = cc f
-owes-by l s Maintenance p f e = owes-none s e
+  kept-ack : (p : State) (resp : ℕ) → (on_by p l s (Good (Acked resp))).inbox ≡ s.inbox
+  kept-ack Halted resp = refl
+  kept-ack IStart resp = refl
+  kept-ack AStart resp = by (resp == 0)
+    where
+      by : (b : Bool) → (cond b (after_startup s) s).inbox ≡ s.inbox
+      by true = refl
+      by false = refl
+  kept-ack Running resp = refl
+  kept-ack Maintenance resp = refl
 
--- an end that heard a frame with an empty inbox shows the same numbers when all is taken
-view-heard : (x : EndState) (f : Received) → x.core.station.inbox ≡ [] → (y : EndState)
-    → y.core.station ≡ on x.core.limits x.core.station f → view (emptied y) ≡ view y
-unfolding on
-view-heard x f e y same = λ i.
-    record (view y) {
-      reply = owes (acknowledges_by_take y.core.station) y.core.station.reply
-          (subst (λ (u : StationState). acknowledges_by_take u ≡ true → u.reply ≡ Ack) (sym same)
-          (owes-by x.core.limits x.core.station x.core.station.state refl f e)) i;
+  kept-nak : (p : State) (why : Reason) (resp : ℕ)
+      → (on_by p l s (Good (Naked why resp))).inbox ≡ s.inbox
+  kept-nak Halted why resp = refl
+  kept-nak IStart why resp = refl
+  kept-nak AStart why resp = refl
+  kept-nak Running why resp = by (is_within s.a resp s.n)
+    where
+      u : StationState
+      u = record (after_ack s resp) {
+        t = next_number (after_ack s resp).a;
+        rep = false;
+        timer = Off;
+      }
+
+      by : (b : Bool) → (cond b u s).inbox ≡ s.inbox
+      by true = refl
+      by false = refl
+  kept-nak Maintenance why resp = refl
+
+-- the numbers of an end that takes all
+view-taken : (y : EndState)
+    → view (emptied y) ≡ looks_taken y.core.station y.acknowledged y.taken y.given
+view-taken y = λ i.
+    record (looks_taken y.core.station y.acknowledged y.taken y.given) {
       up = length (append-nil (y.taken ++ y.core.station.inbox) i);
     }
-  where
-    owes : (b : Bool) (r : Owed) → (b ≡ true → r ≡ Ack) → cond b (owed_after_take r) r ≡ r
-    owes true r h = let z = h refl in ap owed_after_take z ∙ sym z
-    owes false r h = refl
 
 first-of : (b d : Bool) → (b && d) ≡ true → b ≡ true
 first-of true d e = refl
@@ -409,18 +367,33 @@ module _ (Holds : PairState → Type 0) (k : IsKept Holds) (W : ℕ) (p : PairSt
 
   heard-view : Frame → View
   heard-view f =
-      looks (on y.core.limits t (Good f))
+      looks_taken (on y.core.limits t (Good f))
       (y.acknowledged + acknowledged_by (notice_of y.core.limits t (Good f))) y.taken y.given
 
   abbrev sees-view : Frame → View
   sees-view f =
-      looks (on_by t.state y.core.limits t (Good f))
+      looks_taken (on_by t.state y.core.limits t (Good f))
       (y.acknowledged + acknowledged_by (notice_by t.state y.core.limits t (Good f)))
       y.taken y.given
 
   heard-sees : (f : Frame) → heard-view f ≡ sees-view f
   unfolding on notice_of heard-view
   heard-sees f = refl
+
+  abbrev kept-view : Frame → View
+  kept-view f =
+      looks (on_by t.state y.core.limits t (Good f))
+      (y.acknowledged + acknowledged_by (notice_by t.state y.core.limits t (Good f)))
+      y.taken y.given
+
+  -- a frame that is no message
+  heard-kept : (f : Frame) → (on_by t.state y.core.limits t (Good f)).inbox ≡ t.inbox
+      → heard-view f ≡ kept-view f
+  heard-kept f e =
+      heard-sees f
+      ∙ looks-alike (on_by t.state y.core.limits t (Good f))
+      (y.acknowledged + acknowledged_by (notice_by t.state y.core.limits t (Good f)))
+      y.taken y.given (e ∙ h.b.empty)
 
   after-view : Next → View
   after-view Idle = view y
@@ -445,23 +418,24 @@ module _ (Holds : PairState → Type 0) (k : IsKept Holds) (W : ℕ) (p : PairSt
   unfolding after-view
   crossing-by _ (sends_strt e d) =
       to true _ _ _ _ refl
-      (heard-sees Strt
+      (heard-kept Strt (kept-strt y.core.limits t t.state)
       ∙ sees_strt y.core.limits t y.core.limits.window y.given y.acknowledged there.sent
       there.next (length (handed_up y)) c' y.taken t.state (λ q. there.apart q e)) (c_strt e d)
   crossing-by _ (sends_stack e d) =
       to true _ _ _ _ refl
-      (heard-sees Stack
+      (heard-kept Stack (kept-stack y.core.limits t t.state)
       ∙ sees_stack y.core.limits t y.core.limits.window y.given y.acknowledged there.sent
       there.next (length (handed_up y)) c' y.taken t.state) (c_stack e d)
   crossing-by _ (sends_nak why e r) =
       to true _ _ _ _ refl
-      (heard-sees (Naked why (resp_of s)) ∙ ap (λ q. sees-view (Naked why q)) (rest ∙ c.r_is)
+      (heard-kept (Naked why (resp_of s)) (kept-nak y.core.limits t t.state why (resp_of s))
+      ∙ ap (λ q. kept-view (Naked why q)) (rest ∙ c.r_is)
       ∙ sees_nak y.core.limits t y.core.limits.window y.given y.acknowledged there.sent
       there.next (length (handed_up y)) c' y.taken t.state why up o'.low told)
       (c_nak why e r)
   crossing-by _ (sends_rep e r f) =
       to true _ _ _ _ refl
-      (heard-sees (Rep s.n)
+      (heard-kept (Rep s.n) (kept-rep y.core.limits t t.state s.n)
       ∙ sees_rep y.core.limits t y.core.limits.window y.given y.acknowledged there.sent
       there.next (length (handed_up y)) c' y.taken t.state s.n v.sent
       (same_test s.n t.r v.sent (length (handed_up y)) (c.n_is ∙ ap (λ m. m % 256) (sym sent))
@@ -476,14 +450,15 @@ module _ (Holds : PairState → Type 0) (k : IsKept Holds) (W : ℕ) (p : PairSt
       (heard-sees (Data (resp_of s) s.t (message_at_next s))
       ∙ ap (λ q. sees-view (Data q s.t (message_at_next s))) (rest ∙ c.r_is)
       ∙ sees_data y.core.limits t y.core.limits.window y.given y.acknowledged there.sent there.next
-      (length (handed_up y)) c' y.taken t.state up s.t v.next (message_at_next s)
+      (length (handed_up y)) c' y.taken t.state up s.t v.next (message_at_next s) refl
       none-up h.b.empty room refl (c.t_is ∙ ap (λ m. m % 256) (sym coming))
       (omega (arith, all, c.window, c.small, o.low))
       (omega (arith, o.high, o.sent_given, c.window, c.small)) o'.low told)
       (c_data e r f all)
   crossing-by _ (sends_ack e r f place) =
       to true _ _ _ _ refl
-      (heard-sees (Acked (resp_of s)) ∙ ap (λ q. sees-view (Acked q)) (rest ∙ c.r_is)
+      (heard-kept (Acked (resp_of s)) (kept-ack y.core.limits t t.state (resp_of s))
+      ∙ ap (λ q. kept-view (Acked q)) (rest ∙ c.r_is)
       ∙ sees_ack y.core.limits t y.core.limits.window y.given y.acknowledged there.sent
       there.next (length (handed_up y)) c' y.taken t.state up none-up o'.low told)
       (c_ack e r f (all-sent place))
@@ -513,7 +488,7 @@ module _ (Holds : PairState → Type 0) (k : IsKept Holds) (W : ℕ) (p : PairSt
         ∙ ap (λ z. looks (after_next z s) x.acknowledged x.taken x.given) e;
     hearer =
         ap (λ (q : PairState). view q.a) (half-sends f u e)
-        ∙ view-heard y (Good f) h.b.empty (hears f (frame_on_line x.syn f) y) refl;
+        ∙ view-taken (hears f (frame_on_line x.syn f) y);
   }
 
   pub steady-crossing : Crossing (view p.a) (view p.b) (is_some (line_bytes p.a)) (view (half p).b)

@@ -10,16 +10,17 @@ use Rattle.ddcmp_core.specs.Numbers.{next_number, is_within}
 use Rattle.ddcmp_core.specs.declared.state.State.{State}
 use Rattle.ddcmp_core.specs.declared.state.State.TheVariants.{Halted, IStart, AStart, Running}
 use Rattle.ddcmp_core.specs.declared.state.State.TheVariants.{Maintenance}
-use Rattle.ddcmp_core.specs.Inbox.{Incoming, answer_to_offer}
 use Rattle.ddcmp_core.specs.declared.state.Owed.{Owed}
 use Rattle.ddcmp_core.specs.declared.state.Owed.TheVariants.{Quiet, Ack, Nak}
 use Rattle.ddcmp_core.specs.declared.state.Timer.TheVariants.{Off}
 use Rattle.ddcmp_core.specs.declared.notice.Notice.TheVariants as notice
 use Rattle.ddcmp_core.specs.Table.{StationState, Limits, Frame, Data, Acked, Naked, Rep, Strt}
-use Rattle.ddcmp_core.specs.Table.{Stack, Good, incoming, before_next, newly_acknowledged}
-use Rattle.ddcmp_core.specs.Table.{after_ack, after_offer, reply_to_offer, takes_data, on_nak}
+use Rattle.ddcmp_core.specs.Table.{Stack, Good, before_next, newly_acknowledged}
+use Rattle.ddcmp_core.specs.Table.{after_ack, after_offer, takes_data, on_nak, is_running}
+use Rattle.ddcmp_core.specs.Table.{acknowledges_by_take, owed_after_take, owed_after_message}
 use Rattle.ddcmp_core.specs.Table.{on_data, on_by, notice_by, acknowledged_by, after_startup}
 use Rattle.ddcmp_core.specs.Table.{after_data}
+use Rattle.ddcmp_core.proofs.Taken.{none_owed, owed_taken, some_more}
 use Rattle.ddcmp_core.proofs.ToldLaws.{number_told, number_told_data}
 use Rattle.ddcmp_pair.proofs.Relation.{Counts}
 use Rattle.ddcmp_pair.proofs.Numbers.{newly-is, counts-after-ack}
@@ -133,39 +134,46 @@ module _ (s : StationState) (w : ℕ) (given : List (List ℕ)) (acked sent next
       within_bytes : distance s.a (q % 256) ≤ distance s.a s.n
       within_bytes = omega (arith, c.a_is, c.n_is, c.small, lo, hi, c.sent_given, c.window)
 
--- what is owed for a message that comes in its order or not, where there is room
-pub reply_up : (room : ℕ) (i : Incoming) (num : ℕ) (reply : Owed)
-    → nat_lt (length i.inbox) room ≡ true
-    → reply_to_offer (answer_to_offer room i num) reply ≡ cond (num == next_number i.r) Ack reply
-reply_up room i num reply g = by (num == next_number i.r) refl
-  where
-    by : (b : Bool) → (num == next_number i.r) ≡ b
-        → reply_to_offer (answer_to_offer room i num) reply ≡ cond b Ack reply
-    by true f = rw f (rw g refl)
-    by false f = rw f refl
+-- what is owed once all is taken
+abbrev pub owed_at_last : StationState → Owed
+owed_at_last s = cond (acknowledges_by_take s) (owed_after_take s.reply) s.reply
+
+-- the numbers of a station, and what it owes once all is taken
+abbrev pub looks_taken : StationState → ℕ → List (List ℕ) → List (List ℕ) → View
+looks_taken s acked taken given = record (looks s acked taken given) { reply = owed_at_last s }
+
+pub looks-alike : (u : StationState) (acked : ℕ) (taken given : List (List ℕ)) → u.inbox ≡ []
+    → looks_taken u acked taken given ≡ looks u acked taken given
+looks-alike u acked taken given e =
+    let none = none_owed (u.by_user && is_running u.state) u.inbox e in
+    λ i. record (looks u acked taken given) {
+      reply = cond (none i) (owed_after_take u.reply) u.reply;
+    }
 
 pub sees_up : (l : Limits) (u : StationState) (q num k : ℕ) (message : List ℕ)
-    (taken given : List (List ℕ)) → u.inbox ≡ [] → 0 < l.room
+    (taken given : List (List ℕ)) → u.inbox ≡ [] → 0 < l.room → u.state ≡ Running
     → (num == next_number u.r) ≡ (k == length (taken ++ u.inbox) + 1)
-    → looks (after_offer l u num message) q taken given ≡ comes_up (looks u q taken given) k
-sees_up l u q num k message taken given e room same =
-    let z : length u.inbox ≡ 0 = ap length e in
-    let g : nat_lt (length u.inbox) l.room ≡ true = grind (arith, z, room) in
-    ap (λ r. record (looks (after_offer l u num message) q taken given) { reply = r })
-    (reply_up l.room (incoming u) num u.reply g)
-    ∙ ap (λ b. record (looks u q taken given) {
-      up = length (taken ++ cond ((num == next_number u.r) && b) (u.inbox ++ message ∷ []) u.inbox);
-      reply = cond (num == next_number u.r) Ack u.reply;
-    }) g
-    ∙ by (num == next_number u.r) refl
+    → looks_taken (after_offer l u num message) q taken given ≡ comes_up (looks u q taken given) k
+sees_up l u q num k message taken given e room run same = by (num == next_number u.r) refl
   where
+    z : length u.inbox ≡ 0
+    z = ap length e
+
+    g : nat_lt (length u.inbox) l.room ≡ true
+    g = grind (arith, z, room)
+
     by : (b : Bool) → (num == next_number u.r) ≡ b
-        → ◌≡◌ {A = View}
-        (record (looks u q taken given) {
-          up = length (taken ++ cond (b && true) (u.inbox ++ message ∷ []) u.inbox);
-          reply = cond b Ack u.reply;
-        }) (comes_up (looks u q taken given) k)
+        → looks_taken (after_offer l u num message) q taken given
+        ≡ comes_up (looks u q taken given) k
     by true f =
+        let came : after_offer l u num message ≡ record u {
+          r = num;
+          inbox = u.inbox ++ message ∷ [];
+          reply = owed_after_message u.by_user u.reply;
+        } = rw (f, g) refl in
+        let owed =
+        owed_taken u.by_user (is_running u.state) (nat_lt 0 (length (u.inbox ++ message ∷ [])))
+        u.reply (ap is_running run) (some_more u.inbox message) in
         let t : (k == length (taken ++ u.inbox) + 1) ≡ true = sym same ∙ f in
         let k' : k ≡ length (taken ++ u.inbox) + 1 = grind (arith) in
         let n : length (taken ++ (u.inbox ++ message ∷ [])) ≡ k =
@@ -176,13 +184,17 @@ sees_up l u q num k message taken given e room same =
           length-append taken u.inbox,
           length-append u.inbox (message ∷ []),
         ) in
-        ap (λ m. record (looks u q taken given) { up = m; reply = Ack }) n
+        ap (λ (w : StationState). looks_taken w q taken given) came
+        ∙ (λ i. record (looks u q taken given) { up = n i; reply = owed i })
         ∙ ap
         (λ b. record (looks u q taken given)
         { up = cond b k (length (taken ++ u.inbox)); reply = cond b Ack u.reply }) (sym t)
     by false f =
+        let stays : after_offer l u num message ≡ u = rw f refl in
         let t : (k == length (taken ++ u.inbox) + 1) ≡ false = sym same ∙ f in
-        ap
+        ap (λ (w : StationState). looks_taken w q taken given) stays
+        ∙ looks-alike u q taken given e
+        ∙ ap
         (λ b. record (looks u q taken given)
         { up = cond b k (length (taken ++ u.inbox)); reply = cond b Ack u.reply }) (sym t)
 
@@ -207,15 +219,15 @@ sees_sent s w given acked sent next up taken room c =
 -- a message comes
 data_up : (l : Limits) (s : StationState) (w : ℕ) (given : List (List ℕ)) (acked sent next up : ℕ)
     (taken : List (List ℕ)) (q num k : ℕ) (message : List ℕ) → Counts s w given acked sent next up
-    → s.inbox ≡ [] → 0 < l.room → up ≡ length (taken ++ s.inbox) → num ≡ k % 256 → k ≤ up + 256
-    → up ≤ k + 254 → acked ≤ q → q ≤ sent
-    → looks (on_data l s (q % 256) num message) q taken given
+    → s.inbox ≡ [] → 0 < l.room → s.state ≡ Running → up ≡ length (taken ++ s.inbox)
+    → num ≡ k % 256 → k ≤ up + 256 → up ≤ k + 254 → acked ≤ q → q ≤ sent
+    → looks_taken (on_data l s (q % 256) num message) q taken given
     ≡ comes_up (tells (looks s acked taken given) q) k
-data_up l s w given acked sent next up taken q num k message c e room u n hi' lo' lo hi =
+data_up l s w given acked sent next up taken q num k message c e room run u n hi' lo' lo hi =
     let a = after_ack s (q % 256) in
     let c' = counts-after-ack s w given acked sent next up q c lo hi in
     let m : next_number a.r ≡ (length (taken ++ s.inbox) + 1) % 256 = omega (arith, c'.r_is, u) in
-    sees_up l a q num k message taken given e room
+    sees_up l a q num k message taken given e room run
     (same_test num (next_number a.r) k (length (taken ++ s.inbox) + 1) n m
     (omega (arith, u, hi')) (omega (arith, u, lo')))
     ∙ ap (λ v. comes_up v k) (sees_tells s w given acked sent next up c taken q lo hi)
@@ -288,13 +300,20 @@ module _ (l : Limits) (s : StationState) (w : ℕ) (given : List (List ℕ)) (ac
       ∙ sees_tells s w given acked sent next up c taken q lo hi
   sees_ack Maintenance q z lo hi = none s
 
-  pub sees_data : (p : State) (q num k : ℕ) (message : List ℕ) → (p ≡ AStart → q ≡ 0) → s.inbox ≡ []
-      → 0 < l.room → up ≡ length (taken ++ s.inbox) → num ≡ k % 256 → k ≤ up + 256 → up ≤ k + 254
-      → acked ≤ q → q ≤ sent
-      → sees p (Data (q % 256) num message) ≡ hears_data p (looks s acked taken given) q k
-  sees_data Halted q num k message z e room u n hi' lo' lo hi = none s
-  sees_data IStart q num k message z e room u n hi' lo' lo hi = none s
-  sees_data AStart q num k message z e room u n hi' lo' lo hi =
+  abbrev sees_taken : State → Frame → View
+  sees_taken p f =
+      looks_taken (on_by p l s (Good f)) (acked + acknowledged_by (notice_by p l s (Good f)))
+      taken given
+
+  pub sees_data : (p : State) (q num k : ℕ) (message : List ℕ) → s.state ≡ p → (p ≡ AStart → q ≡ 0)
+      → s.inbox ≡ [] → 0 < l.room → up ≡ length (taken ++ s.inbox) → num ≡ k % 256 → k ≤ up + 256
+      → up ≤ k + 254 → acked ≤ q → q ≤ sent
+      → sees_taken p (Data (q % 256) num message) ≡ hears_data p (looks s acked taken given) q k
+  sees_data Halted q num k message is z e room u n hi' lo' lo hi =
+      looks-alike s (acked + 0) taken given e ∙ none s
+  sees_data IStart q num k message is z e room u n hi' lo' lo hi =
+      looks-alike s (acked + 0) taken given e ∙ none s
+  sees_data AStart q num k message is z e room u n hi' lo' lo hi =
       let q0 = z refl in
       let t : (q % 256 == 0) ≡ true = ap (λ n. n % 256 == 0) q0 in
       let a : acked
@@ -302,16 +321,17 @@ module _ (l : Limits) (s : StationState) (w : ℕ) (given : List (List ℕ)) (ac
       (Some (cond (takes_data l s num) notice.RunningAndHandedUp notice.Running)) ≡ q =
       omega (arith, number_none (takes_data l s num), q0, lo) in
       ap
-      (λ b. looks (cond b (on_data l (after_startup s) (q % 256) num message) s)
+      (λ b. looks_taken (cond b (on_data l (after_startup s) (q % 256) num message) s)
       (acked
       + acknowledged_by
       (cond b (Some (cond (takes_data l s num) notice.RunningAndHandedUp notice.Running)) None))
       taken given) t
-      ∙ ap (λ n. looks (on_data l (after_startup s) (q % 256) num message) n taken given) a
+      ∙ ap (λ n. looks_taken (on_data l (after_startup s) (q % 256) num message) n taken given) a
       ∙ data_up l (after_startup s)
-      w given acked sent next up taken q num k message c e room u n hi' lo' lo hi
-  sees_data Running q num k message z e room u n hi' lo' lo hi =
-      ap (λ n. looks (on_data l s (q % 256) num message) n taken given)
+      w given acked sent next up taken q num k message c e room refl u n hi' lo' lo hi
+  sees_data Running q num k message is z e room u n hi' lo' lo hi =
+      ap (λ n. looks_taken (on_data l s (q % 256) num message) n taken given)
       (ap (λ n. acked + n) (number_told_data l s (q % 256) num) ∙ told_all q lo hi)
-      ∙ data_up l s w given acked sent next up taken q num k message c e room u n hi' lo' lo hi
-  sees_data Maintenance q num k message z e room u n hi' lo' lo hi = none s
+      ∙ data_up l s w given acked sent next up taken q num k message c e room is u n hi' lo' lo hi
+  sees_data Maintenance q num k message is z e room u n hi' lo' lo hi =
+      looks-alike s (acked + 0) taken given e ∙ none s

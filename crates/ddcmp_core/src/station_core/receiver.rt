@@ -328,7 +328,7 @@ impl<S: Store> Core<S> {
         let number = Seq(header.num);
         match self.inbox.offer(number, message) {
             Offer::Accepted => {
-                self.reply = Owed::Ack;
+                self.reply = self.reply.after_message(self.by_user);
                 self.counters.up(message.len());
                 true
             }
