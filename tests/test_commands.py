@@ -1,12 +1,13 @@
 """A program above a link: events in its output, commands in its input, and messages that are
 refused until it has acknowledged that an incarnation began."""
 import os
+import socket
 import time
 
 import pytest
 
 from .peers import Peer, called, dials, good, no_ack
-from .process import must_end, tcp_pair, unacknowledged
+from .process import Link, listening, must_end, port_of, server, tcp_pair, unacknowledged
 from .wire import STRT, ack, binary, commands, data, drawn, in_lines
 
 EVENTS = "--binary", "--events"
@@ -142,7 +143,7 @@ def test_quit_reads_no_more(tmp_path):
 
 
 def test_quit_before_the_line_is_up():
-    """It is read once the station runs, as the end of an input is."""
+    """It is read once the station has run, as the end of an input is."""
     held = True
     link, peer = called(*EVENTS, answer=lambda peer, it: b"" if held else good(peer, it))
     link.give(QUIT, close=False)
@@ -150,6 +151,61 @@ def test_quit_before_the_line_is_up():
     assert not link.waits(lambda it: not it.is_running(), 0.5)
     held = False
     assert link.ended() == 0, link
+
+
+def left_alone():
+    """A link whose peer has left after one message, and to which nothing listens any more."""
+    link, it = dials(*EVENTS, "--again")
+    with it:
+        peer = Peer(it.accept()[0])
+    assert is_up(link)
+    link.give(READY + binary([b"one"]), close=False)
+    assert link.waits(lambda it: b"Acknowledged" in it.out, 10)
+    peer.close()
+    assert link.waits(lambda it: any("line down" in one for one in it.errors()), 10)
+    return link
+
+
+@pytest.mark.parametrize("text, status", [
+    (QUIT, 0), (commands("report", "restart") + QUIT, 0), (binary([b"two", b"three"]) + QUIT, 3),
+    (READY[:3], None), (READY + binary([b"two"]) + QUIT, None)])
+def test_commands_without_a_line(text, status):
+    """Once it has run, commands are read while there is no line, too, up to one that acknowledges
+    the next incarnation: that, and what follows it, waits for the peer."""
+    link = left_alone()
+    link.give(text, close=False)
+    if status is None:
+        assert not link.waits(lambda it: not it.is_running(), 1.5)
+        link.run.kill()
+    else:
+        assert link.ended(10) == status, link
+        assert (unacknowledged(2) in link.errors()) == (status == 3)
+
+
+def test_ready_ahead():
+    """A message behind the command for the next incarnation is sent in that one."""
+    with server() as it:
+        link = Link(f"connect:127.0.0.1:{port_of(it)}", *EVENTS, "--again")
+        first = Peer(it.accept()[0])
+        assert is_up(link)
+        link.give(READY, close=False)
+        first.close()
+        assert link.waits(lambda it: any("line down" in one for one in it.errors()), 10)
+        link.give(binary([b"lost"]) + READY + binary([b"one"]) + QUIT, close=False)
+        second = Peer(it.accept()[0])
+        must_end("ready ahead", link, 3, unacknowledged(1), 20)
+    assert second.mail == [b"one"]
+
+
+def test_quit_of_a_listener():
+    """It ends one that never had a message, once its peer has left."""
+    link = Link("listen:127.0.0.1:0", *EVENTS, "--again")
+    peer = Peer(socket.create_connection(("127.0.0.1", listening(link))))
+    assert is_up(link)
+    peer.close()
+    assert link.waits(lambda it: any("line down" in one for one in it.errors()), 10)
+    link.give(QUIT, close=False)
+    must_end("listener", link, 0, seconds=10)
 
 
 def test_commands_of_messages_in_digits():
@@ -191,6 +247,7 @@ def test_restart():
         second = peer()
         link.give(binary([b"four"]) + READY + binary([b"five"]), close=False)
         assert second.waits(lambda it: it.mail == [b"five"], 10)
+        assert link.waits(lambda it: b"Acknowledged" in it.out, 10)
         assert [it.message for it in first.named("DATA")][:1] in ([b"one"], [])
         link.give(commands("restart", "restart", "nonsense"), close=False)
         third = peer()

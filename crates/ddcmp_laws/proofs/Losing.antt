@@ -52,6 +52,7 @@ use Rattle.ddcmp_session.specs.Session.{SessionView, after_connected, after_entr
 use Rattle.ddcmp_session.specs.Session.{after_input_end, after_last_line, after_time, after_timeout}
 use Rattle.ddcmp_session.specs.Session.{after_input_read, after_unfinished, awaits_peer, expires}
 use Rattle.ddcmp_session.specs.Session.{course_received, lost_among, lost_at_end, lost_by_end}
+use Rattle.ddcmp_session.specs.Session.{has_commands, is_idle, reads_commands}
 use Rattle.ddcmp_session.specs.Session.{takes_end, wants_input, wants_line, after_connecting_in}
 use Rattle.ddcmp_session.specs.Session.{after_output, after_queued, anew_in, taken_at_once}
 use Rattle.ddcmp_session.specs.Session.{taken_when_written}
@@ -259,9 +260,14 @@ takes-halted s halted = by s.options.maintenance
         && nat_lt (length s.link.station.core.station.out) s.link.station.core.limits.window) halted
 
 pub input-halted : (s : SessionView) → s.link.station.core.station.state ≡ Halted
-    → wants_input s ≡ false
-input-halted s halted =
-    and-false (not s.is_read) (takes_in s.options.maintenance s.link) (takes-halted s halted)
+    → s.course.has_run ≡ false → wants_input s ≡ false
+input-halted s halted never =
+    and-false (not s.is_read) (takes_in s.options.maintenance s.link || reads_commands s)
+    (ap (λ b. b || reads_commands s) (takes-halted s halted)
+    ∙ and-false (has_commands s.messages)
+    (is_idle s && (s.course.has_run && not s.course.ready_ahead))
+    (and-false (is_idle s) (s.course.has_run && not s.course.ready_ahead)
+    (ap (λ b. b && not s.course.ready_ahead) never)))
 
 -- nor its end, if the station has never run
 pub end-halted : (s : SessionView) → s.link.station.core.station.state ≡ Halted

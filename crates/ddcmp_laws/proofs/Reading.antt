@@ -20,7 +20,7 @@ use Rattle.ddcmp_streams.specs.Messages.{after_last, entry_of_last, has_last_lin
 use Rattle.ddcmp_streams.specs.Messages.{is_message_unfinished}
 use Rattle.ddcmp_session.specs.Session.{SessionView, form_of, takes_end, wants_input}
 use Rattle.ddcmp_session.specs.Session.{after_command, after_entries, after_message, is_barred}
-use Rattle.ddcmp_session.specs.Session.{is_held}
+use Rattle.ddcmp_session.specs.Session.{has_commands, is_held, is_idle}
 use Rattle.ddcmp_streams.specs.Messages.{command_in}
 use Rattle.ddcmp_streams.specs.declared.messages.Command.TheVariants as command
 use Rattle.ddcmp_streams.specs.declared.messages.MessageForm.TheVariants as form
@@ -58,10 +58,28 @@ Entered es s new =
 not_held : (s : SessionView) → form_of s.messages ≢ form.Events → is_held s ≡ false
 not_held s plain = by s.messages plain
   where
-    by : (m : Messages) → form_of m ≢ form.Events → is_barred m s.course ≡ false
+    by : (m : Messages) → form_of m ≢ form.Events
+        → is_barred m s.course || (has_commands m && is_idle s) ≡ false
     by (Digits v) n = refl
     by (Binary v) n = refl
     by (Events v) n = absurd (n refl)
+
+-- nor is input wanted but for messages
+or_none : (takes : Bool) → takes || false ≡ takes
+or_none true = refl
+or_none false = refl
+
+no_commands : (m : Messages) (b : Bool) → form_of m ≢ form.Events → has_commands m && b ≡ false
+no_commands (Digits v) b n = refl
+no_commands (Binary v) b n = refl
+no_commands (Events v) b n = absurd (n refl)
+
+wants_messages : (s : SessionView) → form_of s.messages ≢ form.Events
+    → wants_input s ≡ not s.is_read && takes_in s.options.maintenance s.link
+wants_messages s plain =
+    ap (λ b. not s.is_read && (takes_in s.options.maintenance s.link || b))
+    (no_commands s.messages (is_idle s && (s.course.has_run && not s.course.ready_ahead)) plain)
+    ∙ ap (λ b. not s.is_read && b) (or_none (takes_in s.options.maintenance s.link))
 
 no_command : (m : Messages) → form_of m ≢ form.Events → command_in m ≡ command.Unknown
 no_command (Digits v) n = refl
@@ -357,7 +375,10 @@ pub is_reading : (f : MessageForm) (max : ℕ) (h : SessionHistory) (used : List
     → IsReading f max h used
 is_reading f max h used k wanted part =
     by h.session.is_read (takes_message h.session.link)
-    (λ e. wanted (ap (λ b. not h.session.is_read && takes_in b h.session.link) k.of_data ∙ e)) refl
+    (λ e.
+    wanted
+    (wants_messages h.session (λ e. k.plain (sym k.kind ∙ e))
+    ∙ ap (λ b. not h.session.is_read && takes_in b h.session.link) k.of_data ∙ e)) refl
     refl
   where
     by : (is_read takes : Bool) → (not is_read && takes ≡ false → used ≡ [])

@@ -233,7 +233,7 @@ input_read-none used text old new d was =
           ∙ (entries-keep es s).run) was;
       used = refl;
       gone = refl;
-      input = d.wanted (input-halted old was.halted);
+      input = d.wanted (input-halted old was.halted was.never);
       mail = refl;
     }
 

@@ -26,7 +26,7 @@ use Rattle.std.proofs.Common.{cond}
 use Rattle.ddcmp_frame.specs.Reader.{StandsFor}
 use Rattle.ddcmp_io.specs.declared.device.Got.TheVariants as got
 use Rattle.ddcmp_station.specs.Linking.{LinkView}
-use Rattle.ddcmp_session.specs.Session.{SessionView, form_of, takes_end, wants_input}
+use Rattle.ddcmp_session.specs.Session.{SessionView, form_of, takes_end}
 use Rattle.ddcmp_session.specs.Session.{after_input_end}
 use Rattle.ddcmp_session.specs.Calls.{InputRead, InputEnded}
 use Rattle.ddcmp_session.specs.Calls.{HasReadInput}
@@ -350,16 +350,6 @@ ends {held} {known} old new does wants empty over =
         → b ≡ false
     unread true e = cc
     unread false e = refl
-
--- Where input is wanted its end is, too.
-pub takes-wanted : (s : SessionView) → wants_input s ≡ true → takes_end s ≡ true
-takes-wanted s = by s.is_read (takes_in s.options.maintenance s.link)
-  where
-    by : (is_read takes : Bool) → not is_read && takes ≡ true
-        → not is_read && (takes || (s.course.has_run && not (has_last_line s.messages))) ≡ true
-    by true takes e = e
-    by false true e = refl
-    by false false e = cc
 
 -- the same of bytes that are those held
 pub types-held : {held : BuffersView} {known : Option Traffic} (old new : SessionView) (n : ℕ)

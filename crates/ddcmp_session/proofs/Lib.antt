@@ -18,6 +18,7 @@ pub mod NewRunLaws
 pub mod NoticeLaws
 pub mod OrderLaws
 pub mod PauseLaws
+pub mod ReadyLaws
 pub mod RestLaws
 pub mod StopLaws
 pub mod TakenLaws

@@ -306,7 +306,7 @@ command-keeps : (c : Command) (s : SessionView) → Keeps s.course (after_comman
 command-keeps command.Ready s = record { pause = refl; nak_pause = refl; moment = refl }
 command-keeps command.Restart s = record { pause = refl; nak_pause = refl; moment = refl }
 command-keeps command.Report s = kept s.course
-command-keeps command.Quit s = kept s.course
+command-keeps command.Quit s = record { pause = refl; nak_pause = refl; moment = refl }
 command-keeps command.Unknown s = kept s.course
 
 entry-keeps : (e : Entry) (s : SessionView) → Keeps s.course (after_entry e s).course

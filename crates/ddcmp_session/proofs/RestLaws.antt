@@ -3,7 +3,7 @@ use Rattle.std.proofs.Common.{◌≡◌, ◌∙◌, ◌⊎◌, ap, sym, subst, B
 use Rattle.std.proofs.Common.{Result, Ok}
 use Rattle.std.specs.Prelude.{◌||◌}
 use Rattle.ddcmp_session.specs.declared.devices.DeviceFault.{DeviceFault}
-use Rattle.ddcmp_session.specs.Session.{SessionView, IsFilled, wants_input, wants_line}
+use Rattle.ddcmp_session.specs.Session.{SessionView, IsFilled, takes_end, wants_input, wants_line}
 use Rattle.ddcmp_session.specs.Devices.{BuffersView, IsIdle, HoldsMail}
 use Rattle.ddcmp_session.proofs.GoingLaws.{neither}
 
@@ -46,7 +46,7 @@ none a b c d e f g all =
 pub comes-to-rest : (filled passed fed last : SessionView) (input_read came : BuffersView)
     → IsFilled filled → passed ≡ filled
     → (input_read.input ≡ []) ⊎ (wants_input passed ≡ false)
-    → (input_read.is_over ≡ false) ⊎ (wants_input passed ≡ false)
+    → (input_read.is_over ≡ false) ⊎ ((wants_input passed ≡ false) ⊎ (takes_end passed ≡ false))
     → fed ≡ record passed { output = fed.output } → came ≡ input_read
     → (came.received ≡ []) ⊎ (wants_line fed ≡ false)
     → HoldsMail fed → last ≡ fed → IsIdle came last
@@ -59,8 +59,12 @@ comes-to-rest filled passed fed last input_read came is-filled same input told s
           subst (λ (b : BuffersView). (b.input ≡ []) ⊎ (wants_input last ≡ false)) (sym held)
           (subst (λ s. (input_read.input ≡ []) ⊎ (wants_input s ≡ false)) (sym to) input);
       told =
-          subst (λ (b : BuffersView). (b.is_over ≡ false) ⊎ (wants_input last ≡ false)) (sym held)
-          (subst (λ s. (input_read.is_over ≡ false) ⊎ (wants_input s ≡ false)) (sym to) told);
+          subst
+          (λ (b : BuffersView). (b.is_over ≡ false)
+          ⊎ ((wants_input last ≡ false) ⊎ (takes_end last ≡ false))) (sym held)
+          (subst
+          (λ s. (input_read.is_over ≡ false) ⊎ ((wants_input s ≡ false) ⊎ (takes_end s ≡ false)))
+          (sym to) told);
       fed = subst (λ s. (came.received ≡ []) ⊎ (wants_line s ≡ false)) (sym rest) line;
       delivered = subst HoldsMail (sym rest) mail;
     }

@@ -60,6 +60,8 @@ course_begun report_ms = record {
   has_run = false;
   leaves = false;
   unready = 0;
+  ready_ahead = false;
+  quits = false;
   lost = 0;
 }
 
@@ -351,12 +353,19 @@ start_counted counts c = record c {
 abbrev pub lost_more : ℕ → Course → Course
 lost_more n c = record c { lost = total_plus c.lost n }
 
--- one more event that begins an incarnation, and an acknowledgement of the first of them
+-- One more event begins an incarnation, which the program is to acknowledge, if it hasn't done so
+-- already; and an acknowledgement of the first such event, or of the next one while nothing runs.
 abbrev pub one_unready : Course → Course
-one_unready c = record c { unready = total_plus c.unready 1 }
+one_unready c = record c {
+  unready = if c.ready_ahead then c.unready else total_plus c.unready 1;
+  ready_ahead = false;
+}
 
-abbrev pub one_ready : Course → Course
-one_ready c = record c { unready = c.unready - 1 }
+abbrev pub one_ready : Bool → Course → Course
+one_ready is_idle c = record c {
+  unready = c.unready - 1;
+  ready_ahead = c.ready_ahead || (is_idle && c.unready == 0);
+}
 
 -- if the notice begins an incarnation
 abbrev pub unready_by : Notice → Course → Course

@@ -9,7 +9,7 @@ use Rattle.ddcmp_session.specs.declared.devices.DeviceFault.TheVariants.{Line}
 use Rattle.ddcmp_session.specs.Traffic.{LineLog, Traffic, received, sent}
 use Rattle.ddcmp_session.specs.Orders.{KeepsOrder}
 use Rattle.ddcmp_session.specs.Session.{SessionView, form_of, IsFilled, wants_input, wants_line}
-use Rattle.ddcmp_session.specs.Session.{next_mail, room_for_mail}
+use Rattle.ddcmp_session.specs.Session.{next_mail, room_for_mail, takes_end}
 use Rattle.ddcmp_session.specs.Calls.{SessionCall, Connected, TimePassed, LineEnded, Closed}
 use Rattle.ddcmp_session.specs.Calls.{SessionHistory, SessionStep, IsSessionHistory}
 use Rattle.ddcmp_session.specs.Calls.{after_session_steps, end_in}
@@ -115,7 +115,7 @@ HoldsMail s = (next_mail s ≡ None) ⊎ (s.output.room < room_for_mail s)
 pub record IsIdle (held : BuffersView) (s : SessionView) : Type 0 where
   pub filled : IsFilled s
   pub input_read : (held.input ≡ []) ⊎ (wants_input s ≡ false)
-  pub told : (held.is_over ≡ false) ⊎ (wants_input s ≡ false)
+  pub told : (held.is_over ≡ false) ⊎ ((wants_input s ≡ false) ⊎ (takes_end s ≡ false))
   pub fed : (held.received ≡ []) ⊎ (wants_line s ≡ false)
   pub delivered : HoldsMail s
 

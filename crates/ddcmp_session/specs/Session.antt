@@ -123,8 +123,23 @@ lost_in maintenance d =
 
 -- ---- the input
 
+-- No messages can be sent, since the station doesn't run.
+abbrev pub is_idle : SessionView → Bool
+is_idle s = not s.options.maintenance && not (is_running (state_of s.link).state)
+
+abbrev pub has_commands : Messages → Bool
+has_commands (Digits v) = false
+has_commands (Binary v) = false
+has_commands (Events v) = true
+
+-- Once it has run, commands are read meanwhile, up to the one that acknowledges the next event.
+abbrev pub reads_commands : SessionView → Bool
+reads_commands s =
+    has_commands s.messages && (is_idle s && (s.course.has_run && not s.course.ready_ahead))
+
 abbrev pub wants_input : SessionView → Bool
-wants_input s = not s.is_read && takes_in s.options.maintenance s.link
+wants_input s =
+    not s.is_read && (takes_in s.options.maintenance s.link || reads_commands s)
 
 -- Its end is accepted if a message is, and once the station has run also if there is no last line.
 abbrev pub takes_end : SessionView → Bool
@@ -134,14 +149,14 @@ takes_end s =
     || (s.course.has_run && not (has_last_line s.messages)))
 
 -- With events in the output, messages are refused until each event that begins an incarnation is
--- acknowledged, and once the line is to be left.
+-- acknowledged, once the line is to be left, and while the station doesn't run.
 abbrev pub is_barred : Messages → Course → Bool
 is_barred (Digits v) c = false
 is_barred (Binary v) c = false
 is_barred (Events v) c = c.leaves || nat_lt 0 c.unready
 
 abbrev pub is_held : SessionView → Bool
-is_held s = is_barred s.messages s.course
+is_held s = is_barred s.messages s.course || (has_commands s.messages && is_idle s)
 
 abbrev pub after_message : Bool → SessionView → SessionView
 after_message true s = record s { course = lost_more 1 s.course }
@@ -151,10 +166,10 @@ after_message false s = record s {
 
 -- A command that is no known one is refused.
 abbrev pub after_command : Command → SessionView → SessionView
-after_command Ready s = record s { course = one_ready s.course }
+after_command Ready s = record s { course = one_ready (is_idle s) s.course }
 after_command Restart s = record s { course = record s.course { leaves = true } }
 after_command Report s = s
-after_command Quit s = record s { is_read = true }
+after_command Quit s = record s { is_read = true; course = record s.course { quits = true } }
 after_command Unknown s = record s { was_refused = true }
 
 -- A message is sent, or lost if it is refused so, and a line `?` asks for a report; a command is

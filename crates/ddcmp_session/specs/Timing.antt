@@ -16,13 +16,13 @@ use Rattle.ddcmp_session.specs.Session.{SessionView, after_time, is_awaited, is_
 
 -- ---- the end
 
--- a link that listens and has read no message
+-- a link that listens and has read no message, nor a command to end
 abbrev pub is_listener : LineKind → Bool
 is_listener Listen = true
 is_listener _ = false
 
 abbrev pub had_input : SessionView → Bool
-had_input s = nat_lt 0 s.link.totals.sent || s.was_refused
+had_input s = (nat_lt 0 s.link.totals.sent || s.was_refused) || s.course.quits
 
 -- the session continues after all of the input was delivered
 abbrev pub stays : SessionView → Bool

@@ -5,7 +5,7 @@ ghost use Rattle.ddcmp_session.specs.Course.{after_looked, after_moment, after_n
 ghost use Rattle.ddcmp_session.specs.Course.{after_opening_failed, after_progress, after_state};
 ghost use Rattle.ddcmp_session.specs.Course.{after_unheard};
 ghost use Rattle.ddcmp_session.specs.Course.{after_writing, course_begun, expiry_counted};
-ghost use Rattle.ddcmp_session.specs.Course.{lost_more, one_ready, unready_by};
+ghost use Rattle.ddcmp_session.specs.Course.{lost_more, one_ready, one_unready, unready_by};
 ghost use Rattle.ddcmp_session.specs.Course.{reports_at, sending_ms, silence_counted, try_counted};
 
 mod pauses;
@@ -129,6 +129,10 @@ pub(crate) struct Course {
     pub(crate) leaves: bool,
     /// How many events that began an incarnation the program hasn't acknowledged.
     pub(crate) unready: u64,
+    /// Whether it has acknowledged the next one already, which it may while nothing runs.
+    pub(crate) ready_ahead: bool,
+    /// Whether a command ended the input.
+    pub(crate) quits: bool,
     /// How many messages were read and will never be acknowledged.
     pub(crate) lost: u64,
 }
@@ -177,6 +181,8 @@ impl Course {
             has_run: false,
             leaves: false,
             unready: 0,
+            ready_ahead: false,
+            quits: false,
             lost: 0,
         }
     }
@@ -379,16 +385,28 @@ impl Course {
     {
         match notice {
             Notice::Running | Notice::RunningAndHandedUp | Notice::Restarted(_) => {
-                self.unready = self.unready.saturating_add(1);
+                self.begin_incarnation();
             }
             _ => {}
         }
     }
 
-    /// Counts an acknowledgement of such an event.
-    pub(crate) fn make_ready(&mut self)
-        ensures { self.new ≡ one_ready self.old }
+    /// Counts an event that began an incarnation, unless the program has acknowledged it ahead.
+    fn begin_incarnation(&mut self)
+        ensures { self.new ≡ one_unready self.old }
     {
+        if !self.ready_ahead {
+            self.unready = self.unready.saturating_add(1);
+        }
+        self.ready_ahead = false;
+    }
+
+    /// Counts an acknowledgement of such an event: of the first that has none, or, if there is
+    /// none and `is_idle`, of the next one.
+    pub(crate) fn make_ready(&mut self, is_idle: bool)
+        ensures { self.new ≡ one_ready is_idle self.old }
+    {
+        self.ready_ahead = self.ready_ahead || (is_idle && self.unready == 0);
         self.unready = self.unready.saturating_sub(1);
     }
 

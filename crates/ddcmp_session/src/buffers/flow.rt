@@ -42,7 +42,8 @@ pub(super) fn deliver_all(session: &mut Session) -> bool
 
 impl Buffers {
     ghost use Rattle.std.specs.Prelude.{◌≡◌, ◌≢◌, ◌⊎◌, [], Err, None, Ok, Option, Some, false};
-    ghost use Rattle.ddcmp_session.specs.Session.{SessionView, wants_input, wants_line};
+    ghost use Rattle.ddcmp_session.specs.Session.{SessionView, takes_end, wants_input, wants_line};
+    ghost use Rattle.ddcmp_session.specs.Lines.{IsReady};
     ghost use Rattle.ddcmp_session.specs.Devices.{GoesOn, HoldsMail, KeepsFaults, Reports, Rests};
     ghost use Rattle.ddcmp_session.specs.Devices.{IsIdle};
     ghost use Rattle.ddcmp_session.specs.Traffic.{Traffic};
@@ -101,8 +102,8 @@ impl Buffers {
         Ok(moved)
     }
 
-    /// Reads the input, if a message is wanted.
-    fn read_input<D: Devices>(
+    /// Reads the input, if a message or a command is wanted.
+    pub(super) fn read_input<D: Devices>(
         &mut self,
         session: &Session,
         devices: &mut D,
@@ -142,7 +143,7 @@ impl Buffers {
 
     /// Passes what was read of the input to the session, as far as it accepts it. If some is left,
     /// asks without waiting what else is ready, as the loop won't wait until that is used.
-    fn pass_input<D: Devices>(
+    pub(super) fn pass_input<D: Devices>(
         &mut self,
         session: &mut Session,
         devices: &mut D,
@@ -156,7 +157,9 @@ impl Buffers {
         ensures input_read { result ≡ Ok false
             → (self.new.input ≡ []) ⊎ (wants_input session.new.state ≡ false) }
         ensures told { result ≡ Ok false
-            → (self.new.is_over ≡ false) ⊎ (wants_input session.new.state ≡ false) }
+            → (self.new.is_over ≡ false) ⊎ ((wants_input session.new.state ≡ false)
+            ⊎ (takes_end session.new.state ≡ false)) }
+        ensures ready { IsReady session.old.state → IsReady session.new.state }
         ensures untimed { result ≢ Err DeviceFault.Time }
     {
         let moved = self.pass_parts(session);
@@ -171,7 +174,7 @@ impl Buffers {
                 Err(DeviceFault::Input)
             };
         }
-        if self.input_is_over {
+        if self.input_is_over && session.takes_end() {
             session.input_ended();
             return Ok(true);
         }
@@ -183,6 +186,7 @@ impl Buffers {
         ensures on { (known : Option Traffic)
             → GoesOn self.old session.old.state known self.new session.new.state known }
         ensures idle { result ≡ false → (session.new ≡ session.old) × (self.new ≡ self.old) }
+        ensures ready { IsReady session.old.state → IsReady session.new.state }
     {
         let mut moved = false;
         for _part in 0..INPUT_PARTS {

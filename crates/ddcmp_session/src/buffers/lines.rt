@@ -177,7 +177,7 @@ impl Buffers {
         ensures read { result ≢ Err Stop.Unread }
     {
         for _try in 0..u64::MAX {
-            match self.look_for_end(session, devices) {
+            match self.look_at_input(session, devices) {
                 Ok(()) => {}
                 Err(fault) => return Err(Stop::Device(fault)),
             }
@@ -235,9 +235,9 @@ impl Buffers {
         }
     }
 
-    /// Reads the input once nothing of it is left, and passes its end to the session: what was sent
-    /// and isn't acknowledged may be all that there was.
-    fn look_for_end<D: Devices>(
+    /// Reads what the session wants of the input without a line: commands, or its end, since what
+    /// was sent and isn't acknowledged may be all that there was.
+    fn look_at_input<D: Devices>(
         &mut self,
         session: &mut Session,
         devices: &mut D,
@@ -250,6 +250,9 @@ impl Buffers {
             (D.traffic devices.new) fault }
         ensures untimed { result ≢ Err DeviceFault.Time }
     {
+        if session.wants_input() {
+            return self.read_commands(session, devices);
+        }
         if !self.awaits_end(session) {
             return Ok(());
         }
@@ -261,6 +264,30 @@ impl Buffers {
             session.input_ended();
         }
         Ok(())
+    }
+
+    /// Reads the input and passes it to the session, as far as it accepts it.
+    fn read_commands<D: Devices>(
+        &mut self,
+        session: &mut Session,
+        devices: &mut D,
+    ) -> Result<(), DeviceFault>
+        ensures on { GoesOn self.old session.old.state (D.traffic devices.old)
+            self.new session.new.state (D.traffic devices.new) }
+        ensures ready { IsReady session.old.state → IsReady session.new.state }
+        ensures reports { (fault : FaultValue) → result ≡ Err fault
+            → Reports self.old session.old.state (D.traffic devices.old)
+            (D.traffic devices.new) fault }
+        ensures untimed { result ≢ Err DeviceFault.Time }
+    {
+        match self.read_input(session, devices) {
+            Ok(_moved) => {}
+            Err(fault) => return Err(fault),
+        }
+        match self.pass_input(session, devices) {
+            Ok(_moved) => Ok(()),
+            Err(fault) => Err(fault),
+        }
     }
 
     /// Returns whether all of the input was read and used.
@@ -286,7 +313,7 @@ impl Buffers {
         ensures { Becomes (D.traffic devices.old) (D.traffic devices.new) (after_wait result) }
     {
         let wanted = Wanted {
-            input: self.awaits_end(session),
+            input: self.awaits_end(session) || self.wants_input(session),
             output: false,
             errors: !session.to_errors().is_empty(),
             from_line: false,

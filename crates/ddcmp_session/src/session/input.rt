@@ -41,13 +41,36 @@ impl Session {
     ghost use Rattle.ddcmp_session.specs.Session.{after_command, after_entries, after_entry};
     ghost use Rattle.ddcmp_session.specs.Session.{after_message, after_unfinished, is_held};
     ghost use Rattle.ddcmp_session.specs.Session.{form_of, takes_end, takes_in};
+    ghost use Rattle.ddcmp_session.specs.Session.{has_commands, is_idle, reads_commands};
     ghost use Rattle.ddcmp_session.specs.Session.{lost_among, lost_at_end, lost_with_last};
 
-    /// Returns whether bytes of the input are wanted, since the station accepts a message.
+    /// Returns whether bytes of the input are wanted, since the station accepts a message, or since
+    /// commands are read while it doesn't run.
     pub fn wants_input(&self) -> bool
         ensures { result ≡ wants_input self.now.state }
     {
-        !self.input_is_read && self.takes()
+        !self.input_is_read && (self.takes() || self.reads_commands())
+    }
+
+    /// Returns whether commands are read while the station doesn't run: once it has run, up to the
+    /// one that acknowledges the next event.
+    fn reads_commands(&self) -> bool
+        ensures { result ≡ reads_commands self.now.state }
+    {
+        self.has_commands() && self.is_idle() && self.course.has_run && !self.course.ready_ahead
+    }
+
+    fn has_commands(&self) -> bool
+        ensures { result ≡ has_commands self.now.state.messages }
+    {
+        self.options.form == MessageForm::Events
+    }
+
+    /// Returns whether no messages can be sent, since the station doesn't run.
+    fn is_idle(&self) -> bool
+        ensures { result ≡ is_idle self.now.state }
+    {
+        !self.options.maintenance && self.link.state() != State::Running
     }
 
     /// Returns whether the link accepts a message: a maintenance message once the last one was
@@ -164,7 +187,7 @@ impl Session {
     }
 
     /// Sends the message that was read last, or counts it as lost if an event that began an
-    /// incarnation isn't acknowledged, or if the line is to be left.
+    /// incarnation isn't acknowledged, if the line is to be left, or if commands alone are read.
     fn take_message(&mut self)
         ensures { self.new
             ≡ record self.old { state = after_entry Entry.Message self.old.state } }
@@ -180,8 +203,8 @@ impl Session {
     fn is_held(&self) -> bool
         ensures { result ≡ is_held self.now.state }
     {
-        let is_barred = self.course.leaves || self.course.unready > 0;
-        self.options.form == MessageForm::Events && is_barred
+        let is_barred = self.course.leaves || self.course.unready > 0 || self.is_idle();
+        self.has_commands() && is_barred
     }
 
     /// Obeys the command that was read last, or reports that it isn't known.
@@ -193,10 +216,16 @@ impl Session {
             ≡ record self.old.log { errors = self.new.log.errors; read = self.new.log.read } }
     {
         match command {
-            Command::Ready => self.course.make_ready(),
+            Command::Ready => {
+                let is_idle = self.is_idle();
+                self.course.make_ready(is_idle);
+            }
             Command::Restart => self.course.leaves = true,
             Command::Report => self.report_counters(),
-            Command::Quit => self.input_is_read = true,
+            Command::Quit => {
+                self.input_is_read = true;
+                self.course.quits = true;
+            }
             Command::Unknown => {
                 self.count_entry();
                 self.refuse(reason_of(Entry::Command));

@@ -260,7 +260,7 @@ impl Session {
     pub(super) fn stays(&self) -> bool
         ensures { result ≡ stays self.now.state }
     {
-        let had_input = self.link.totals().sent > 0 || self.was_refused;
+        let had_input = self.link.totals().sent > 0 || self.was_refused || self.course.quits;
         self.options.stay || self.kind == LineKind::Listen && !had_input
     }
 

@@ -13,7 +13,7 @@ loop-try-init g c = (none-over refl refl, λ r. r)
 
 pub returns-in-Err-clause-over : goal.returns-in-Err-clause-over
 returns-in-Err-clause-over g c =
-    over-then c.loop-try.invariant.0 (goes-over c.look_for_end.ensures.on)
+    over-then c.loop-try.invariant.0 (goes-over c.look_at_input.ensures.on)
 
 pub returns-in-Err-clause-reports : goal.returns-in-Err-clause-reports
 returns-in-Err-clause-reports g c = λ fault untimed e.
@@ -22,7 +22,7 @@ returns-in-Err-clause-reports g c = λ fault untimed e.
 
 pub returns-in-Some-Time-clause-over : goal.returns-in-Some-Time-clause-over
 returns-in-Some-Time-clause-over g c =
-    over-then (over-then c.loop-try.invariant.0 (goes-over c.look_for_end.ensures.on))
+    over-then (over-then c.loop-try.invariant.0 (goes-over c.look_at_input.ensures.on))
     (over-then (none-over c.read_clocks-now.ensures.state c.read_clocks-now.ensures.devices)
     (passed-now c.read_clocks-now.result c.read_clocks-now.new.session.state
     c.pass_time.new.self.state
@@ -30,7 +30,7 @@ returns-in-Some-Time-clause-over g c =
 
 pub returns-in-Some-Done-clause-over : goal.returns-in-Some-Done-clause-over
 returns-in-Some-Done-clause-over g c =
-    over-then (over-then c.loop-try.invariant.0 (goes-over c.look_for_end.ensures.on))
+    over-then (over-then c.loop-try.invariant.0 (goes-over c.look_at_input.ensures.on))
     (over-then (none-over c.read_clocks-now.ensures.state c.read_clocks-now.ensures.devices)
     (passed-now c.read_clocks-now.result c.read_clocks-now.new.session.state
     c.pass_time.new.self.state
@@ -40,10 +40,10 @@ pub returns-in-Ok-true-clause-over : goal.returns-in-Ok-true-clause-over
 returns-in-Ok-true-clause-over g c =
     passes-then c.read_clocks-now.result c.read_clocks-now.new.session.state
     c.pass_time.new.self.state
-    (over-then (over-then c.loop-try.invariant.0 (goes-over c.look_for_end.ensures.on))
+    (over-then (over-then c.loop-try.invariant.0 (goes-over c.look_at_input.ensures.on))
     (none-over c.read_clocks-now.ensures.state refl))
     (λ r. ready-by c.read_clocks-now.ensures.state
-    (c.look_for_end.ensures.ready (c.loop-try.invariant.1 r)))
+    (c.look_at_input.ensures.ready (c.loop-try.invariant.1 r)))
     c.read_clocks-now.ensures.devices
     c.pass_time.ensures.state c.try_line.ensures.over
 
@@ -51,10 +51,10 @@ pub returns-in-Err-try_line-clause-over : goal.returns-in-Err-try_line-clause-ov
 returns-in-Err-try_line-clause-over g c =
     passes-then c.read_clocks-now.result c.read_clocks-now.new.session.state
     c.pass_time.new.self.state
-    (over-then (over-then c.loop-try.invariant.0 (goes-over c.look_for_end.ensures.on))
+    (over-then (over-then c.loop-try.invariant.0 (goes-over c.look_at_input.ensures.on))
     (none-over c.read_clocks-now.ensures.state refl))
     (λ r. ready-by c.read_clocks-now.ensures.state
-    (c.look_for_end.ensures.ready (c.loop-try.invariant.1 r)))
+    (c.look_at_input.ensures.ready (c.loop-try.invariant.1 r)))
     c.read_clocks-now.ensures.devices
     c.pass_time.ensures.state c.try_line.ensures.over
 
@@ -65,10 +65,10 @@ returns-then-not-wait_between_lines-clause-over g c =
     (over-then
     (passes-then c.read_clocks-now.result c.read_clocks-now.new.session.state
     c.pass_time.new.self.state
-    (over-then (over-then c.loop-try.invariant.0 (goes-over c.look_for_end.ensures.on))
+    (over-then (over-then c.loop-try.invariant.0 (goes-over c.look_at_input.ensures.on))
     (none-over c.read_clocks-now.ensures.state refl))
     (λ r. ready-by c.read_clocks-now.ensures.state
-    (c.look_for_end.ensures.ready (c.loop-try.invariant.1 r)))
+    (c.look_at_input.ensures.ready (c.loop-try.invariant.1 r)))
     c.read_clocks-now.ensures.devices
     c.pass_time.ensures.state c.try_line.ensures.over)
     (none-over c.write_errors.ensures.session c.write_errors.ensures.devices))
@@ -78,7 +78,7 @@ pub returns-then-not-wait_between_lines-clause-reports :
     goal.returns-then-not-wait_between_lines-clause-reports
 returns-then-not-wait_between_lines-clause-reports g c = λ fault untimed e.
     reports-later c.loop-try.invariant.0
-    (reports-later (goes-over c.look_for_end.ensures.on)
+    (reports-later (goes-over c.look_at_input.ensures.on)
     (reports-later (none-over c.read_clocks-now.ensures.state c.read_clocks-now.ensures.devices)
     (reports-later
     (passed-now c.read_clocks-now.result c.read_clocks-now.new.session.state
@@ -103,10 +103,10 @@ loop-try-preserved g c = (
       (over-then
       (passes-then c.read_clocks-now.result c.read_clocks-now.new.session.state
       c.pass_time.new.self.state
-      (over-then (over-then c.loop-try.invariant.0 (goes-over c.look_for_end.ensures.on))
+      (over-then (over-then c.loop-try.invariant.0 (goes-over c.look_at_input.ensures.on))
       (none-over c.read_clocks-now.ensures.state refl))
       (λ r. ready-by c.read_clocks-now.ensures.state
-      (c.look_for_end.ensures.ready (c.loop-try.invariant.1 r)))
+      (c.look_at_input.ensures.ready (c.loop-try.invariant.1 r)))
       c.read_clocks-now.ensures.devices
       c.pass_time.ensures.state c.try_line.ensures.over)
       (none-over c.write_errors.ensures.session c.write_errors.ensures.devices))
@@ -116,7 +116,7 @@ loop-try-preserved g c = (
       (c.in-Ok-false.is ∙ ap (λ b. Ok b) c.in-Ok-false.field-0-test)
       (ready-by c.pass_time.ensures.state
       (ready-by c.read_clocks-now.ensures.state
-      (c.look_for_end.ensures.ready (c.loop-try.invariant.1 r))))),
+      (c.look_at_input.ensures.ready (c.loop-try.invariant.1 r))))),
 )
 
 pub returns-clause-over : goal.returns-clause-over

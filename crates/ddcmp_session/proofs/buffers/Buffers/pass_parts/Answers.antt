@@ -1,7 +1,8 @@
-use Rattle.std.proofs.Common.{refl, sym}
+use Rattle.std.proofs.Common.{refl, sym, take}
 use Rattle.ddcmp_session.proofs.GoingLaws.{stays, goes-then}
 use Rattle.ddcmp_session.proofs.InputGoes.{types-held}
 use Rattle.ddcmp_session.proofs.InputLaws.{has-input_read}
+use Rattle.ddcmp_session.proofs.ReadyLaws.{read-ready}
 use Rattle.ddcmp_session.proofs.buffers.Buffers.pass_parts.Goals as goal
 
 pub loop-part-init : goal.loop-part-init
@@ -9,6 +10,7 @@ loop-part-init c = record {
   on = λ known. stays refl refl;
   session = λ e. refl;
   held = λ e. refl;
+  ready = λ r. r;
 }
 
 pub loop-part-preserved : goal.loop-part-preserved
@@ -25,6 +27,10 @@ loop-part-preserved c = record {
       c.input_read-used.ensures.few (λ e. (c.input_read-used.ensures.none e).0)));
   session = λ e. cc;
   held = λ e. cc;
+  ready = λ r.
+      read-ready (take c.input_read-used.result c.rest.result.now) c.loop-part.session.state
+      c.input_read-used.new.self.state c.input_read-used.ensures.state
+      (c.loop-part.invariant.ready r);
 }
 
 pub returns-after-loop-part : goal.returns-after-loop-part
@@ -33,6 +39,7 @@ returns-after-loop-part c =
     (record {
       on = c.loop-part.invariant.on;
       idle = λ e. (c.loop-part.invariant.session e, c.loop-part.invariant.held e);
+      ready = c.loop-part.invariant.ready;
     })
 
 pub returns-then-is_empty : goal.returns-then-is_empty
@@ -41,4 +48,5 @@ returns-then-is_empty c =
     (record {
       on = c.loop-part.invariant.on;
       idle = λ e. (c.loop-part.invariant.session e, c.loop-part.invariant.held e);
+      ready = c.loop-part.invariant.ready;
     })

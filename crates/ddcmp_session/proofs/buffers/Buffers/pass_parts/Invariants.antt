@@ -1,6 +1,7 @@
 use Rattle.std.proofs.Common.{◌≡◌, Option, false}
 use Rattle.ddcmp_session.specs.contracts.buffers.Buffers as buffers
 use Rattle.ddcmp_session.specs.Devices.{GoesOn}
+use Rattle.ddcmp_session.specs.Lines.{IsReady}
 use Rattle.ddcmp_session.specs.Traffic.{Traffic}
 use Rattle.ddcmp_session.proofs.buffers.Buffers.pass_parts.Given as goal
 
@@ -12,4 +13,5 @@ invariant-loop-part l = record {
   session : l.moved ≡ false → l.session ≡ l.initial.session;
   held : l.moved ≡ false
       → buffers.the_view l.self-inside ≡ buffers.the_view l.initial.self-inside;
+  ready : IsReady l.initial.session.state → IsReady l.session.state;
 }

@@ -2,7 +2,7 @@ use Rattle.std.proofs.Common.{refl}
 use Rattle.ddcmp_session.proofs.GoingLaws.{stays, goes-then}
 use Rattle.ddcmp_session.proofs.InputGoes.{ends}
 use Rattle.ddcmp_session.proofs.LinesGo.{same-err}
-use Rattle.ddcmp_session.proofs.buffers.Buffers.look_for_end.Goals as goal
+use Rattle.ddcmp_session.proofs.buffers.Buffers.look_at_input.Goals as goal
 
 pub returns-then-not-awaits_end-clause-on : goal.returns-then-not-awaits_end-clause-on
 returns-then-not-awaits_end-clause-on g c = stays refl refl
