@@ -197,6 +197,38 @@ def test_ready_ahead():
     assert second.mail == [b"one"]
 
 
+@pytest.mark.parametrize("again", [[], ["--again"]], ids=["once", "again"])
+def test_halt_and_start(again):
+    """A halt leaves the line, which is opened again by a start alone; what isn't acknowledged is
+    lost, and so is what follows until the program is ready again."""
+    with server() as it:
+        link = Link(f"connect:127.0.0.1:{port_of(it)}", *EVENTS, *again)
+        first = Peer(it.accept()[0])
+        assert is_up(link)
+        link.give(READY + binary([b"one"]), close=False)
+        assert link.waits(lambda it: b"Acknowledged" in it.out, 10)
+        link.give(commands("halt") + binary([b"two"]) + commands("report"), close=False)
+        assert first.waits(lambda it: it.has_ended, 10)
+        it.settimeout(1.5)
+        with pytest.raises(TimeoutError):
+            it.accept()
+        link.give(commands("start"), close=False)
+        it.settimeout(10)
+        second = Peer(it.accept()[0])
+        assert is_up(link, 2)
+        link.give(binary([b"three"]) + READY + binary([b"four"]) + QUIT, close=False)
+        must_end("halt", link, 3, unacknowledged(2), 20)
+    assert (first.mail, second.mail) == ([b"one"], [b"four"])
+
+
+def test_quit_while_halted():
+    link, peer = called(*EVENTS)
+    assert is_up(link)
+    link.give(commands("halt", "start", "halt") + QUIT, close=False)
+    must_end("halted", link, 0, seconds=10)
+    assert peer.mail == []
+
+
 def test_quit_of_a_listener():
     """It ends one that never had a message, once its peer has left."""
     link = Link("listen:127.0.0.1:0", *EVENTS, "--again")

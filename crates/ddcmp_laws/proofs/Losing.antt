@@ -197,6 +197,8 @@ entry-halted entry.Command s halted = by (command_in s.messages)
     by : (c : Command) → (after_command c s).link ≡ s.link
     by command.Ready = refl
     by command.Restart = refl
+    by command.Halt = refl
+    by command.Start = refl
     by command.Report = refl
     by command.Quit = refl
     by command.Unknown = refl
@@ -224,6 +226,8 @@ message-keeps false s = record { line = refl; lost = λ e. e; run = refl }
 command-keeps : (c : Command) (s : SessionView) → KeepsLine s (after_command c s)
 command-keeps command.Ready s = record { line = refl; lost = λ e. e; run = refl }
 command-keeps command.Restart s = record { line = refl; lost = λ e. e; run = refl }
+command-keeps command.Halt s = record { line = refl; lost = λ e. e; run = refl }
+command-keeps command.Start s = record { line = refl; lost = λ e. e; run = refl }
 command-keeps command.Report s = kept-line s
 command-keeps command.Quit s = record { line = refl; lost = λ e. e; run = refl }
 command-keeps command.Unknown s = record { line = refl; lost = λ e. e; run = refl }

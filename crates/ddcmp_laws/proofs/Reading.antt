@@ -156,6 +156,8 @@ entered_mode (Command ∷ rest) s = by (command_in s.messages)
     by : (c : command.the_data) → SameMode s (after_command c s)
     by command.Ready = refl
     by command.Restart = refl
+    by command.Halt = refl
+    by command.Start = refl
     by command.Report = refl
     by command.Quit = refl
     by command.Unknown = refl
@@ -186,6 +188,8 @@ entered_count (Command ∷ rest) s = by (command_in s.messages)
     by : (c : command.the_data) → SameCount s (after_command c s)
     by command.Ready = refl
     by command.Restart = refl
+    by command.Halt = refl
+    by command.Start = refl
     by command.Report = refl
     by command.Quit = refl
     by command.Unknown = refl

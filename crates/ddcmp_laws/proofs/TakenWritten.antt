@@ -52,6 +52,8 @@ entries_same (entry.Command ∷ rest) s = by (command_in s.messages)
     by : (c : Command) → (after_command c s).options ≡ s.options
     by command.Ready = refl
     by command.Restart = refl
+    by command.Halt = refl
+    by command.Start = refl
     by command.Report = refl
     by command.Quit = refl
     by command.Unknown = refl

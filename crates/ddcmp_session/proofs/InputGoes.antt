@@ -213,6 +213,8 @@ command-line : (c : Command) (s : SessionView)
     → (after_command c s).link.station.line ≡ s.link.station.line
 command-line command.Ready s = refl
 command-line command.Restart s = refl
+command-line command.Halt s = refl
+command-line command.Start s = refl
 command-line command.Report s = refl
 command-line command.Quit s = refl
 command-line command.Unknown s = refl
@@ -235,6 +237,8 @@ message-read false s read = read
 command-read : (c : Command) (s : SessionView) → StaysRead s (after_command c s)
 command-read command.Ready s read = read
 command-read command.Restart s read = read
+command-read command.Halt s read = read
+command-read command.Start s read = read
 command-read command.Report s read = read
 command-read command.Quit s read = refl
 command-read command.Unknown s read = read
@@ -254,6 +258,8 @@ message-messages false s = refl
 command-messages : (c : Command) (s : SessionView) → (after_command c s).messages ≡ s.messages
 command-messages command.Ready s = refl
 command-messages command.Restart s = refl
+command-messages command.Halt s = refl
+command-messages command.Start s = refl
 command-messages command.Report s = refl
 command-messages command.Quit s = refl
 command-messages command.Unknown s = refl

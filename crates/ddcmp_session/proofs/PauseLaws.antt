@@ -305,6 +305,8 @@ message-keeps false s = kept s.course
 command-keeps : (c : Command) (s : SessionView) → Keeps s.course (after_command c s).course
 command-keeps command.Ready s = record { pause = refl; nak_pause = refl; moment = refl }
 command-keeps command.Restart s = record { pause = refl; nak_pause = refl; moment = refl }
+command-keeps command.Halt s = record { pause = refl; nak_pause = refl; moment = refl }
+command-keeps command.Start s = record { pause = refl; nak_pause = refl; moment = refl }
 command-keeps command.Report s = kept s.course
 command-keeps command.Quit s = record { pause = refl; nak_pause = refl; moment = refl }
 command-keeps command.Unknown s = kept s.course

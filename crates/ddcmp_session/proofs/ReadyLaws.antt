@@ -44,6 +44,8 @@ message-ready false s ready =
 command-ready : (c : Command) (s : SessionView) → StaysReady s (after_command c s)
 command-ready command.Ready s ready = ready
 command-ready command.Restart s ready = ready
+command-ready command.Halt s ready = ready
+command-ready command.Start s ready = ready
 command-ready command.Report s ready = ready
 command-ready command.Quit s ready = ready
 command-ready command.Unknown s ready = ready

@@ -62,6 +62,7 @@ course_begun report_ms = record {
   unready = 0;
   ready_ahead = false;
   quits = false;
+  halted = false;
   lost = 0;
 }
 

@@ -8,7 +8,7 @@ use Rattle.ddcmp_input.specs.declared.entry.Entry.TheVariants.{NotHexadecimal}
 use Rattle.ddcmp_input.specs.declared.entry.Entry.TheVariants as entry
 use Rattle.ddcmp_streams.specs.declared.messages.Command.{Command}
 use Rattle.ddcmp_streams.specs.declared.messages.Command.TheVariants.{Ready, Restart, Report}
-use Rattle.ddcmp_streams.specs.declared.messages.Command.TheVariants.{Quit}
+use Rattle.ddcmp_streams.specs.declared.messages.Command.TheVariants.{Halt, Quit, Start}
 use Rattle.ddcmp_streams.specs.declared.messages.Command.TheVariants.{Unknown}
 use Rattle.ddcmp_station.specs.CountersText.{counters_line}
 use Rattle.ddcmp_station.specs.Linking.{LinkView, total_plus}
@@ -57,6 +57,8 @@ pub record LoggedSession : Type 0 where
 abbrev pub is_known : Command → Bool
 is_known Ready = true
 is_known Restart = true
+is_known Halt = true
+is_known Start = true
 is_known Report = true
 is_known Quit = true
 is_known Unknown = false

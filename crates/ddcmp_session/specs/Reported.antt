@@ -8,7 +8,7 @@ use Rattle.ddcmp_input.specs.declared.entry.Entry.TheVariants.{TooLong, Empty}
 use Rattle.ddcmp_input.specs.declared.entry.Entry.TheVariants as entry
 use Rattle.ddcmp_streams.specs.declared.messages.Command.{Command}
 use Rattle.ddcmp_streams.specs.declared.messages.Command.TheVariants.{Ready, Restart, Report}
-use Rattle.ddcmp_streams.specs.declared.messages.Command.TheVariants.{Quit}
+use Rattle.ddcmp_streams.specs.declared.messages.Command.TheVariants.{Halt, Quit, Start}
 use Rattle.ddcmp_streams.specs.declared.messages.Command.TheVariants.{Unknown}
 use Rattle.ddcmp_station.specs.Linking.{total_plus}
 use Rattle.ddcmp_streams.specs.declared.errors.TheConstants.{SHORT_LINE}
@@ -103,6 +103,8 @@ RefusesUnfinished m read old new =
 abbrev pub ReportsCommand : Command → LoggedSession → ErrorsView → Type 0
 ReportsCommand Ready s new = new ≡ s.log.errors
 ReportsCommand Restart s new = new ≡ s.log.errors
+ReportsCommand Halt s new = new ≡ s.log.errors
+ReportsCommand Start s new = new ≡ s.log.errors
 ReportsCommand Report s new =
     HasReport s.state.options.json s.state.course.lost s.state.link s.log.errors new
 ReportsCommand Quit s new = new ≡ s.log.errors

@@ -46,7 +46,7 @@ use Rattle.ddcmp_streams.specs.Messages.{is_message_unfinished, is_question, cou
 use Rattle.ddcmp_streams.specs.Messages.{command_in, has_last_line, messages_among}
 use Rattle.ddcmp_streams.specs.declared.messages.Command.{Command}
 use Rattle.ddcmp_streams.specs.declared.messages.Command.TheVariants.{Ready, Restart, Report, Quit}
-use Rattle.ddcmp_streams.specs.declared.messages.Command.TheVariants.{Unknown}
+use Rattle.ddcmp_streams.specs.declared.messages.Command.TheVariants.{Halt, Start, Unknown}
 use Rattle.ddcmp_session.specs.declared.session.TheConstants.{OUTPUT_ROOM}
 use Rattle.ddcmp_io.specs.Queue.{QueueView, after_taken as output_taken, no_bytes}
 
@@ -168,6 +168,8 @@ after_message false s = record s {
 abbrev pub after_command : Command → SessionView → SessionView
 after_command Ready s = record s { course = one_ready (is_idle s) s.course }
 after_command Restart s = record s { course = record s.course { leaves = true } }
+after_command Halt s = record s { course = record s.course { leaves = true; halted = true } }
+after_command Start s = record s { course = record s.course { halted = false } }
 after_command Report s = s
 after_command Quit s = record s { is_read = true; course = record s.course { quits = true } }
 after_command Unknown s = record s { was_refused = true }

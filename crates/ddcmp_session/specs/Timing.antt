@@ -127,10 +127,11 @@ restarts s =
     s.link.station.core.limits.restart && s.course.leaves
     && is_halted s.link.station.core.station.state
 
--- a line that was left is opened again, or kept
+-- a line that was left is opened again, or kept, or opened once a command starts the link
 abbrev pub reopens : SessionView → Bool
 reopens s =
-    s.options.again || ((is_listener s.kind && not s.course.peer_has_started) || restarts s)
+    s.options.again
+    || (((is_listener s.kind && not s.course.peer_has_started) || restarts s) || s.course.halted)
 
 -- the pause after a line: none if the station ran on it or the session listens
 abbrev pub after_line : SessionView → SessionView

@@ -133,6 +133,8 @@ pub(crate) struct Course {
     pub(crate) ready_ahead: bool,
     /// Whether a command ended the input.
     pub(crate) quits: bool,
+    /// Whether a command halted the link until another one starts it.
+    pub(crate) halted: bool,
     /// How many messages were read and will never be acknowledged.
     pub(crate) lost: u64,
 }
@@ -183,6 +185,7 @@ impl Course {
             unready: 0,
             ready_ahead: false,
             quits: false,
+            halted: false,
             lost: 0,
         }
     }

@@ -9,7 +9,7 @@ use Rattle.ddcmp_input.specs.Lengths as lengths
 use Rattle.ddcmp_input.specs.Records as records
 use Rattle.ddcmp_streams.specs.declared.messages.Command.{Command}
 use Rattle.ddcmp_streams.specs.declared.messages.Command.TheVariants.{Ready, Restart, Report}
-use Rattle.ddcmp_streams.specs.declared.messages.Command.TheVariants.{Quit, Unknown}
+use Rattle.ddcmp_streams.specs.declared.messages.Command.TheVariants.{Halt, Start, Quit, Unknown}
 use Rattle.ddcmp_streams.specs.declared.messages.MessageForm.{MessageForm}
 use Rattle.ddcmp_streams.specs.declared.messages.MessageForm.TheVariants as form
 use Rattle.ddcmp_streams.specs.declared.messages.Messages.{Messages}
@@ -83,6 +83,8 @@ abbrev pub command_of : List ℕ → Command
 command_of text =
     if bytes_eq text (codes "ready") then Ready
     else if bytes_eq text (codes "restart") then Restart
+    else if bytes_eq text (codes "halt") then Halt
+    else if bytes_eq text (codes "start") then Start
     else if bytes_eq text (codes "report") then Report
     else if bytes_eq text (codes "quit") then Quit
     else Unknown

@@ -29,6 +29,10 @@ pub enum Command {
     Ready,
     /// `restart`: leaves the line, which is opened again if that is asked for.
     Restart,
+    /// `halt`: leaves the line, which is opened again by `start` alone.
+    Halt,
+    /// `start`: takes a `halt` back.
+    Start,
     /// `report`: asks for a report of the counters.
     Report,
     /// `quit`: ends the input.
@@ -45,6 +49,10 @@ fn command_of(text: &[u8]) -> Command
         Command::Ready
     } else if text == b"restart".as_slice() {
         Command::Restart
+    } else if text == b"halt".as_slice() {
+        Command::Halt
+    } else if text == b"start".as_slice() {
+        Command::Start
     } else if text == b"report".as_slice() {
         Command::Report
     } else if text == b"quit".as_slice() {

@@ -219,6 +219,9 @@ impl Buffers {
         ensures unjudged { (count : ℕ) → result ≢ Err (Stop.Lost count) }
         ensures read { result ≢ Err Stop.Unread }
     {
+        if session.is_halted() {
+            return Ok(false);
+        }
         if now < session.opens_at() {
             return Ok(false);
         }

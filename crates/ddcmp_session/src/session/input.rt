@@ -221,6 +221,11 @@ impl Session {
                 self.course.make_ready(is_idle);
             }
             Command::Restart => self.course.leaves = true,
+            Command::Halt => {
+                self.course.leaves = true;
+                self.course.halted = true;
+            }
+            Command::Start => self.course.halted = false,
             Command::Report => self.report_counters(),
             Command::Quit => {
                 self.input_is_read = true;

@@ -277,7 +277,14 @@ impl Session {
         ensures { result ≡ reopens self.now.state }
     {
         let is_awaited = self.kind == LineKind::Listen && !self.course.peer_has_started;
-        self.options.again || is_awaited || self.restarts()
+        self.options.again || is_awaited || self.restarts() || self.course.halted
+    }
+
+    /// Returns whether a command halted the link until another one starts it.
+    pub fn is_halted(&self) -> bool
+        ensures { result ≡ self.now.state.course.halted }
+    {
+        self.course.halted
     }
 
     /// Returns whether a line that can't be opened is tried again.

@@ -47,3 +47,6 @@ pub returns-in-Err-2-clause-ready : goal.returns-in-Err-2-clause-ready
 returns-in-Err-2-clause-ready g c = λ e r.
     ready-by c.report_retry.ensures.session
     (ready-by c.open_failed-seconds.ensures.state (ready-by c.open_line.ensures.session r))
+
+pub returns-then-is_halted-clause-over : goal.returns-then-is_halted-clause-over
+returns-then-is_halted-clause-over g c = none-over refl refl
