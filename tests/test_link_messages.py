@@ -12,7 +12,8 @@ from .bad_lines import Bad
 from .peers import called, good
 from .process import Link, exchange, listening, must_end, tcp_pair, terminals, unacknowledged
 from .wire import (
-    STRT, ack, binary, commands, data, digits, drawn, in_lines, messages_of, unpacked)
+    STRT, ack, binary, command_lines, commands, data, digits, drawn, in_lines, messages_of,
+    unpacked)
 
 
 @pytest.mark.parametrize("window", [1, 7, 127, 255])
@@ -40,7 +41,8 @@ def restarted(*options):
     peer.waits(lambda it: it.named("ACK"), 10)
     peer.send(data(b"old", 1, 0))
     link.waits(lambda it: b"old" in it.out or b"6f6c64" in it.out, 10)
-    ready = commands("ready") if "--events" in options else b""
+    command = commands if "--binary" in options else command_lines
+    ready = command("ready") if "--events" in options else b""
     link.give(ready + form([b"lost"]), close=False)
     peer.waits(lambda it: it.named("DATA"), 10)
     peer.send(STRT)
@@ -91,9 +93,9 @@ def test_events_among_long_messages():
 
 
 def test_events_of_lines():
-    """In lines the events are in the output anyway."""
-    link = Link("connect:127.0.0.1:1", "--events")
-    assert link.ended(10) == 2 and b"error: '--events' is for '--binary'" in link.err
+    """In lines the events are in the output anyway: it is the same."""
+    with_events, without = restarted("--events"), restarted()
+    assert with_events.out == without.out and with_events.faults() == without.faults()
 
 
 def test_digits():

@@ -542,8 +542,8 @@ def received(peer):
 COMMANDS = {  # the options of each: those that are in its table, and those that aren't
     "explain": (EXPLAIN, set()), "simulate": (SIMULATE, set()), "pair": (SIMULATE, set()),
     "station": (STATION, {"--addr"}), "tap": (TAP, {"--listen", "--connect", "--report"}),
-    # --report of tap needs a second: test_tap.py; --only is for a line with callers, --baud for a device, --events for --binary:
-    # test_callers.py, test_slow_lines.py, test_link_messages.py; --acknowledge-early: test_link_output.py.
+    # --report of tap needs a second: test_tap.py; --only is for a line with callers, --baud for a device:
+    # test_callers.py, test_slow_lines.py; --events: test_commands.py; --acknowledge-early: test_link_output.py.
     "link": (LINK, {"--line", "--only", "--baud", "--events", "--acknowledge-early"}), "bridge": (BRIDGE, set()),
 }
 RUNS = [*((explain, it) for it in chosen_of(EXPLAIN)),

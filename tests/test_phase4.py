@@ -19,12 +19,15 @@ MORE = pytest.param(10, marks=[pytest.mark.long, pytest.mark.limit(300)])
 
 @pytest.fixture(params=["station", "link"])
 def nodes(library, request):
-    """Begins a node over a station, or over a link, which is killed with it."""
+    """Begins a node over a station, or over a link, in binary or in lines, which is killed with
+    it."""
     def begin(name, line, *options):
         words = [sys.executable, f"{TOP}/python/examples/phase4.py", name, line]
         environment = over_library(DDCMP_LIBRARY=f"{library}/libddcmp.so")
-        if request.param == "link":
+        if request.param != "station":
             options = *options, "--link", *PROGRAM
+        if request.param == "lines":
+            options = *options, "--lines"
         return Process([*words, "--timer", "0.5", *options], env=environment,
                        start_new_session=True)
     return begin
@@ -100,3 +103,9 @@ def test_kills(nodes, kind, kills):
     found, downs = incarnations(stays, "1.6")
     assert (len(found), downs) == (kills + 1, kills), stays
     assert len({it[0][0] for it in found}) == kills + 1
+
+
+@pytest.mark.limit(90)
+@pytest.mark.parametrize("nodes", ["lines"], indirect=True)
+def test_kills_in_lines(nodes):
+    test_kills(nodes, "udp", 3)

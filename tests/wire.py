@@ -122,13 +122,18 @@ def binary(messages):
 
 
 def commands(*texts):
-    """Commands as `link --events` reads them, each after its length, whose top bit is set."""
+    """Commands as `link --binary --events` reads them, each after its length, whose top bit is set."""
     return b"".join((0x8000 + len(it)).to_bytes(2, "big") + it.encode() for it in texts)
 
 
 def digits(messages):
     """Messages as a link reads them, a line each."""
     return "".join(it.hex() + "\n" for it in messages).encode()
+
+
+def command_lines(*texts):
+    """Commands as `link --events` reads them among lines."""
+    return "".join(f"?{it}\n" for it in texts).encode()
 
 
 def unpacked(text):

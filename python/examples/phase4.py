@@ -2,7 +2,7 @@
 """An end node's side of a circuit of DECnet Phase IV: initialization, hellos and packets over a
 station. As remembered of Phase IV's routing layer, and not tried against a DECnet node.
 
-    phase4.py NODE LINE [--hello S] [--packets N] [--link PROGRAM]
+    phase4.py NODE LINE [--hello S] [--packets N] [--link PROGRAM [--lines]]
 
 NODE is AREA.NUMBER, as 1.5, and LINE listen:HOST:PORT, connect:HOST:PORT or udp:LOCAL,REMOTE, as
 `ddcmp link` has them. A hello goes S seconds after the last message [default: 15], and while the
@@ -15,7 +15,7 @@ initialization message, and none of the one before may follow. So this feeds a s
 call of `feed` returns one notice or message, in the order in which they came, and what waits for
 room in the window is dropped by whatever starts the circuit again. With --link the station is that
 of `PROGRAM link --binary --events`, which has its notices among its messages, and refuses what it
-reads until each incarnation is acknowledged.
+reads until each incarnation is acknowledged; with --lines, too, of `PROGRAM link --events`.
 """
 import argparse
 import asyncio
@@ -25,7 +25,7 @@ import os
 import struct
 import sys
 import time
-from typing import Any, Deque, List, Optional
+from typing import Any, Deque, List, Optional, Sequence
 
 import ddcmp
 
@@ -244,6 +244,7 @@ class StationCircuit(Circuit, asyncio.Protocol, asyncio.DatagramProtocol):
 class LinkCircuit(Circuit):
     """A circuit over `ddcmp link`, which opens its lines."""
 
+    form: Sequence[str] = ("--binary", "--events")
     is_running = False
 
     def begin(self) -> None:
@@ -260,11 +261,13 @@ class LinkCircuit(Circuit):
     def command(self, text: str) -> None:
         self.stdin.write(struct.pack(">H", 0x8000 + len(text)) + text.encode())
 
+    def message(self, message: bytes) -> None:
+        self.stdin.write(struct.pack(">H", len(message)) + message)
+
     def write(self) -> None:
         """Sends what has room in the window, so that no command waits behind messages."""
         while self.unsent and self.is_running and self.unacknowledged < WINDOW:
-            message = self.unsent.popleft()
-            self.stdin.write(struct.pack(">H", len(message)) + message)
+            self.message(self.unsent.popleft())
             self.unacknowledged += 1
 
     def noticed(self, text: str) -> None:
@@ -283,21 +286,43 @@ class LinkCircuit(Circuit):
 
     async def follow(self, program: str, line: str) -> None:
         """Runs the link, and handles what it writes."""
-        words = [program, "link", "--binary", "--events", "--restart", "--again", "--max",
-                 str(BLOCK), "--window", str(WINDOW), "--timer-ms", str(int(1000 * self.timer)),
-                 "--line", line]
+        words = [program, "link", *self.form, "--restart", "--again", "--max", str(BLOCK),
+                 "--window", str(WINDOW), "--timer-ms", str(int(1000 * self.timer)), "--line", line]
         run = await asyncio.create_subprocess_exec(
             *words, stdin=asyncio.subprocess.PIPE, stdout=asyncio.subprocess.PIPE)
         assert run.stdin and run.stdout
         self.stdin = run.stdin
         while True:
-            length, = struct.unpack(">H", await run.stdout.readexactly(2))
-            record = await run.stdout.readexactly(length % 0x8000)
-            if length & 0x8000:
-                self.noticed(record.decode("ascii"))
-            else:
-                self.received(record)
+            await self.read_one(run.stdout)
             self.write()
+
+    async def read_one(self, output: asyncio.StreamReader) -> None:
+        """Handles an event or a message."""
+        length, = struct.unpack(">H", await output.readexactly(2))
+        record = await output.readexactly(length % 0x8000)
+        if length & 0x8000:
+            self.noticed(record.decode("ascii"))
+        else:
+            self.received(record)
+
+
+class LineCircuit(LinkCircuit):
+    """The same in lines."""
+
+    form = "--events",
+
+    def command(self, text: str) -> None:
+        self.stdin.write(f"?{text}\n".encode())
+
+    def message(self, message: bytes) -> None:
+        self.stdin.write(f"{message.hex()}\n".encode())
+
+    async def read_one(self, output: asyncio.StreamReader) -> None:
+        line = (await output.readuntil()).decode("ascii").rstrip()
+        if line.startswith("mail "):
+            self.received(bytes.fromhex(line[5:]))
+        elif line.startswith(("notice ", "lost ")):
+            self.noticed(line)
 
 
 def line_of(text: str) -> List[Any]:
@@ -335,10 +360,11 @@ async def main() -> None:
     words.add_argument("--packets", metavar="N", type=float, default=0)
     words.add_argument("--timer", metavar="S", type=float, default=3)
     words.add_argument("--link", metavar="PROGRAM")
+    words.add_argument("--lines", action="store_true")
     given = words.parse_args()
     sizes = given.node, given.hello, given.packets, given.timer
     if given.link:
-        linked = LinkCircuit(*sizes)
+        linked = (LineCircuit if given.lines else LinkCircuit)(*sizes)
         await asyncio.gather(linked.run(), linked.follow(given.link, given.line))
     else:
         circuit = StationCircuit(*sizes)

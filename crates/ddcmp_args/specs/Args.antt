@@ -27,6 +27,7 @@ use Rattle.ddcmp_args.specs.declared.bridge_args.BridgeArgs.{BridgeArgs}
 use Rattle.ddcmp_bridge.specs.declared.faults.Faults.{Faults}
 use Rattle.ddcmp_streams.specs.declared.messages.MessageForm.{MessageForm}
 use Rattle.ddcmp_streams.specs.declared.messages.MessageForm.TheVariants.{Digits, Binary, Events}
+use Rattle.ddcmp_streams.specs.declared.messages.MessageForm.TheVariants.{EventLines}
 use Rattle.ddcmp_streams.specs.declared.options.Options.{Options}
 use Rattle.ddcmp_args.specs.declared.view.ScriptView.{ScriptView}
 use Rattle.ddcmp_args.specs.declared.no_command.NoCommand.{NoCommand}
@@ -370,11 +371,17 @@ pub record HasBinary (events : Option Text) (form : MessageForm) : Type 0 where
   pub left_out : events ≡ Some (codes "false") → form ≡ Binary
   pub absent : events ≡ None → form ≡ Binary
 
+-- messages as digits, with commands among them if `--events` is given
+pub record HasLines (events : Option Text) (form : MessageForm) : Type 0 where
+  pub given : events ≡ Some (codes "true") → form ≡ EventLines
+  pub left_out : events ≡ Some (codes "false") → form ≡ Digits
+  pub absent : events ≡ None → form ≡ Digits
+
 -- messages in binary, each after its length, if `--binary` is given, else as digits
 pub record HasMessages (binary events : Option Text) (form : MessageForm) : Type 0 where
   pub given : binary ≡ Some (codes "true") → HasBinary events form
-  pub left_out : binary ≡ Some (codes "false") → form ≡ Digits
-  pub absent : binary ≡ None → form ≡ Digits
+  pub left_out : binary ≡ Some (codes "false") → HasLines events form
+  pub absent : binary ≡ None → HasLines events form
 
 -- how frames are logged: as a ladder, or as lines if a trace is asked for, which may be JSON
 abbrev pub trace_by : (ladder trace json : Bool) → Option LogNotation
@@ -419,7 +426,6 @@ pub record HasLinkOptions (line : Text) (option : Text → Option Text) (options
 pub record HasLink (option text : Text → Option Text) (linked : LinkArgs) : Type 0 where
   pub line : linked.line.now ≡ unwrap_or (text (codes "line")) []
   pub only : option_map (λ host. host.now) linked.only ≡ text (codes "only")
-  pub events : HasFlag (option (codes "events")) linked.events
   pub options : HasLinkOptions linked.line.now option linked.options
 
 -- the faults that a bridge is to make

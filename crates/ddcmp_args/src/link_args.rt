@@ -27,8 +27,6 @@ pub struct LinkArgs<'a> {
     pub line: &'a str,
     /// The host whose callers are accepted, if it is given.
     pub only: Option<&'a str>,
-    /// Whether `--events` is given, which is for messages in binary.
-    pub events: bool,
     pub options: Options,
 }
 
@@ -44,6 +42,7 @@ LINE is one of:
   device:PATH            a serial device that is set up already, as by stty;
                          the default of --syn is 4
 Input: one message per line, in hexadecimal digits; a line ? asks for a report.
+With --events such a line may be a command, as ?ready; the commands are below.
 Output, as it happens:
   notice N               a notice of the station, as Running or Acknowledged 1
   mail HEX               a received message
@@ -55,7 +54,7 @@ and all else goes to standard error; with --events, too, notices and losses are 
 the output: the text of such a line after its length, whose top bit is set. Commands
 in the input have that form, too: ready, which is due after each notice Running,
 RunningAndHandedUp or Restarted, and before which messages are lost; restart, which
-leaves the line; report; and quit, which ends the input.
+leaves the line; halt, the same until start; report; and quit, which ends the input.
 With --maintenance, as for MOP, each message goes once: it may be lost, and is
 never damaged. A message counts as delivered once it is written.",
 };
@@ -71,7 +70,7 @@ static LINK_OPTIONS: [CommandOption; 17] = table! {
     "timer-ms": Number(1, u32::MAX),
         "Reply timer in milliseconds, from 1 [default: 3000, over UDP 500]";
     "attempts": Number(0, u32::MAX),
-        "Leave after N tries without a reply, 0: never [default: 7 to start]";
+        "Leave after N tries in vain, 0: never [default: 7 to start]";
     "linger-ms": Number(0, u32::MAX),
         "Once done, stay until no reply was due for N ms [default: 500 over TCP]";
     "baud": Number(0, u32::MAX),
@@ -79,7 +78,7 @@ static LINK_OPTIONS: [CommandOption; 17] = table! {
     "seconds": Number(1, u32::MAX), "End after N seconds, whatever the state";
     "report": Number(0, u32::MAX), "Report the counters on standard error every N seconds";
     "binary": Nothing, "Read and write messages as bytes after their length";
-    "events": Nothing, "With --binary, write notices among the messages";
+    "events": Nothing, "Read commands; with --binary, write notices among the messages";
     "acknowledge-early": Nothing, "Acknowledge messages once received, not once written";
     "maintenance": Nothing, "Exchange maintenance messages, which nobody acknowledges";
     "stay": Nothing, "Keep running once all input was delivered";
@@ -146,12 +145,13 @@ fn messages_given(options: &ArgMatches<'_>) -> MessageForm
     ensures { HasMessages (one_text (found_of options.now) (codes "binary"))
         (one_text (found_of options.now) (codes "events")) result }
 {
-    if !flag_given(options, "binary") {
-        MessageForm::Digits
-    } else if flag_given(options, "events") {
-        MessageForm::Events
-    } else {
-        MessageForm::Binary
+    let binary = flag_given(options, "binary");
+    let events = flag_given(options, "events");
+    match (binary, events) {
+        (false, false) => MessageForm::Digits,
+        (false, true) => MessageForm::EventLines,
+        (true, false) => MessageForm::Binary,
+        (true, true) => MessageForm::Events,
     }
 }
 
@@ -200,7 +200,6 @@ pub(crate) fn link_given<'a>(options: &ArgMatches<'a>) -> LinkArgs<'a>
     LinkArgs {
         line,
         only: options.get_str("only"),
-        events: flag_given(options, "events"),
         options: link_options,
     }
 }

@@ -2,8 +2,6 @@
 use Rattle.std.specs.Prelude.{◌≡◌, ◌≢◌, ◌⊎◌, ◌==◌, ◌&&◌, ◌||◌, not, ℕ, Bool, true, false, List}
 use Rattle.std.specs.Prelude.{Option, Some, Result, Ok, Err, is_some}
 use Rattle.std.specs.Borrow.{Bor}
-use Rattle.ddcmp_streams.specs.declared.messages.MessageForm.{MessageForm}
-use Rattle.ddcmp_streams.specs.declared.messages.MessageForm.TheVariants.{Digits}
 use Rattle.ddcmp_streams.specs.declared.options.Options.{Options}
 use Rattle.ddcmp_log.specs.declared.notation.LogNotation.{LogNotation}
 use Rattle.ddcmp_log.specs.declared.notation.LogNotation.TheVariants.{Ladder}
@@ -55,14 +53,6 @@ abbrev pub has_no_speed : LineName → Options → Bool
 has_no_speed (Device path) o = false
 has_no_speed _ o = not (o.baud == 0)
 
-abbrev pub is_in_lines : MessageForm → Bool
-is_in_lines Digits = true
-is_in_lines _ = false
-
--- Events are asked for, and messages aren't in binary.
-abbrev pub has_no_binary : LinkArgs → Bool
-has_no_binary linked = is_in_lines linked.options.form && linked.events
-
 abbrev pub is_drawn : Option LogNotation → Bool
 is_drawn (Some Ladder) = true
 is_drawn _ = false
@@ -81,13 +71,11 @@ Links lines linked ending =
     × (has_no_callers line linked.only ≡ true) × (is_refusal ending ≡ true))
     ⊎ ((line : LineName) × (word_of line ≡ linked.line.now)
     × (has_no_speed line linked.options ≡ true) × (is_refusal ending ≡ true))
-    ⊎ ((has_no_binary linked ≡ true) × (is_refusal ending ≡ true))
     ⊎ ((means_nothing linked ≡ true) × (is_refusal ending ≡ true))
     ⊎ ((has_two_notations linked ≡ true) × (is_refusal ending ≡ true))
     ⊎ ((line : LineName) × (word_of line ≡ linked.line.now)
     × (has_no_callers line linked.only ≡ false) × (has_no_speed line linked.options ≡ false)
-    × (has_no_binary linked ≡ false) × (means_nothing linked ≡ false)
-    × (has_two_notations linked ≡ false)
+    × (means_nothing linked ≡ false) × (has_two_notations linked ≡ false)
     × (ended : Result LinkOutcome LinkFailure)
     × ((known : Result LinkOutcome LinkFailure)
     → lines.links (word_of line) (text_of linked.only) linked.options ≡ Some known → ended ≡ known)

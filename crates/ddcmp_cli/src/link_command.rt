@@ -1,7 +1,7 @@
 //! `link`: messages between a line and the program's streams.
 ghost use Rattle.std.specs.Prelude.{◌≡◌, ◌↔◌, Err, IsTrue, false};
 ghost use Rattle.ddcmp_cli.specs.LinkEndings.{LinkEnds, Links, has_no_callers, has_no_speed};
-ghost use Rattle.ddcmp_cli.specs.LinkEndings.{has_no_binary, has_two_notations, means_nothing};
+ghost use Rattle.ddcmp_cli.specs.LinkEndings.{has_two_notations, means_nothing};
 
 use ddcmp_args::link_args::{DEFAULT_ATTEMPTS, LinkArgs, default_timer};
 use ddcmp_bridge::{BridgeEnd, BridgeOptions};
@@ -13,7 +13,6 @@ use ddcmp_link::{LinkFailure, LinkLine, LinkOutcome, Options, link_line};
 use ddcmp_log::LogNotation;
 use ddcmp_ports::LineName;
 use ddcmp_proto::Config;
-use ddcmp_streams::MessageForm;
 use std::alloc::Global;
 use std::fs::{File, Files};
 use std::io::Eprint;
@@ -34,9 +33,6 @@ const NO_CALLERS: &str = "'--only' is for a line listen:HOST:PORT";
 /// The usage error for `--baud` with a line that is no device.
 const NO_DEVICE: &str = "'--baud' is for a line device:PATH";
 
-/// The usage error for `--events` with messages in lines, among which they are anyway.
-const NO_BINARY: &str = "'--events' is for '--binary'";
-
 /// Returns whether a speed is given for a line that has none.
 fn has_no_speed(line: LineName<'_>, options: &Options) -> bool
     ensures { result ≡ has_no_speed line.entry options.now }
@@ -54,16 +50,6 @@ fn has_no_callers(line: LineName<'_>, only: Option<&str>) -> bool
     match line.kind() {
         LineKind::Listen => false,
         LineKind::Connect | LineKind::Datagrams | LineKind::Device => only.is_some(),
-    }
-}
-
-/// Returns whether events are asked for with messages that aren't in binary.
-fn has_no_binary(args: &LinkArgs<'_>) -> bool
-    ensures { result ≡ has_no_binary args.now }
-{
-    match args.options.form {
-        MessageForm::Digits => args.events,
-        MessageForm::Binary | MessageForm::Events => false,
     }
 }
 
@@ -195,9 +181,6 @@ pub(crate) fn link<S: LineSystem, R: Source, W: Sink>(
     }
     if has_no_speed(name, &args.options) {
         return usage(alloc, NO_DEVICE);
-    }
-    if has_no_binary(args) {
-        return usage(alloc, NO_BINARY);
     }
     if means_nothing(args) {
         return usage(alloc, NOT_IN_MAINTENANCE);

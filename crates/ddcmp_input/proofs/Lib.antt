@@ -1,6 +1,7 @@
 pub mod LengthsLaws
 pub mod RecordsLaws
 pub mod HexLinesLaws
+pub mod CommandLinesLaws
 pub mod BinaryLaws
 pub mod LineLaws
 pub mod SpellingLaws

@@ -1,6 +1,6 @@
 -- Messages in hexadecimal, one a line.
 use Rattle.std.specs.Prelude.{ℕ, ◌+◌, Bool, true, false, ◌==◌, ◌&&◌, nat_le, min, if◌then◌else◌}
-use Rattle.std.specs.Prelude.{List, []}
+use Rattle.std.specs.Prelude.{List, [], ◌||◌, not}
 use Rattle.std.specs.Prelude.{◌∷◌, ◌++◌, length, Option, Some, None, option_to_list, Result, Ok}
 use Rattle.std.specs.Prelude.{Err}
 use Rattle.hex.specs.Hex.{decode_sized}
@@ -101,6 +101,14 @@ is_question v = is_mark v.high && (length v.message == 0)
 -- the state for a byte, which begins the next line if this one has ended
 abbrev pub in_line : HexView → HexView
 in_line v = if v.ended then line_begun v else v
+
+-- the next byte is the first of a line
+abbrev pub is_nothing : Option ℕ → Option Entry → List ℕ → Bool
+is_nothing None None [] = true
+is_nothing high refused message = false
+
+abbrev pub is_before_line : HexView → Bool
+is_before_line v = v.ended || (is_nothing v.high v.refused v.message && not v.returned)
 
 -- A CR that isn't followed by LF is a character of its line.
 abbrev pub return_taken : HexView → HexView

@@ -1,6 +1,7 @@
 pub mod Lengths
 pub mod Records
 pub mod HexLines
+pub mod CommandLines
 pub mod Told
 pub mod InBinary
 pub mod InLines

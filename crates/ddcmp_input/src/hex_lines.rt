@@ -49,7 +49,7 @@ impl HexLines {
     ghost use Rattle.ddcmp_input.specs.HexLines.{begun, line_begun, after_digit, return_taken};
     ghost use Rattle.ddcmp_input.specs.HexLines.{line_ended, entry_of_line, after_byte};
     ghost use Rattle.ddcmp_input.specs.HexLines.{entry_of_byte, after_bytes, entries_of_bytes};
-    ghost use Rattle.ddcmp_input.specs.HexLines.{is_question};
+    ghost use Rattle.ddcmp_input.specs.HexLines.{is_before_line, is_nothing, is_question};
 
     /// Makes a parser that has read nothing. It allocates all memory that it will need.
     pub fn new(alloc: Global, max: u16) -> Result<HexLines, AllocError>
@@ -179,8 +179,28 @@ impl HexLines {
     pub fn has_last_line(&self) -> bool
         ensures { result ≡ is_some (entry_of_byte 10 self.now) }
     {
-        let is_empty = self.refused.is_none() && self.high.is_none() && self.message.is_empty();
-        !self.ended && !is_empty
+        !self.ended && !self.is_empty()
+    }
+
+    /// Returns whether the next byte is the first of a line.
+    pub(crate) fn is_before_line(&self) -> bool
+        ensures { result ≡ is_before_line self.now }
+    {
+        self.ended || (self.is_empty() && !self.returned)
+    }
+
+    /// Returns whether the line has no characters so far, apart from a CR at its end.
+    fn is_empty(&self) -> bool
+        ensures { result ≡ is_nothing self.now.high self.now.refused self.now.message }
+    {
+        self.refused.is_none() && self.high.is_none() && self.message.is_empty()
+    }
+
+    /// Returns whether the last byte was a CR, which is part of the line's end if LF follows.
+    pub(crate) fn is_after_return(&self) -> bool
+        ensures { result ≡ self.now.returned }
+    {
+        self.returned
     }
 
     /// Returns the message of the line, if its end completed one.

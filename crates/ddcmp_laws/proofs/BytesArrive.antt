@@ -9,6 +9,7 @@ use Rattle.ddcmp_input.specs.InBinary.{in_binary, Fits}
 use Rattle.ddcmp_proto.specs.Config.{first_refusal}
 use Rattle.ddcmp_io.specs.declared.line_kind.LineKind.{LineKind}
 use Rattle.ddcmp_streams.specs.declared.options.Options.{Options}
+use Rattle.ddcmp_streams.specs.Messages.{has_events}
 use Rattle.ddcmp_session.specs.Traffic.{LineLog, Traffic, no_traffic, received}
 use Rattle.ddcmp_session.specs.Session.{SessionView}
 use Rattle.ddcmp_session.specs.Connections.{AreDone}
@@ -53,11 +54,8 @@ pub record WasRun (is_well : Bool) (options : Options) (last : SessionView) (aft
 plain-binary : (options : Options) → IsBinary options → IsPlain options
 plain-binary options binary = record {
   of_data = binary.of_data;
-  no_events = λ e. no (sym binary.form ∙ e);
+  no_events = ap has_events binary.form;
 }
-  where
-    no : form.Binary ≡ form.Events → ⊥
-    no e = cc
 
 pub was-run : (is_well : Bool) (options : Options) → IsPlain options
     → (kind : LineKind) (last : SessionView) (after : Traffic)

@@ -109,6 +109,7 @@ unfolding got_in binary.told_in lines.told_in
 none-in-nothing form.Digits max = refl
 none-in-nothing form.Binary max = refl
 none-in-nothing form.Events max = refl
+none-in-nothing form.EventLines max = refl
 
 -- before it is connected again, and since
 read-before : (call : SessionCall) (new : SessionView) (made : Made) (c : Connection)

@@ -22,7 +22,7 @@ use Rattle.ddcmp_laws.specs.Connections.{first_connection}
 use Rattle.ddcmp_laws.specs.Endings.{WasFinished}
 use Rattle.ddcmp_laws.specs.Pipe.{Made, connects_in_call, session_of}
 use Rattle.ddcmp_laws.specs.SessionRuns.{Ran, got_to}
-use Rattle.ddcmp_laws.proofs.Texts.{not-lines}
+use Rattle.ddcmp_streams.specs.Messages.{is_in_lines}
 use Rattle.ddcmp_laws.proofs.Acted.{AreAlone, session_over}
 use Rattle.ddcmp_laws.proofs.Anew.{stays_all, stays_first}
 use Rattle.ddcmp_laws.proofs.ConnectionLaws.{does-so}
@@ -182,7 +182,7 @@ pub record Extended (options : Options) (after : Traffic) (new : SessionView) (t
 
 ends-so : (b : Bool) (old new : SessionView) → form_of old.messages ≡ form.Binary
     → WritesEndIf b old new → new ≡ old
-ends-so true old new binary w = w.binary (not-lines (form_of old.messages) binary)
+ends-so true old new binary w = w.binary (ap is_in_lines binary)
 ends-so false old new binary w = w
 
 module _ (is_well : Bool) (made : Made) (steps : List SessionStep) (held : BuffersView)

@@ -1,5 +1,5 @@
 -- Runs over devices that ended well: what the output took of them.
-use Rattle.std.proofs.Common.{◌≡◌, ◌≢◌, ◌≤◌, ◌∙◌, ap, sym, subst, refl, ℕ, Bool, true, false, arith}
+use Rattle.std.proofs.Common.{◌≡◌, ◌≤◌, ◌∙◌, ap, sym, subst, refl, ℕ, Bool, true, false, arith}
 use Rattle.std.proofs.Common.{List, [], ◌∷◌, ◌++◌, ◌⊎◌, inl, inr, map, drop, length, Some}
 use Rattle.std.proofs.Common.{None, append_assoc, append-nil, take}
 use Rattle.std.proofs.Math.Seq.{drop-nil}
@@ -11,6 +11,7 @@ use Rattle.ddcmp_station.specs.Linking.{LinkView}
 use Rattle.ddcmp_window.specs.Store.{first_message}
 use Rattle.ddcmp_streams.specs.declared.messages.MessageForm.{MessageForm}
 use Rattle.ddcmp_streams.specs.declared.messages.MessageForm.TheVariants as form
+use Rattle.ddcmp_streams.specs.Messages.{is_in_lines}
 use Rattle.ddcmp_session.specs.Session.{SessionView, form_of, room_for_mail}
 use Rattle.ddcmp_session.specs.Calls.{Closed, Mail, SessionHistory, SessionStep, losses}
 use Rattle.ddcmp_session.specs.Calls.{after_session_step, after_session_steps}
@@ -31,7 +32,7 @@ use Rattle.ddcmp_laws.proofs.Anew.{Stays, stays_all, stays_first}
 use Rattle.ddcmp_laws.proofs.EndLaws.{Kept, Led, kept, led, only_writes, sizes_stay}
 use Rattle.ddcmp_laws.proofs.Outcomes.{read_all}
 use Rattle.ddcmp_laws.proofs.RunLaws.{given_binary}
-use Rattle.ddcmp_laws.proofs.Texts.{mail_is, mail_more, not-lines, not-lines-but-events}
+use Rattle.ddcmp_laws.proofs.Texts.{mail_is, mail_more}
 use Rattle.ddcmp_laws.proofs.Texts.{nothing_lost, only_mail}
 use Rattle.ddcmp_laws.proofs.Writing.{Writes, writes_all, writes_step}
 
@@ -231,36 +232,42 @@ module _ (is_well : Bool) (ran : Ran) (held : BuffersView) (t after : Traffic) (
   kind_first : form_of delivered.messages ≡ f
   kind_first = first.form ∙ fin.ended.closes.closed.form ∙ stays.holds.kind
 
-  lines_text : (f ≢ form.Digits) ⊎ (last.output.is_cut ≡ false)
+  lines_text : (is_in_lines f ≡ false) ⊎ (last.output.is_cut ≡ false)
       → lined.output.waiting ≡ last_text f last
   lines_text (inl binary) =
-      ap (λ (s : SessionView). s.output.waiting) (ends.binary (λ e. binary (sym kind_first ∙ e)))
+      ap (λ (s : SessionView). s.output.waiting) (ends.binary (ap is_in_lines kind_first ∙ binary))
       ∙ none_first_waits
       ∙ by f binary
     where
-      by : (g : MessageForm) → g ≢ form.Digits → [] ≡ last_text g last
-      by form.Digits lines = absurd (lines refl)
-      by form.Binary lines = refl
-      by form.Events lines = refl
+      by : (g : MessageForm) → is_in_lines g ≡ false → [] ≡ last_text g last
+      by form.Digits none = cc
+      by form.Binary none = refl
+      by form.Events none = refl
+      by form.EventLines none = cc
   lines_text (inr whole) = by f refl
     where
-      by : (g : MessageForm) → f ≡ g → lined.output.waiting ≡ last_text g last
-      by form.Binary is =
-          ap (λ (s : SessionView). s.output.waiting)
-          (ends.binary (not-lines (form_of delivered.messages) (kind_first ∙ is)))
-          ∙ none_first_waits
-      by form.Events is =
-          ap (λ (s : SessionView). s.output.waiting)
-          (ends.binary (not-lines-but-events (form_of delivered.messages) (kind_first ∙ is)))
-          ∙ none_first_waits
-      by form.Digits is =
+      in_lines : is_in_lines (form_of delivered.messages) ≡ true
+          → lined.output.waiting ≡ end_text last.options.counters last.link
+      in_lines is =
           lines_in delivered.output lined.output
           (end_text delivered.options.counters delivered.link) none_first_waits
-          (sym second.is_cut ∙ whole) (ends.lines (kind_first ∙ is))
+          (sym second.is_cut ∙ whole) (ends.lines is)
           ∙ ap (λ b. end_text b delivered.link)
           (sym
           (second.counters ∙ same-at (λ x. x.options.counters) lined _ ends.stays))
           ∙ ap (λ d. end_text last.options.counters d) (sym last_link)
+
+      by : (g : MessageForm) → f ≡ g → lined.output.waiting ≡ last_text g last
+      by form.Binary is =
+          ap (λ (s : SessionView). s.output.waiting)
+          (ends.binary (ap is_in_lines (kind_first ∙ is)))
+          ∙ none_first_waits
+      by form.Events is =
+          ap (λ (s : SessionView). s.output.waiting)
+          (ends.binary (ap is_in_lines (kind_first ∙ is)))
+          ∙ none_first_waits
+      by form.Digits is = in_lines (ap is_in_lines (kind_first ∙ is))
+      by form.EventLines is = in_lines (ap is_in_lines (kind_first ∙ is))
 
   -- in lines, whether they had room or not
   pub took_lines : f ≡ form.Digits
@@ -269,7 +276,8 @@ module _ (is_well : Bool) (ran : Ran) (held : BuffersView) (t after : Traffic) (
   took_lines is =
       let some =
       some_lines delivered.output lined.output
-      (end_text delivered.options.counters delivered.link) (ends.lines (kind_first ∙ is)) in
+      (end_text delivered.options.counters delivered.link)
+      (ends.lines (ap is_in_lines (kind_first ∙ is))) in
       (some.0, some.1, takes.0 ∙ some.2 ∙ ap (λ xs. xs ++ some.0) none_first_waits)
 
   pub took_all : is_well ≡ true → TookAll reported ran last after
@@ -314,7 +322,7 @@ arrives giver taker does delivers files messages fit held other_held t other_t a
     let all =
     took_all true taker other_held other_t other_after other_last does took
     (took.finishes.well refl).0 refl in
-    all.wrote (inl (not-lines f files.taker_form))
+    all.wrote (inl (ap is_in_lines files.taker_form))
     ∙ ap (λ g. texts_of g shown ++ last_text g other_last) files.taker_form
     ∙ append-nil (texts_of form.Binary shown)
     ∙ only_mail shown

@@ -7,6 +7,7 @@ use Rattle.ddcmp_input.specs.declared.entry.Entry.{Entry}
 use Rattle.ddcmp_input.specs.declared.entry.Entry.TheVariants.{Message, NotHexadecimal, TooLong}
 use Rattle.ddcmp_input.specs.declared.entry.Entry.TheVariants.{Command, Empty}
 use Rattle.ddcmp_input.specs.HexLines.{HexView}
+use Rattle.ddcmp_input.specs.CommandLines as command_lines
 use Rattle.ddcmp_input.specs.HexLines as hex
 use Rattle.ddcmp_input.specs.InBinary as binary
 use Rattle.ddcmp_input.specs.InLines as lines
@@ -18,10 +19,12 @@ use Rattle.ddcmp_input.proofs.HexLinesLaws as hex_laws
 use Rattle.ddcmp_input.proofs.LengthsLaws as length_laws
 use Rattle.ddcmp_input.proofs.LineLaws as in_lines
 use Rattle.ddcmp_input.proofs.RecordsLaws as record_laws
+use Rattle.ddcmp_input.proofs.CommandLinesLaws as command_laws
 use Rattle.ddcmp_streams.specs.declared.messages.MessageForm.{MessageForm}
 use Rattle.ddcmp_streams.specs.declared.messages.MessageForm.TheVariants as form
 use Rattle.ddcmp_streams.specs.declared.messages.Messages.{Messages}
 use Rattle.ddcmp_streams.specs.declared.messages.Messages.TheVariants.{Digits, Binary, Events}
+use Rattle.ddcmp_streams.specs.declared.messages.Messages.TheVariants.{EventLines}
 use Rattle.ddcmp_streams.specs.Messages.{after_input, count_of, entries_of_input, entry_of_last}
 use Rattle.ddcmp_streams.specs.Messages.{messages_among, messages_begun}
 use Rattle.ddcmp_session.specs.Session.{form_of, lost_among, lost_at_end, lost_with_last}
@@ -129,6 +132,7 @@ messages_more form.Binary max input more =
           is none),
     )
 messages_more form.Events max input more = ([], refl, λ m is none. refl)
+messages_more form.EventLines max input more = ([], refl, λ m is none. refl)
 
 -- ---- what is left, and the end
 
@@ -138,15 +142,18 @@ entries_more : (xs ys : List ℕ) (m : Messages)
 entries_more xs ys (Digits v) = hex_laws.entries_of_more xs ys v
 entries_more xs ys (Binary v) = length_laws.entries_of_more xs ys v
 entries_more xs ys (Events v) = record_laws.entries_of_more xs ys v
+entries_more xs ys (EventLines v) = command_laws.entries_of_more xs ys v
 
 abbrev ending : MessageForm → Bool → List ℕ
 ending f over = cond over (end_in f) []
 
 nothing : (m : Messages) → messages_among (entries_of_input [] m) ≡ 0
 unfolding messages_among hex.entries_of_bytes lengths.entries_of_bytes records.entries_of_bytes
+    command_lines.entries_of_bytes
 nothing (Digits v) = refl
 nothing (Binary v) = refl
 nothing (Events v) = refl
+nothing (EventLines v) = refl
 
 none_ending : (f : MessageForm) (over : Bool) (m : Messages) → form_of m ≡ f
     → lost_with_last over m ≡ 0 → messages_among (entries_of_input (ending f over) m) ≡ 0

@@ -1,5 +1,5 @@
 -- What stays of a session with its history, and calls that leave its input.
-use Rattle.std.proofs.Common.{Bool, ◌≡◌, ◌≢◌, ℕ, zero, suc, ◌+◌, ◌-◌, true, false, cond, List}
+use Rattle.std.proofs.Common.{Bool, ◌≡◌, ℕ, zero, suc, ◌+◌, ◌-◌, true, false, cond, List}
 use Rattle.std.proofs.Common.{[], ◌∷◌}
 use Rattle.std.specs.Prelude.{◌&&◌}
 use Rattle.ddcmp_core.proofs.Taken.{none_owed}
@@ -12,7 +12,7 @@ use Rattle.ddcmp_station.specs.Linking.{totals_after_take, with_state}
 use Rattle.ddcmp_window.specs.Store.{first_message}
 use Rattle.ddcmp_streams.specs.declared.messages.MessageForm.{MessageForm}
 use Rattle.ddcmp_streams.specs.declared.messages.MessageForm.TheVariants as form
-use Rattle.ddcmp_streams.specs.Messages.{messages_begun, after_input}
+use Rattle.ddcmp_streams.specs.Messages.{has_events, messages_begun, after_input}
 use Rattle.ddcmp_session.specs.Session.{SessionView, after_takes, form_of}
 use Rattle.ddcmp_laws.specs.Links.{LinkCall, FillsOne, Takes}
 use Rattle.ddcmp_laws.specs.Links.{HasDone, LinkHistory, LinkStep}
@@ -35,7 +35,7 @@ pub record Holds (f : MessageForm) (max : ℕ) (h : SessionHistory) : Type 0 whe
       → h.session.messages ≡ after_input h.input (messages_begun f max)
   pub text : IsText f h.written h.session.output h.shown
   pub of_data : h.session.options.maintenance ≡ false
-  pub plain : f ≢ form.Events
+  pub plain : has_events f ≡ false
   pub queued : IsQueued h.session h.shown
 
 -- the history of its link

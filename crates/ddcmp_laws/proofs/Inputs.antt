@@ -1,5 +1,5 @@
 -- The messages of an input: what some bytes of it complete, and that these are never too long.
-use Rattle.std.proofs.Common.{◌≡◌, ◌≢◌, ℕ, ◌+◌, ◌-◌, ◌*◌, ◌≤◌, Bool, true, false, cond, List, [], ◌∷◌}
+use Rattle.std.proofs.Common.{◌≡◌, ℕ, ◌+◌, ◌-◌, ◌*◌, ◌≤◌, Bool, true, false, cond, List, [], ◌∷◌}
 use Rattle.std.proofs.Common.{◌++◌, ◌⊎◌, inl, inr, length, map, refl, sym, ◌∙◌, ap, subst, arith}
 use Rattle.std.proofs.Common.{append_assoc, length-append, Option, Some, None}
 use Rattle.std.proofs.Common.{option_to_list}
@@ -14,6 +14,7 @@ use Rattle.ddcmp_input.specs.HexLines.{HexView, byte_of_digits, after_spelled, a
 use Rattle.ddcmp_input.specs.HexLines.{after_digit_in, after_digit, entry_of_digits}
 use Rattle.ddcmp_input.specs.HexLines.{entry_of_line_in}
 use Rattle.ddcmp_input.specs.HexLines.{entry_of_line, line_begun, line_ended, in_line, return_taken}
+use Rattle.ddcmp_input.specs.CommandLines as command_lines
 use Rattle.ddcmp_input.specs.HexLines as hex
 use Rattle.ddcmp_input.specs.InBinary as binary
 use Rattle.ddcmp_input.specs.InBinary.{Fits}
@@ -27,12 +28,15 @@ use Rattle.ddcmp_input.proofs.BinaryLaws as in_binary
 use Rattle.ddcmp_input.proofs.LineLaws as in_lines
 use Rattle.ddcmp_input.proofs.LengthsLaws as length_laws
 use Rattle.ddcmp_input.proofs.RecordsLaws as record_laws
+use Rattle.ddcmp_input.proofs.CommandLinesLaws as command_laws
 use Rattle.ddcmp_input.proofs.HexLinesLaws as hex_laws
 use Rattle.ddcmp_streams.specs.declared.messages.MessageForm.{MessageForm}
 use Rattle.ddcmp_streams.specs.declared.messages.MessageForm.TheVariants as form
 use Rattle.ddcmp_streams.specs.declared.messages.Messages.{Messages}
 use Rattle.ddcmp_streams.specs.declared.messages.Messages.TheVariants.{Digits, Binary, Events}
+use Rattle.ddcmp_streams.specs.declared.messages.Messages.TheVariants.{EventLines}
 use Rattle.ddcmp_streams.specs.Messages.{messages_begun, message_in, after_input, entries_of_input}
+use Rattle.ddcmp_streams.specs.Messages.{has_events}
 use Rattle.ddcmp_session.specs.Calls.{CompletesLast}
 use Rattle.ddcmp_laws.specs.Sessions.{got, got_in, messages_of}
 
@@ -146,13 +150,16 @@ read_lines used v part = by (last used)
 
 -- ---- what is read, and then more
 
+pub no-false : true ≡ false → ⊥
+no-false e = cc
+
 abbrev ReadsMore : MessageForm → ℕ → List ℕ → List ℕ → Messages → Type 0
 ReadsMore f max input used m =
     messages_of f max (input ++ used)
     ≡ messages_of f max input ++ read_by (entries_of_input used m) (message_in (after_input used m))
 
 pub read_more : (f : MessageForm) (max : ℕ) (input used : List ℕ) (m : Messages)
-    → f ≢ form.Events → m ≡ after_input input (messages_begun f max) → CompletesLast used m
+    → has_events f ≡ false → m ≡ after_input input (messages_begun f max) → CompletesLast used m
     → ReadsMore f max input used m
 read_more form.Digits max input used m plain is part =
     subst (ReadsMore form.Digits max input used) (sym is) (
@@ -176,7 +183,8 @@ read_more form.Binary max input used m plain is part =
   where
     v : LengthsView
     v = lengths.after_bytes input (lengths.begun max)
-read_more form.Events max input used m plain is part = absurd (plain refl)
+read_more form.Events max input used m plain is part = absurd (no-false plain)
+read_more form.EventLines max input used m plain is part = absurd (no-false plain)
 
 pub after_more : (f : MessageForm) (max : ℕ) (input used : List ℕ) (m : Messages)
     → m ≡ after_input input (messages_begun f max)
@@ -189,6 +197,9 @@ after_more form.Binary max input used m is =
 after_more form.Events max input used m is =
     ap (after_input used) is
     ∙ ap Events (sym (record_laws.after_more input used (records.begun max)))
+after_more form.EventLines max input used m is =
+    ap (after_input used) is
+    ∙ ap EventLines (sym (command_laws.after_more input used (command_lines.begun max)))
 
 -- ---- no message is too long: in binary
 
@@ -448,7 +459,7 @@ fits_in_lines max used v f part = by (last used)
         subst (λ u. ReadFits max u (Digits v)) (sym r.2) (one r.0 r.1 (part r.0 r.1 r.2))
 
 pub read_fits : (f : MessageForm) (max : ℕ) (input used : List ℕ) (m : Messages)
-    → f ≢ form.Events → m ≡ after_input input (messages_begun f max) → CompletesLast used m → ReadFits max used m
+    → has_events f ≡ false → m ≡ after_input input (messages_begun f max) → CompletesLast used m → ReadFits max used m
 read_fits form.Digits max input used m plain is part =
     subst (ReadFits max used) (sym is)
     (fits_in_lines max used (hex.after_bytes input (hex.begun max))
@@ -461,4 +472,5 @@ read_fits form.Binary max input used m plain is part =
     subst (ReadFits max used) (sym is)
     (fits_in_binary max used (lengths.after_bytes input (lengths.begun max))
     (fit_binary max input (lengths.begun max) (refl, tt)) (subst (CompletesLast used) is part))
-read_fits form.Events max input used m plain is part = absurd (plain refl)
+read_fits form.Events max input used m plain is part = absurd (no-false plain)
+read_fits form.EventLines max input used m plain is part = absurd (no-false plain)

@@ -11,6 +11,7 @@ use Rattle.ddcmp_proto.specs.Config.{first_refusal}
 use Rattle.ddcmp_streams.specs.declared.messages.MessageForm.{MessageForm}
 use Rattle.ddcmp_streams.specs.declared.messages.MessageForm.TheVariants as form
 use Rattle.ddcmp_streams.specs.declared.options.Options.{Options}
+use Rattle.ddcmp_streams.specs.Messages.{has_events}
 use Rattle.ddcmp_session.specs.EndText.{end_text}
 use Rattle.ddcmp_session.specs.Finishing.{WritesEndIf, taken_in}
 use Rattle.ddcmp_session.specs.NewRun.{RunsNew}
@@ -97,11 +98,8 @@ text-is options after new written x is =
 plain-lines : (options : Options) → IsInLines options → IsPlain options
 plain-lines options lines = record {
   of_data = lines.of_data;
-  no_events = λ e. no (sym lines.form ∙ e);
+  no_events = ap has_events lines.form;
 }
-  where
-    no : form.Digits ≡ form.Events → ⊥
-    no e = cc
 
 output-of : (is_well : Bool) (options : Options) → IsInLines options → (kind : LineKind)
     (last : SessionView) (after : Traffic)

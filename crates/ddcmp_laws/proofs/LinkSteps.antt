@@ -1,5 +1,4 @@
 -- The calls of a session are calls of its link, and the histories of both keep together.
-use Rattle.std.proofs.Common.{◌≢◌}
 use Rattle.std.proofs.Common.{◌≡◌, ℕ, Bool, true, false, cond, List, [], ◌∷◌}
 use Rattle.std.proofs.Common.{◌++◌, map, take, refl, sym, ◌∙◌, ap}
 use Rattle.std.proofs.Common.{append-nil, length, nat_le, option_to_list, subst}
@@ -20,7 +19,7 @@ use Rattle.ddcmp_streams.specs.declared.messages.MessageForm.{MessageForm}
 use Rattle.ddcmp_streams.specs.declared.messages.MessageForm.TheVariants as form
 use Rattle.ddcmp_streams.specs.declared.messages.Messages.{Messages}
 use Rattle.ddcmp_streams.specs.Messages.{messages_begun, message_in, after_input, entries_of_input}
-use Rattle.ddcmp_streams.specs.Messages.{after_last, entry_of_last}
+use Rattle.ddcmp_streams.specs.Messages.{after_last, entry_of_last, has_events}
 use Rattle.ddcmp_streams.specs.Options.{takes_at_once}
 use Rattle.ddcmp_session.specs.Session.{SessionView, after_output, after_takes, form_of, link_begun}
 use Rattle.ddcmp_session.specs.Session.{next_mail, taken_at_once, taken_when_written, takes_end}
@@ -56,6 +55,7 @@ use Rattle.ddcmp_laws.proofs.Inboxes.{Adds, adds-piece, adds-same, anew-inbox, f
 use Rattle.ddcmp_laws.proofs.Inboxes.{inbox_in, woken-inbox}
 use Rattle.ddcmp_laws.proofs.Queues.{IsKept, IsTaken, queued_kept, queues-none, taken_kept}
 use Rattle.ddcmp_laws.proofs.Queues.{taken_next, taken_of, taken_written}
+use Rattle.ddcmp_laws.proofs.Inputs.{no-false}
 use Rattle.ddcmp_laws.proofs.Reading.{HasRead, ended_reads, offered_is, read_holds, read_leads}
 use Rattle.ddcmp_laws.proofs.Reading.{reading_input}
 
@@ -517,7 +517,7 @@ begun f o kind line =
     record h { session = record h.session { messages = messages_begun f o.config.max } }
 
 begun_holds : (f : MessageForm) (o : Options) (kind : LineKind) (line : ReaderView)
-    → o.maintenance ≡ false → f ≢ form.Events
+    → o.maintenance ≡ false → has_events f ≡ false
     → Holds f o.config.max (begun f o kind line)
     × (record (new_history o.config o.timer_ms line) { link = link_begun o line }
     ≡ link_history f o.config.max (begun f o kind line) 0)
@@ -547,7 +547,8 @@ begun_holds form.Binary o kind line of_data plain = (
   },
   refl,
 )
-begun_holds form.Events o kind line of_data plain = absurd (plain refl)
+begun_holds form.Events o kind line of_data plain = absurd (no-false plain)
+begun_holds form.EventLines o kind line of_data plain = absurd (no-false plain)
 
 pub begins : (o : Options) (kind : LineKind) (line : ReaderView)
     → IsPlain o

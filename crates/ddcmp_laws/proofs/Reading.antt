@@ -1,11 +1,12 @@
 -- What a session reads of its input.
-use Rattle.std.proofs.Common.{◌≡◌, ◌≢◌, ℕ, ◌+◌, Bool, true, false, cond, List, [], ◌∷◌}
+use Rattle.std.proofs.Common.{◌≡◌, ℕ, ◌+◌, Bool, true, false, cond, List, [], ◌∷◌}
 use Rattle.std.proofs.Common.{◌++◌, refl, sym, ◌∙◌, ap, subst}
 use Rattle.std.proofs.Common.{append-nil, option_to_list}
 use Rattle.std.specs.Prelude.{◌&&◌, ◌||◌, not, is_some, Option, None, Some}
 use Rattle.ddcmp_input.specs.declared.entry.Entry.{Entry}
 use Rattle.ddcmp_input.specs.declared.entry.Entry.TheVariants.{Message, NotHexadecimal, TooLong}
 use Rattle.ddcmp_input.specs.declared.entry.Entry.TheVariants.{Command, Empty}
+use Rattle.ddcmp_input.specs.CommandLines as command_lines
 use Rattle.ddcmp_input.specs.HexLines as hex
 use Rattle.ddcmp_input.specs.InBinary.{Fits}
 use Rattle.ddcmp_input.specs.Lengths as lengths
@@ -15,15 +16,15 @@ use Rattle.ddcmp_station.specs.Linking.{after_offered, takes_message}
 use Rattle.ddcmp_streams.specs.declared.messages.MessageForm.{MessageForm}
 use Rattle.ddcmp_streams.specs.declared.messages.Messages.{Messages}
 use Rattle.ddcmp_streams.specs.declared.messages.Messages.TheVariants.{Digits, Binary, Events}
+use Rattle.ddcmp_streams.specs.declared.messages.Messages.TheVariants.{EventLines}
 use Rattle.ddcmp_streams.specs.Messages.{message_in, after_input, entries_of_input}
 use Rattle.ddcmp_streams.specs.Messages.{after_last, entry_of_last, has_last_line}
 use Rattle.ddcmp_streams.specs.Messages.{is_message_unfinished}
 use Rattle.ddcmp_session.specs.Session.{SessionView, form_of, takes_end, wants_input}
 use Rattle.ddcmp_session.specs.Session.{after_command, after_entries, after_message, is_barred}
 use Rattle.ddcmp_session.specs.Session.{has_commands, is_held, is_idle}
-use Rattle.ddcmp_streams.specs.Messages.{command_in}
+use Rattle.ddcmp_streams.specs.Messages.{command_in, has_events}
 use Rattle.ddcmp_streams.specs.declared.messages.Command.TheVariants as command
-use Rattle.ddcmp_streams.specs.declared.messages.MessageForm.TheVariants as form
 use Rattle.ddcmp_session.specs.Session.{after_last_line, after_unfinished, after_offered_in}
 use Rattle.ddcmp_session.specs.Session.{takes_in}
 use Rattle.ddcmp_laws.specs.Links.{Offers}
@@ -55,38 +56,37 @@ Entered es s new =
     × (new.is_read ≡ s.is_read)
 
 -- without events no message is refused, and there are no commands
-not_held : (s : SessionView) → form_of s.messages ≢ form.Events → is_held s ≡ false
+not_held : (s : SessionView) → has_events (form_of s.messages) ≡ false → is_held s ≡ false
 not_held s plain = by s.messages plain
   where
-    by : (m : Messages) → form_of m ≢ form.Events
+    by : (m : Messages) → has_events (form_of m) ≡ false
         → is_barred m s.course || (has_commands m && is_idle s) ≡ false
     by (Digits v) n = refl
     by (Binary v) n = refl
-    by (Events v) n = absurd (n refl)
+    by (Events v) n = cc
+    by (EventLines v) n = cc
 
 -- nor is input wanted but for messages
 or_none : (takes : Bool) → takes || false ≡ takes
 or_none true = refl
 or_none false = refl
 
-no_commands : (m : Messages) (b : Bool) → form_of m ≢ form.Events → has_commands m && b ≡ false
-no_commands (Digits v) b n = refl
-no_commands (Binary v) b n = refl
-no_commands (Events v) b n = absurd (n refl)
-
-wants_messages : (s : SessionView) → form_of s.messages ≢ form.Events
+wants_messages : (s : SessionView) → has_events (form_of s.messages) ≡ false
     → wants_input s ≡ not s.is_read && takes_in s.options.maintenance s.link
 wants_messages s plain =
-    ap (λ b. not s.is_read && (takes_in s.options.maintenance s.link || b))
-    (no_commands s.messages (is_idle s && (s.course.has_run && not s.course.ready_ahead)) plain)
+    ap
+    (λ b. not s.is_read
+    && (takes_in s.options.maintenance s.link
+    || (b && (is_idle s && (s.course.has_run && not s.course.ready_ahead))))) plain
     ∙ ap (λ b. not s.is_read && b) (or_none (takes_in s.options.maintenance s.link))
 
-no_command : (m : Messages) → form_of m ≢ form.Events → command_in m ≡ command.Unknown
+no_command : (m : Messages) → has_events (form_of m) ≡ false → command_in m ≡ command.Unknown
 no_command (Digits v) n = refl
 no_command (Binary v) n = refl
-no_command (Events v) n = absurd (n refl)
+no_command (Events v) n = cc
+no_command (EventLines v) n = cc
 
-pub entered : (es : List Entry) (s new : SessionView) → form_of s.messages ≢ form.Events
+pub entered : (es : List Entry) (s new : SessionView) → has_events (form_of s.messages) ≡ false
     → s.options.maintenance ≡ false → new ≡ after_entries es s → Entered es s new
 entered [] s new plain of_data e = (
   ap (λ (x : SessionView). x.messages) e,
@@ -130,7 +130,7 @@ entered (Empty ∷ rest) s new plain of_data e = (
 )
 
 -- so whether the input was read stays
-pub reads-on : (es : List Entry) (s : SessionView) → form_of s.messages ≢ form.Events
+pub reads-on : (es : List Entry) (s : SessionView) → has_events (form_of s.messages) ≡ false
     → (after_entries es s).is_read ≡ s.is_read
 reads-on [] s plain = refl
 reads-on (Message ∷ rest) s plain =
@@ -340,9 +340,11 @@ read_leads f max h used es message new k holds r =
 
 pub none_read : (m : Messages) → entries_of_input [] m ≡ []
 unfolding lengths.entries_of_bytes hex.entries_of_bytes records.entries_of_bytes
+    command_lines.entries_of_bytes
 none_read (Digits v) = refl
 none_read (Binary v) = refl
 none_read (Events v) = refl
+none_read (EventLines v) = refl
 
 pub if_message : (es : List Entry) {P : Type 0} → P → IfMessage es P
 if_message [] p = tt
@@ -381,7 +383,7 @@ is_reading f max h used k wanted part =
     by h.session.is_read (takes_message h.session.link)
     (λ e.
     wanted
-    (wants_messages h.session (λ e. k.plain (sym k.kind ∙ e))
+    (wants_messages h.session (ap has_events k.kind ∙ k.plain)
     ∙ ap (λ b. not h.session.is_read && takes_in b h.session.link) k.of_data ∙ e)) refl
     refl
   where
@@ -404,7 +406,7 @@ pub reading_input : (f : MessageForm) (max : ℕ) (h : SessionHistory) (used : L
 reading_input f max h used new k t =
     let e = entered (entries_of_input used h.session.messages)
     (record h.session { messages = after_input used h.session.messages }) new
-    (λ e. k.plain (sym k.kind ∙ sym (form-stays used h.session.messages) ∙ e)) k.of_data
+    (ap has_events (form-stays used h.session.messages ∙ k.kind) ∙ k.plain) k.of_data
     t.state in
     let r = is_reading f max h used k t.wanted t.part in
     record {
@@ -443,7 +445,8 @@ no_byte m (x ∷ front) byte e = cc
 
 pub last_reads : (m : Messages) → LastReads m
 unfolding lengths.entries_of_bytes hex.entries_of_bytes lengths.after_bytes hex.after_bytes
-    records.entries_of_bytes records.after_bytes
+    records.entries_of_bytes records.after_bytes command_lines.entries_of_bytes
+    command_lines.after_bytes
 last_reads (Digits v) = record {
   state = refl;
   entries = sym (append-nil (option_to_list (hex.entry_of_byte 10 v)));
@@ -451,6 +454,11 @@ last_reads (Digits v) = record {
 }
 last_reads (Binary v) = record { state = refl; entries = refl; part = no_byte (Binary v) }
 last_reads (Events v) = record { state = refl; entries = refl; part = no_byte (Events v) }
+last_reads (EventLines v) = record {
+  state = refl;
+  entries = sym (append-nil (option_to_list (command_lines.entry_of_byte 10 v)));
+  part = one_byte (EventLines v);
+}
 
 abbrev pub KeepsView : SessionView → SessionView → Type 0
 KeepsView s new =
@@ -482,6 +490,7 @@ last_form : (m : Messages) → form_of (after_last m) ≡ form_of m
 last_form (Digits v) = refl
 last_form (Binary v) = refl
 last_form (Events v) = refl
+last_form (EventLines v) = refl
 
 pub ended_reads : (f : MessageForm) (max : ℕ) (h : SessionHistory) (new : SessionView)
     → Holds f max h
@@ -496,7 +505,7 @@ ended_reads f max h new k takes is =
     let r = last_reads m in
     let mid = after_last_line h.session in
     let last = record h.session { messages = after_last m; is_read = true } in
-    let e = entered es last mid (λ e. k.plain (sym k.kind ∙ sym (last_form m) ∙ e)) k.of_data refl in
+    let e = entered es last mid (ap has_events (last_form m ∙ k.kind) ∙ k.plain) k.of_data refl in
     let u = unfinished_keeps mid in
     let late = h.session.course.has_run && not (has_last_line m) in
     let w = both (not h.session.is_read) (takes_message h.session.link || late)

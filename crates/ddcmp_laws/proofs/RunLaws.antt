@@ -1,5 +1,5 @@
 -- Two runs over devices, in some order of their calls.
-use Rattle.std.proofs.Common.{◌≡◌, ◌≢◌, ◌∙◌, ap, sym, subst, refl, Bool, true, false, cond, List, []}
+use Rattle.std.proofs.Common.{◌≡◌, ◌∙◌, ap, sym, subst, refl, Bool, true, false, cond, List, []}
 use Rattle.std.proofs.Common.{◌∷◌, ◌++◌, length, drop, append_assoc, append-nil, Option, Some, None}
 use Rattle.std.proofs.Common.{ℕ, ◌≤◌, arith, length-append}
 use Rattle.std.specs.Prelude.{◌||◌}
@@ -21,7 +21,7 @@ use Rattle.ddcmp_session.specs.Connections.{AreDone, Connection, Does, after_all
 use Rattle.ddcmp_session.specs.Devices.{Agrees, BuffersView, nothing_read}
 use Rattle.ddcmp_session.specs.Traffic.{Traffic, no_traffic}
 use Rattle.ddcmp_session.specs.Lines.{AllKeepOpen, Closes, Ends, IsReady, KeepsOpen, WentOver}
-use Rattle.ddcmp_streams.specs.Messages.{after_input, entries_of_input}
+use Rattle.ddcmp_streams.specs.Messages.{after_input, entries_of_input, has_events}
 use Rattle.ddcmp_session.proofs.InputLaws.{form-stays}
 use Rattle.ddcmp_session.specs.Session.{form_of}
 use Rattle.ddcmp_laws.proofs.Reading.{reads-on}
@@ -88,7 +88,7 @@ ended-read false told old last new is was e =
     same-read told old new (ap (λ (s : SessionView). s.is_read) is) was e
 
 read-step : (call : SessionCall) (h : SessionHistory) (new : SessionView)
-    → form_of h.session.messages ≢ form.Events → KeepsOpen call
+    → has_events (form_of h.session.messages) ≡ false → KeepsOpen call
     → Does call h.used h.session new → ReadTold h.session h.is_told
     → ReadTold new (is_told_in call h.session || h.is_told)
 read-step (InputRead used) h new plain of d =
@@ -97,7 +97,7 @@ read-step (InputRead used) h new plain of d =
     same-read h.is_told h.session new
     (same-at (λ x. x.is_read) new _ d.state
     ∙ reads-on (entries_of_input used h.session.messages) s
-    (λ e. plain (sym (form-stays used h.session.messages) ∙ e)))
+    (ap has_events (form-stays used h.session.messages) ∙ plain))
 read-step InputEnded h new plain of d =
     ended-read (takes_end h.session) h.is_told h.session
     (after_unfinished (after_last_line h.session)) new d
@@ -150,7 +150,7 @@ all-read made (step ∷ rest) c stays does of was =
     (λ e.
     told-after step.call step.session c
     ∙ read-step step.call c.history step.session
-    (λ f. made.plain.no_events (sym stays.holds.kind ∙ f)) of.0 does.0 was
+    (ap has_events stays.holds.kind ∙ made.plain.no_events) of.0 does.0 was
     (sym (ap (λ (s : SessionView). s.is_read) (session-after step.call step.session c)) ∙ e))
 
 -- ---- what an input gave since

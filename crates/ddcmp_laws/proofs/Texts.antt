@@ -102,12 +102,6 @@ took f written n shown old new was left =
     ∙ was
     ∙ ap (texts_of f) (sym (append-nil shown))
 
-pub not-lines : (f : MessageForm) → f ≡ form.Binary → f ≡ form.Digits → ⊥
-not-lines f is e = cc
-
-pub not-lines-but-events : (f : MessageForm) → f ≡ form.Events → f ≡ form.Digits → ⊥
-not-lines-but-events f is e = cc
-
 -- in binary a text is its messages, each behind its length
 pub only_mail : (shown : List Shown) → texts_of form.Binary shown ≡ in_binary (mail_in shown)
 unfolding texts_of in_binary mail_in
@@ -122,3 +116,11 @@ binary_more [] ys = refl
 binary_more (x ∷ xs) ys =
     ap (λ t. behind_length x ++ t) (binary_more xs ys)
     ∙ sym (append_assoc (behind_length x) (in_binary xs) (in_binary ys))
+
+-- in lines a text is the same with events
+pub same_lines : (shown : List Shown) → texts_of form.EventLines shown ≡ texts_of form.Digits shown
+unfolding texts_of
+same_lines [] = refl
+same_lines (Mail message ∷ rest) = ap (λ t. mail_text form.Digits message ++ t) (same_lines rest)
+same_lines (Reports n ∷ rest) = ap (λ t. notice_text form.Digits n ++ t) (same_lines rest)
+same_lines (Loses count ∷ rest) = ap (λ t. lost_text form.Digits count ++ t) (same_lines rest)

@@ -15,6 +15,7 @@ use Rattle.ddcmp_streams.specs.declared.messages.MessageForm.{MessageForm}
 use Rattle.ddcmp_streams.specs.declared.messages.MessageForm.TheVariants as form
 use Rattle.ddcmp_streams.specs.declared.messages.Messages.{Messages}
 use Rattle.ddcmp_streams.specs.declared.messages.Messages.TheVariants.{Digits, Binary, Events}
+use Rattle.ddcmp_streams.specs.declared.messages.Messages.TheVariants.{EventLines}
 use Rattle.ddcmp_io.specs.declared.line_kind.LineKind.{LineKind}
 use Rattle.ddcmp_streams.specs.declared.options.Options.{Options}
 use Rattle.ddcmp_streams.specs.Messages.{messages_begun, after_input, entries_of_input, after_last}
@@ -79,6 +80,7 @@ last_form : (m : Messages) → form_of (after_last m) ≡ form_of m
 last_form (Digits v) = refl
 last_form (Binary v) = refl
 last_form (Events v) = refl
+last_form (EventLines v) = refl
 
 pub ended_keeps : (s : SessionView) → Keeps s (after_input_end s)
 ended_keeps s = by (takes_end s)
@@ -201,6 +203,7 @@ begun_kind : (f : MessageForm) (max : ℕ) → form_of (messages_begun f max) �
 begun_kind form.Digits max = refl
 begun_kind form.Binary max = refl
 begun_kind form.Events max = refl
+begun_kind form.EventLines max = refl
 
 pub is_text : (o : Options) (kind : LineKind) (line : ReaderView) (steps : List SessionStep)
     → IsSessionHistory steps (new_session o kind line)

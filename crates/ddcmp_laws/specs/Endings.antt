@@ -1,9 +1,10 @@
 -- Runs over devices to their end: all received messages are delivered and written to the output.
-use Rattle.std.specs.Prelude.{◌≡◌, ◌≢◌, ◌⊎◌, ℕ, Bool, true, false, List, [], ◌++◌, map, Some}
+use Rattle.std.specs.Prelude.{◌≡◌, ◌⊎◌, ℕ, Bool, true, false, List, [], ◌++◌, map, Some}
 use Rattle.std.specs.List.{All}
 use Rattle.ddcmp_input.specs.InBinary.{in_binary, Fits}
 use Rattle.ddcmp_streams.specs.declared.messages.MessageForm.{MessageForm}
 use Rattle.ddcmp_streams.specs.declared.messages.MessageForm.TheVariants as form
+use Rattle.ddcmp_streams.specs.Messages.{is_in_lines}
 use Rattle.ddcmp_session.specs.Session.{SessionView}
 use Rattle.ddcmp_session.specs.Calls.{SessionHistory, Shown, Mail, losses}
 use Rattle.ddcmp_session.specs.Devices.{BuffersView}
@@ -33,6 +34,7 @@ abbrev pub last_text : MessageForm → SessionView → List ℕ
 last_text form.Digits s = end_text s.options.counters s.link
 last_text form.Binary s = []
 last_text form.Events s = []
+last_text form.EventLines s = end_text s.options.counters s.link
 
 -- Nothing is queued, and no received message is left. The output is the text of all that was
 -- delivered and reported, and then the last lines (in lines, if there was room for these).
@@ -40,7 +42,7 @@ pub record TookAll (is_reported : Bool) (ran : Ran) (last : SessionView) (after 
   where
     pub none_waits : last.output.waiting ≡ []
     pub no_mail : last.link.station.core.station.inbox ≡ []
-    pub wrote : (ran.made.options.form ≢ form.Digits) ⊎ (last.output.is_cut ≡ false)
+    pub wrote : (is_in_lines ran.made.options.form ≡ false) ⊎ (last.output.is_cut ≡ false)
         → after.written
         ≡ texts_of ran.made.options.form (shown_at_last is_reported (got_to ran).history)
         ++ last_text ran.made.options.form last

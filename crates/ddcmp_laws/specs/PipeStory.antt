@@ -111,11 +111,8 @@ small_options = record {
   json = false;
 }
 
-pub not_events : form.Binary ≡ form.Events → ⊥
-not_events e = cc
-
 abbrev pub small_plain : IsPlain small_options
-small_plain = record { of_data = refl; no_events = not_events }
+small_plain = record { of_data = refl; no_events = refl }
 
 abbrev pub small_made : ReaderView → Made
 small_made line =

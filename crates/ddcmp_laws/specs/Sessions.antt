@@ -1,5 +1,5 @@
 -- Sessions as callers of their links: which calls of its link each call of a session makes.
-use Rattle.std.specs.Prelude.{◌≡◌, ◌≢◌, ⊤, ℕ, zero, suc, ◌+◌, ◌*◌, ◌%◌, ◌<◌, true, false, List, [], ◌∷◌, ◌++◌}
+use Rattle.std.specs.Prelude.{◌≡◌, ⊤, ℕ, zero, suc, ◌+◌, ◌*◌, ◌%◌, ◌<◌, true, false, List, [], ◌∷◌, ◌++◌}
 use Rattle.std.specs.Prelude.{if◌then◌else◌, drop, length, map, nat_lt, option_to_list, take}
 use Rattle.ddcmp_input.specs.declared.entry.Entry.{Entry}
 use Rattle.ddcmp_input.specs.declared.entry.Entry.TheVariants.{Message}
@@ -9,8 +9,9 @@ use Rattle.ddcmp_station.specs.Linking.{LinkView, after_frame, after_taking}
 use Rattle.ddcmp_streams.specs.declared.messages.MessageForm.{MessageForm}
 use Rattle.ddcmp_streams.specs.declared.options.Options.{Options}
 use Rattle.ddcmp_streams.specs.declared.messages.MessageForm.TheVariants.{Digits, Binary, Events}
+use Rattle.ddcmp_streams.specs.declared.messages.MessageForm.TheVariants.{EventLines}
 use Rattle.ddcmp_streams.specs.Messages.{message_in, after_input, entries_of_input, after_last}
-use Rattle.ddcmp_streams.specs.Messages.{entry_of_last}
+use Rattle.ddcmp_streams.specs.Messages.{entry_of_last, has_events}
 use Rattle.ddcmp_session.specs.Session.{SessionView, link_begun, taken_at_once, taken_when_written}
 use Rattle.ddcmp_session.specs.Session.{takes_end}
 use Rattle.ddcmp_session.specs.Text.{mail_text, notice_text, lost_text, dropped_by, lost_words, notice_words}
@@ -41,7 +42,7 @@ got_in (told ∷ rest) = got told ++ got_in rest
 -- input are refused.
 pub record IsPlain (options : Options) : Type 0 where
   pub of_data : options.maintenance ≡ false
-  pub no_events : options.form ≢ Events
+  pub no_events : has_events options.form ≡ false
 
 -- the messages of at most `max` bytes in an input without commands
 abbrev pub messages_of : MessageForm → ℕ → List ℕ → List (List ℕ)
@@ -49,6 +50,7 @@ messages_of Digits max input =
     got_in (map (λ (told : ℕ × Told). told.1) (lines.told_in input (hex.begun max)))
 messages_of Binary max input = got_in (binary.told_in input (lengths.begun max))
 messages_of Events max input = []
+messages_of EventLines max input = []
 
 abbrev pub mail_of : Shown → List (List ℕ)
 mail_of (Mail message) = message ∷ []

@@ -4,7 +4,8 @@ ghost use Rattle.ddcmp_frame.specs.Reader.{ReaderView};
 ghost use Rattle.ddcmp_input.specs.InBinary.{in_binary};
 ghost use Rattle.ddcmp_io.specs.declared.line_kind.LineKind.{LineKind as LineKindValue};
 ghost use Rattle.ddcmp_streams.specs.declared.options.Options.{Options as OptionsValue};
-ghost use Rattle.ddcmp_streams.specs.declared.messages.MessageForm.TheVariants.{Binary, Events};
+ghost use Rattle.ddcmp_streams.specs.declared.messages.MessageForm.TheVariants.{Binary, Digits};
+ghost use Rattle.ddcmp_streams.specs.declared.messages.MessageForm.TheVariants.{EventLines, Events};
 ghost use Rattle.ddcmp_laws.specs.Links.{IsHistory, after_history, offered_in};
 ghost use Rattle.ddcmp_session.specs.Calls.{SessionStep, new_session, IsSessionHistory};
 ghost use Rattle.ddcmp_session.specs.Calls.{after_session_steps, Shown};
@@ -53,7 +54,8 @@ pub fn takes_what_is_written()
 /// The bytes that a new session wrote to standard output, and then those queued for it, are the
 /// text of the messages that were delivered and of what was reported, in their order. In binary
 /// they are the messages alone, each after its length; with events, a reader that skips each record
-/// whose length has the top bit set gets exactly the messages.
+/// whose length has the top bit set gets exactly the messages. In lines they are the same with
+/// events and without.
 pub fn output_is_text_of()
     ensures text { (options : OptionsValue) (kind : LineKindValue) (line : ReaderView)
         (steps : List SessionStep)
@@ -67,4 +69,5 @@ pub fn output_is_text_of()
     ensures events { (shown : List Shown) → AreShort shown → (n : ℕ)
         → length (texts_of Events shown) ≤ n
         → mail_among n (texts_of Events shown) ≡ mail_in shown }
+    ensures lines { (shown : List Shown) → texts_of EventLines shown ≡ texts_of Digits shown }
 {}

@@ -8,8 +8,10 @@ use Rattle.ddcmp_input.specs.declared.entry.Entry.TheVariants as entry
 use Rattle.ddcmp_input.proofs.LengthsLaws as length_laws
 use Rattle.ddcmp_input.proofs.HexLinesLaws as line_laws
 use Rattle.ddcmp_input.proofs.RecordsLaws as record_laws
+use Rattle.ddcmp_input.proofs.CommandLinesLaws as command_laws
 use Rattle.ddcmp_streams.specs.declared.messages.Messages.{Messages}
 use Rattle.ddcmp_streams.specs.declared.messages.Messages.TheVariants.{Digits, Binary, Events}
+use Rattle.ddcmp_streams.specs.declared.messages.Messages.TheVariants.{EventLines}
 use Rattle.ddcmp_streams.specs.Messages.{after_input, count_of, entries_of_input}
 use Rattle.ddcmp_streams.specs.Messages.{messages_among}
 use Rattle.ddcmp_session.specs.Session.{SessionView, lost_among}
@@ -37,6 +39,7 @@ pub read-more : (xs ys : List ℕ) (m : Messages)
 read-more xs ys (Digits v) = ap (λ x. Digits x) (line_laws.after_more xs ys v)
 read-more xs ys (Binary v) = ap (λ x. Binary x) (length_laws.after_more xs ys v)
 read-more xs ys (Events v) = ap (λ x. Events x) (record_laws.after_more xs ys v)
+read-more xs ys (EventLines v) = ap (λ x. EventLines x) (command_laws.after_more xs ys v)
 
 pub entries-more : (xs ys : List ℕ) (m : Messages)
     → entries_of_input (xs ++ ys) m
@@ -44,6 +47,7 @@ pub entries-more : (xs ys : List ℕ) (m : Messages)
 entries-more xs ys (Digits v) = line_laws.entries_of_more xs ys v
 entries-more xs ys (Binary v) = length_laws.entries_of_more xs ys v
 entries-more xs ys (Events v) = record_laws.entries_of_more xs ys v
+entries-more xs ys (EventLines v) = command_laws.entries_of_more xs ys v
 
 -- ---- the parts that were dropped
 

@@ -12,6 +12,7 @@ use Rattle.ddcmp_station.specs.Linking.{after_offered, after_offered_maintenance
 use Rattle.ddcmp_station.specs.Linking.{total_plus}
 use Rattle.ddcmp_streams.specs.declared.messages.Messages.{Messages}
 use Rattle.ddcmp_streams.specs.declared.messages.Messages.TheVariants.{Digits, Binary, Events}
+use Rattle.ddcmp_streams.specs.declared.messages.Messages.TheVariants.{EventLines}
 use Rattle.ddcmp_streams.specs.Messages.{message_in, after_input, entries_of_input, after_last}
 use Rattle.ddcmp_streams.specs.Messages.{entry_of_last, has_last_line, is_message_unfinished}
 use Rattle.ddcmp_session.specs.Session.{after_command, after_entry, after_entries}
@@ -306,6 +307,7 @@ last-form : (m : Messages) → form_of (after_last m) ≡ form_of m
 last-form (Digits v) = refl
 last-form (Binary v) = refl
 last-form (Events v) = refl
+last-form (EventLines v) = refl
 
 unfinished-line : (s : SessionView) → (after_unfinished s).link.station.line ≡ s.link.station.line
 unfinished-line s = by (is_message_unfinished s.messages)

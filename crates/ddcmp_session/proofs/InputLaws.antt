@@ -8,28 +8,34 @@ use Rattle.ddcmp_input.specs.declared.entry.Entry.{Entry}
 use Rattle.ddcmp_input.proofs.LengthsLaws as length_laws
 use Rattle.ddcmp_input.proofs.HexLinesLaws as line_laws
 use Rattle.ddcmp_input.proofs.RecordsLaws as record_laws
+use Rattle.ddcmp_input.proofs.CommandLinesLaws as command_laws
 use Rattle.ddcmp_session.specs.Calls.{CompletesLast, HasReadInput}
 use Rattle.std.specs.Prelude.{option_to_list}
 use Rattle.ddcmp_input.specs.HexLines as lines
 use Rattle.ddcmp_input.specs.Lengths as lengths
 use Rattle.ddcmp_input.specs.Records as records
+use Rattle.ddcmp_input.specs.CommandLines as command_lines
 use Rattle.ddcmp_streams.specs.declared.messages.Messages.{Messages}
 use Rattle.ddcmp_streams.specs.declared.messages.Messages.TheVariants.{Digits, Binary, Events}
+use Rattle.ddcmp_streams.specs.declared.messages.Messages.TheVariants.{EventLines}
 use Rattle.ddcmp_streams.specs.Messages.{after_input, entries_of_input}
 use Rattle.ddcmp_session.specs.Session.{SessionView, after_input_read, after_entries, form_of}
 use Rattle.ddcmp_session.specs.Session.{wants_input}
 
 pub no-entries : (m : Messages) → entries_of_input [] m ≡ []
 unfolding lines.entries_of_bytes lengths.entries_of_bytes records.entries_of_bytes
+    command_lines.entries_of_bytes
 no-entries (Digits v) = refl
 no-entries (Binary v) = refl
 no-entries (Events v) = refl
+no-entries (EventLines v) = refl
 
 pub nothing-read : (m : Messages) → after_input [] m ≡ m
-unfolding lines.after_bytes lengths.after_bytes records.after_bytes
+unfolding lines.after_bytes lengths.after_bytes records.after_bytes command_lines.after_bytes
 nothing-read (Digits v) = refl
 nothing-read (Binary v) = refl
 nothing-read (Events v) = refl
+nothing-read (EventLines v) = refl
 
 pub nothing-input_read : (s : SessionView) → s ≡ after_input_read [] s
 nothing-input_read s =
@@ -46,6 +52,7 @@ pub form-stays : (bytes : List ℕ) (m : Messages) → form_of (after_input byte
 form-stays bytes (Digits v) = refl
 form-stays bytes (Binary v) = refl
 form-stays bytes (Events v) = refl
+form-stays bytes (EventLines v) = refl
 
 -- ---- the bytes that `input_read` takes
 
@@ -67,6 +74,10 @@ none_in_front front byte (Events v) e =
     empty_front (records.entries_of_bytes front v)
     (option_to_list (records.entry_of_byte byte (records.after_bytes front v)))
     (sym (record_laws.entries_of_last front byte v) ∙ e)
+none_in_front front byte (EventLines v) e =
+    empty_front (command_lines.entries_of_bytes front v)
+    (option_to_list (command_lines.entry_of_byte byte (command_lines.after_bytes front v)))
+    (sym (command_laws.entries_of_last front byte v) ∙ e)
 
 front_is : (n : ℕ) (bytes front : List ℕ) (byte : ℕ) → take n bytes ≡ front ++ byte ∷ []
     → take (length front) bytes ≡ front

@@ -1,5 +1,5 @@
 -- What the line of a session puts on standard error.
-use Rattle.std.proofs.Common.{◌≡◌, ◌∙◌, ap, sym, subst, refl, ℕ, List, [], ◌∷◌}
+use Rattle.std.proofs.Common.{◌≡◌, ◌⊎◌, inl, inr, ◌∙◌, ap, sym, subst, refl, ℕ, List, [], ◌∷◌}
 use Rattle.std.specs.Prelude.{◌==◌, Some, None}
 use Rattle.ddcmp_core.specs.declared.notice.Notice.{Notice}
 use Rattle.ddcmp_core.specs.declared.notice.Notice.TheVariants as notice
@@ -34,6 +34,7 @@ abbrev pub HasNoticeLine : MessageForm → Notice → ErrorsView → ErrorsView 
 HasNoticeLine form.Digits n old new = new ≡ old
 HasNoticeLine form.Binary n old new = HasLine SHORT_LINE (notice_line [] n) old new
 HasNoticeLine form.Events n old new = new ≡ old
+HasNoticeLine form.EventLines n old new = new ≡ old
 
 pub lost-none : (by : MessageForm) (count : ℕ) (e : ErrorsView) → count ≡ 0 → HasLost by count e e
 lost-none form.Digits count e is = refl
@@ -41,6 +42,7 @@ lost-none form.Binary count e is =
     if-room (count == 0) (e ≡ e) (HasLine SHORT_LINE (lost_line count) e e) (ap (λ n. n == 0) is)
     refl
 lost-none form.Events count e is = refl
+lost-none form.EventLines count e is = refl
 
 pub noticed : (by : MessageForm) (n : Notice) (old mid new : ErrorsView)
     → HasNoticeLine by n old mid
@@ -48,6 +50,7 @@ pub noticed : (by : MessageForm) (n : Notice) (old mid new : ErrorsView)
 noticed form.Digits n old mid new line lost = lost ∙ line
 noticed form.Binary n old mid new line lost = (mid, line, lost)
 noticed form.Events n old mid new line lost = lost ∙ line
+noticed form.EventLines n old mid new line lost = lost ∙ line
 
 -- what isn't a restart drops nothing
 pub drops-none : (n : Notice) → ((count : ℕ) → n ≡ notice.Restarted count → ⊥)
@@ -69,10 +72,12 @@ pub noticed-alone : (by : MessageForm) (n : Notice) (old new : ErrorsView) → d
 noticed-alone by n old new is line =
     noticed by n old new new line (lost-none by (dropped_by n) new is)
 
-pub line-in-digits : (by : MessageForm) (n : Notice) (old new : ErrorsView) → by ≡ form.Digits
-    → new ≡ old → HasNoticeLine by n old new
-line-in-digits by n old new is same =
-    subst (λ f. HasNoticeLine f n old new) (sym is) same
+pub line-in-lines : (by of : MessageForm) (n : Notice) (old new : ErrorsView) → by ≡ of
+    → (of ≡ form.Digits) ⊎ (of ≡ form.EventLines) → new ≡ old → HasNoticeLine by n old new
+line-in-lines by of n old new is (inl digits) same =
+    subst (λ f. HasNoticeLine f n old new) (sym (is ∙ digits)) same
+line-in-lines by of n old new is (inr lines) same =
+    subst (λ f. HasNoticeLine f n old new) (sym (is ∙ lines)) same
 
 pub line-in-events : (by : MessageForm) (n : Notice) (old new : ErrorsView) → by ≡ form.Events
     → new ≡ old → HasNoticeLine by n old new

@@ -6,6 +6,7 @@ use Rattle.hex.specs.Hex.{encode_lower, lower_digits}
 use Rattle.hex.proofs.HexLemmas.{length-encode_with}
 use Rattle.ddcmp_streams.specs.declared.messages.MessageForm.{MessageForm}
 use Rattle.ddcmp_streams.specs.declared.messages.MessageForm.TheVariants.{Digits, Binary, Events}
+use Rattle.ddcmp_streams.specs.declared.messages.MessageForm.TheVariants.{EventLines}
 use Rattle.ddcmp_io.specs.Queue.{QueueView, after_pushed}
 use Rattle.ddcmp_session.specs.Text.{Puts, Wrote, mail_text}
 use Rattle.ddcmp_session.specs.declared.text.TheConstants.{LINE_ROOM}
@@ -76,3 +77,9 @@ mail-short Digits message =
     )
 mail-short Binary message = omega arith
 mail-short Events message = omega arith
+mail-short EventLines message =
+    omega (
+      arith,
+      hex-short message,
+      length-append (encode_lower message) (codes "\n"),
+    )

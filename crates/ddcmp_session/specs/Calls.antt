@@ -9,6 +9,7 @@ use Rattle.ddcmp_station.specs.Linking.{after_frames, after_sent}
 use Rattle.ddcmp_station.specs.Linking.{with_state}
 use Rattle.ddcmp_streams.specs.declared.messages.MessageForm.{MessageForm}
 use Rattle.ddcmp_streams.specs.declared.messages.MessageForm.TheVariants.{Digits, Binary, Events}
+use Rattle.ddcmp_streams.specs.declared.messages.MessageForm.TheVariants.{EventLines}
 use Rattle.ddcmp_streams.specs.declared.messages.Messages.{Messages}
 use Rattle.ddcmp_streams.specs.Messages.{entries_of_input}
 use Rattle.ddcmp_session.specs.Session.{SessionView, session_made, form_of, takes_end, wants_input}
@@ -182,6 +183,7 @@ abbrev pub end_in : MessageForm → List ℕ
 end_in Digits = 10 ∷ []
 end_in Binary = []
 end_in Events = []
+end_in EventLines = 10 ∷ []
 
 abbrev pub input_in : SessionCall → SessionView → List ℕ
 input_in (InputRead used) s = used

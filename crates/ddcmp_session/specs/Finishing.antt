@@ -1,10 +1,10 @@
 -- The end of a run: received messages are delivered, and then the last lines are written.
-use Rattle.std.specs.Prelude.{◌≡◌, ◌≢◌, ◌≤◌, ⊤, ℕ, Bool, true, false, List, [], ◌∷◌, ◌++◌}
+use Rattle.std.specs.Prelude.{◌≡◌, ◌≤◌, ⊤, ℕ, Bool, true, false, List, [], ◌∷◌, ◌++◌}
 use Rattle.std.specs.Prelude.{Option, None, Some}
 use Rattle.ddcmp_io.specs.Written.{HandsOver}
 use Rattle.ddcmp_window.specs.Store.{first_message}
 use Rattle.ddcmp_session.specs.declared.devices.DeviceFault.{DeviceFault}
-use Rattle.ddcmp_streams.specs.declared.messages.MessageForm.TheVariants.{Digits}
+use Rattle.ddcmp_streams.specs.Messages.{is_in_lines}
 use Rattle.ddcmp_session.specs.Session.{SessionView, form_of, room_for_mail}
 use Rattle.ddcmp_session.specs.Calls.{SessionCall, Delivered, OutputTook, SessionDoes}
 use Rattle.ddcmp_session.specs.Calls.{SessionStep, written_in}
@@ -64,10 +64,10 @@ pub record IsDrained (s : SessionView) : Type 0 where
 -- The last lines were written after the queued output; with messages in binary they are no part of
 -- it.
 pub record WritesEnd (old new : SessionView) : Type 0 where
-  pub lines : form_of old.messages ≡ Digits
+  pub lines : is_in_lines (form_of old.messages) ≡ true
       → HandsOver (queued old.output) (queued new.output)
       (end_text old.options.counters old.link)
-  pub binary : form_of old.messages ≢ Digits → new ≡ old
+  pub binary : is_in_lines (form_of old.messages) ≡ false → new ≡ old
   pub stays : new ≡ record old { output = new.output }
 
 abbrev pub WritesEndIf : Bool → SessionView → SessionView → Type 0

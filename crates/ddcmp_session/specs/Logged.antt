@@ -115,6 +115,7 @@ HasLost form.Digits count old new = new ≡ old
 HasLost form.Binary count old new =
     MatchBool (count == 0) (new ≡ old) (HasLine SHORT_LINE (lost_line count) old new)
 HasLost form.Events count old new = new ≡ old
+HasLost form.EventLines count old new = new ≡ old
 
 -- a notice, and how many messages it drops
 abbrev pub HasNotice : MessageForm → Notice → ErrorsView → ErrorsView → Type 0
@@ -123,6 +124,7 @@ HasNotice form.Binary notice old new =
     (mid : ErrorsView) × HasLine SHORT_LINE (notice_line [] notice) old mid
     × HasLost form.Binary (dropped_by notice) mid new
 HasNotice form.Events notice old new = new ≡ old
+HasNotice form.EventLines notice old new = new ≡ old
 
 abbrev pub HasNotices : MessageForm → List Notice → ErrorsView → ErrorsView → Type 0
 HasNotices by [] old new = new ≡ old

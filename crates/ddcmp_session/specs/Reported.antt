@@ -14,6 +14,7 @@ use Rattle.ddcmp_station.specs.Linking.{total_plus}
 use Rattle.ddcmp_streams.specs.declared.errors.TheConstants.{SHORT_LINE}
 use Rattle.ddcmp_streams.specs.declared.messages.Messages.{Messages}
 use Rattle.ddcmp_streams.specs.declared.messages.Messages.TheVariants.{Digits, Binary, Events}
+use Rattle.ddcmp_streams.specs.declared.messages.Messages.TheVariants.{EventLines}
 use Rattle.ddcmp_streams.specs.declared.options.Options.{Options}
 use Rattle.ddcmp_session.specs.declared.session.TheConstants.{ERRORS_ROOM}
 use Rattle.ddcmp_session.specs.declared.text.TheConstants.{LINE_ROOM}
@@ -64,11 +65,13 @@ abbrev pub part_name : Messages → List ℕ
 part_name (Digits v) = codes "line "
 part_name (Binary v) = codes "message "
 part_name (Events v) = codes "message "
+part_name (EventLines v) = codes "line "
 
 abbrev pub part_number : Messages → ℕ → ℕ
 part_number (Digits v) read = v.number
 part_number (Binary v) read = read
 part_number (Events v) read = read
+part_number (EventLines v) read = v.lines.number
 
 -- what is wrong with it
 abbrev pub reason_text : Entry → List ℕ

@@ -28,6 +28,7 @@ use Rattle.ddcmp_streams.specs.declared.messages.MessageForm.{MessageForm}
 use Rattle.ddcmp_streams.specs.declared.messages.MessageForm.TheVariants as form
 use Rattle.ddcmp_streams.specs.declared.messages.Messages.{Messages}
 use Rattle.ddcmp_streams.specs.declared.messages.Messages.TheVariants.{Digits, Binary, Events}
+use Rattle.ddcmp_streams.specs.declared.messages.Messages.TheVariants.{EventLines}
 use Rattle.ddcmp_io.specs.LineKinds.{is_connection}
 use Rattle.ddcmp_io.specs.declared.line_kind.LineKind.{LineKind}
 use Rattle.ddcmp_io.specs.declared.line_kind.LineKind.TheVariants.{Device}
@@ -40,7 +41,7 @@ use Rattle.ddcmp_session.specs.Course.{after_awaited, after_looked, after_notice
 use Rattle.ddcmp_session.specs.Course.{after_unstarted, after_writing, expiry_counted, has_asked}
 use Rattle.ddcmp_session.specs.Course.{after_refusals_told, heard_here, start_counted, unstarted}
 use Rattle.ddcmp_core.specs.declared.counters.NakCounts.{NakCounts}
-use Rattle.ddcmp_streams.specs.Messages.{messages_begun, message_in, after_input}
+use Rattle.ddcmp_streams.specs.Messages.{has_events, messages_begun, message_in, after_input}
 use Rattle.ddcmp_streams.specs.Messages.{entries_of_input, after_last, entry_of_last}
 use Rattle.ddcmp_streams.specs.Messages.{is_message_unfinished, is_question, count_of}
 use Rattle.ddcmp_streams.specs.Messages.{command_in, has_last_line, messages_among}
@@ -70,6 +71,7 @@ abbrev pub form_of : Messages → MessageForm
 form_of (Digits v) = form.Digits
 form_of (Binary v) = form.Binary
 form_of (Events v) = form.Events
+form_of (EventLines v) = form.EventLines
 
 -- A new link acknowledges messages when they are taken, unless each is taken at once.
 abbrev pub link_begun : Options → ReaderView → LinkView
@@ -128,9 +130,7 @@ abbrev pub is_idle : SessionView → Bool
 is_idle s = not s.options.maintenance && not (is_running (state_of s.link).state)
 
 abbrev pub has_commands : Messages → Bool
-has_commands (Digits v) = false
-has_commands (Binary v) = false
-has_commands (Events v) = true
+has_commands m = has_events (form_of m)
 
 -- Once it has run, commands are read meanwhile, up to the one that acknowledges the next event.
 abbrev pub reads_commands : SessionView → Bool
@@ -154,6 +154,7 @@ abbrev pub is_barred : Messages → Course → Bool
 is_barred (Digits v) c = false
 is_barred (Binary v) c = false
 is_barred (Events v) c = c.leaves || nat_lt 0 c.unready
+is_barred (EventLines v) c = c.leaves || nat_lt 0 c.unready
 
 abbrev pub is_held : SessionView → Bool
 is_held s = is_barred s.messages s.course || (has_commands s.messages && is_idle s)

@@ -9,6 +9,7 @@ use Rattle.ddcmp_input.specs.InBinary.{behind_length}
 use Rattle.ddcmp_station.specs.StationText.{notice_line, notice_number, notice_word, number_text}
 use Rattle.ddcmp_streams.specs.declared.messages.MessageForm.{MessageForm}
 use Rattle.ddcmp_streams.specs.declared.messages.MessageForm.TheVariants.{Digits, Binary, Events}
+use Rattle.ddcmp_streams.specs.declared.messages.MessageForm.TheVariants.{EventLines}
 use Rattle.ddcmp_io.specs.Queue.{QueueView, after_pushed}
 
 -- a received message
@@ -16,6 +17,7 @@ abbrev pub mail_text : MessageForm → List ℕ → List ℕ
 mail_text Digits message = codes "mail " ++ encode_lower message ++ codes "\n"
 mail_text Binary message = behind_length message
 mail_text Events message = behind_length message
+mail_text EventLines message = codes "mail " ++ encode_lower message ++ codes "\n"
 
 -- An event among messages in binary: its text after its length, of which the top bit is set.
 abbrev pub event_text : List ℕ → List ℕ
@@ -33,6 +35,7 @@ abbrev pub lost_text : MessageForm → ℕ → List ℕ
 lost_text Digits count = if count == 0 then [] else lost_line count
 lost_text Binary count = []
 lost_text Events count = if count == 0 then [] else event_text (lost_words count)
+lost_text EventLines count = if count == 0 then [] else lost_line count
 
 abbrev pub dropped_by : Notice → ℕ
 dropped_by (notice.Restarted count) = count
@@ -47,6 +50,7 @@ abbrev pub notice_text : MessageForm → Notice → List ℕ
 notice_text Digits n = notice_line [] n ++ lost_text Digits (dropped_by n)
 notice_text Binary n = []
 notice_text Events n = event_text (notice_words n) ++ lost_text Events (dropped_by n)
+notice_text EventLines n = notice_line [] n ++ lost_text EventLines (dropped_by n)
 
 unfoldable pub notices_text : MessageForm → List Notice → List ℕ
 notices_text form [] = []

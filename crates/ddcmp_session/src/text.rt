@@ -1,5 +1,5 @@
 //! The text that a session writes.
-ghost use Rattle.std.specs.Prelude.{◌≡◌, ◌+◌, ◌*◌, ◌<◌, ◌≤◌, ◌++◌, [], length};
+ghost use Rattle.std.specs.Prelude.{◌≡◌, ◌+◌, ◌*◌, ◌<◌, ◌≤◌, ◌++◌, [], codes, length};
 ghost use Rattle.hex.specs.Hex.{encode_lower};
 ghost use Rattle.ddcmp_io.specs.Written.{HandsOver};
 ghost use Rattle.ddcmp_session.specs.EndText.{totals_text, end_line, end_text};
@@ -86,6 +86,15 @@ fn put_hex(out: &mut ByteQueue, bytes: &[u8])
     }
 }
 
+/// Writes a received message as a line of its digits.
+fn write_mail_line(out: &mut ByteQueue, message: &[u8])
+    ensures { Puts (codes "mail " ++ encode_lower message.now ++ codes "\n") out.old out.new }
+{
+    put(out, b"mail ");
+    put_hex(out, message);
+    put(out, b"\n");
+}
+
 /// Writes a received message: a line of its digits, or its bytes after its length.
 pub(crate) fn write_mail(out: &mut ByteQueue, form: MessageForm, message: &[u8])
     requires { length message.now < 65536 }
@@ -93,11 +102,7 @@ pub(crate) fn write_mail(out: &mut ByteQueue, form: MessageForm, message: &[u8])
     ensures short { length (mail_text form message.now) ≤ 2 * length message.now + LINE_ROOM }
 {
     match form {
-        MessageForm::Digits => {
-            put(out, b"mail ");
-            put_hex(out, message);
-            put(out, b"\n");
-        }
+        MessageForm::Digits | MessageForm::EventLines => write_mail_line(out, message),
         MessageForm::Binary | MessageForm::Events => {
             let length = u16::try_from(message.len()).unwrap_or(u16::MAX);
             put(out, &length.to_be_bytes());

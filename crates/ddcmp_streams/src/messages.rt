@@ -5,9 +5,9 @@ ghost use Rattle.ddcmp_streams.specs.Messages.{messages_begun, message_in, after
 ghost use Rattle.ddcmp_streams.specs.Messages.{entries_of_input, is_message_unfinished};
 ghost use Rattle.ddcmp_streams.specs.Messages.{after_last, entry_of_last, has_last_line};
 ghost use Rattle.ddcmp_streams.specs.Messages.{command_in, command_of, is_question};
-ghost use Rattle.ddcmp_streams.specs.Messages.{line_number};
+ghost use Rattle.ddcmp_streams.specs.Messages.{has_events, line_number};
 
-use ddcmp_input::{Entry, HexLines, Lengths, PushedEntry, Records};
+use ddcmp_input::{CommandLines, Entry, HexLines, Lengths, PushedEntry, Records};
 use std::alloc::{AllocError, Global};
 
 /// How messages are written on standard input and output.
@@ -20,9 +20,24 @@ pub enum MessageForm {
     /// The same, with events among them in the output and commands among them in the input, whose
     /// lengths have the top bit set.
     Events,
+    /// Each as a line of hexadecimal digits, with commands among them in the input: lines that begin
+    /// with `?`.
+    EventLines,
 }
 
-/// What a command among messages in binary asks for.
+impl MessageForm {
+    /// Returns whether commands are read among the messages.
+    pub fn has_events(self) -> bool
+        ensures { result ≡ has_events self }
+    {
+        match self {
+            MessageForm::Digits | MessageForm::Binary => false,
+            MessageForm::Events | MessageForm::EventLines => true,
+        }
+    }
+}
+
+/// What a command among messages asks for.
 #[derive(Clone, Copy, PartialEq, Eq)]
 pub enum Command {
     /// `ready`: acknowledges the first event that has none yet and begins an incarnation.
@@ -67,6 +82,7 @@ pub enum Messages {
     Digits(HexLines),
     Binary(Lengths),
     Events(Records),
+    EventLines(CommandLines),
 }
 
 // Manual, since a derived `Drop` is expanded wherever it is dropped.
@@ -76,6 +92,7 @@ impl Drop for Messages {
             Messages::Digits(_lines) => {}
             Messages::Binary(_lengths) => {}
             Messages::Events(_records) => {}
+            Messages::EventLines(_lines) => {}
         }
     }
 }
@@ -89,6 +106,7 @@ impl Messages {
             MessageForm::Digits => Ok(Messages::Digits(HexLines::new(alloc, max)?)),
             MessageForm::Binary => Ok(Messages::Binary(Lengths::new(alloc, max)?)),
             MessageForm::Events => Ok(Messages::Events(Records::new(alloc, max)?)),
+            MessageForm::EventLines => Ok(Messages::EventLines(CommandLines::new(alloc, max)?)),
         }
     }
 
@@ -100,6 +118,7 @@ impl Messages {
             Messages::Digits(lines) => lines.message(),
             Messages::Binary(lengths) => lengths.message(),
             Messages::Events(records) => records.message(),
+            Messages::EventLines(lines) => lines.message(),
         }
     }
 
@@ -117,6 +136,7 @@ impl Messages {
             Messages::Digits(lines) => lines.push_all(bytes),
             Messages::Binary(lengths) => lengths.push_all(bytes),
             Messages::Events(records) => records.push_all(bytes),
+            Messages::EventLines(lines) => lines.push_all(bytes),
         }
     }
 
@@ -127,6 +147,7 @@ impl Messages {
     {
         match self {
             Messages::Digits(lines) => lines.push(b'\n'),
+            Messages::EventLines(lines) => lines.push(b'\n'),
             Messages::Binary(_) | Messages::Events(_) => None,
         }
     }
@@ -137,6 +158,7 @@ impl Messages {
     {
         match self {
             Messages::Digits(lines) => lines.has_last_line(),
+            Messages::EventLines(lines) => lines.has_last_line(),
             Messages::Binary(_) | Messages::Events(_) => false,
         }
     }
@@ -146,7 +168,7 @@ impl Messages {
         ensures { result ≡ is_message_unfinished self.now }
     {
         match self {
-            Messages::Digits(_lines) => false,
+            Messages::Digits(_) | Messages::EventLines(_) => false,
             Messages::Binary(lengths) => lengths.is_unfinished(),
             Messages::Events(records) => records.is_unfinished(),
         }
@@ -158,6 +180,7 @@ impl Messages {
     {
         match self {
             Messages::Digits(lines) => lines.is_question(),
+            Messages::EventLines(lines) => lines.is_question(),
             Messages::Binary(_) | Messages::Events(_) => false,
         }
     }
@@ -169,6 +192,7 @@ impl Messages {
         match self {
             Messages::Digits(_) | Messages::Binary(_) => Command::Unknown,
             Messages::Events(records) => command_of(records.command()),
+            Messages::EventLines(lines) => command_of(lines.command()),
         }
     }
 
@@ -178,6 +202,7 @@ impl Messages {
     {
         match self {
             Messages::Digits(lines) => Some(lines.number()),
+            Messages::EventLines(lines) => Some(lines.number()),
             Messages::Binary(_) | Messages::Events(_) => None,
         }
     }

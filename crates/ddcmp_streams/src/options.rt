@@ -13,8 +13,8 @@ pub struct Options {
     pub config: Config,
     /// The reply timer, in milliseconds.
     pub timer_ms: u32,
-    /// The number of tries without progress after which a line is left; 0 is never, and `u32::MAX`
-    /// is 7 until the station runs and never from then on.
+    /// After how many tries in vain a line is left: without progress, or without a byte from the
+    /// peer once the station runs; 0 is never, and `u32::MAX` is 7 until it runs and never then.
     pub attempts: u32,
     /// How long it waits for more from a quiet peer once nothing of the input is left, in
     /// milliseconds.

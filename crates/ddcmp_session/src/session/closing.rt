@@ -4,7 +4,7 @@ use crate::text;
 use ddcmp_streams::MessageForm;
 
 impl Session {
-    ghost use Rattle.std.specs.Prelude.{◌≡◌, ◌≢◌, ◌&&◌, not, true, false, []};
+    ghost use Rattle.std.specs.Prelude.{◌≡◌, ◌&&◌, not, true, false, []};
     ghost use Rattle.ddcmp_io.specs.Written.{HandsOver};
     ghost use Rattle.ddcmp_core.specs.Table.{after_halt};
     ghost use Rattle.ddcmp_station.specs.CountersText.{counters_line};
@@ -14,6 +14,7 @@ impl Session {
     ghost use Rattle.ddcmp_session.specs.Session.{reports_loss};
     ghost use Rattle.ddcmp_session.specs.declared.text.TheConstants.{END_ROOM};
     ghost use Rattle.ddcmp_session.specs.EndText.{end_line, end_text};
+    ghost use Rattle.ddcmp_streams.specs.Messages.{is_in_lines};
     ghost use Rattle.ddcmp_streams.specs.Queued.{queued};
     ghost use Rattle.ddcmp_streams.specs.Errors.{HasLine};
     ghost use Rattle.ddcmp_session.specs.LastReports.{WritesLastReports};
@@ -94,21 +95,23 @@ impl Session {
     pub fn write_end(&mut self)
         ensures stays { self.new.state
             ≡ record self.old.state { output = self.new.state.output } }
-        ensures lines { form_of self.old.state.messages ≡ MessageForm.Digits
+        ensures lines { is_in_lines (form_of self.old.state.messages) ≡ true
             → HandsOver (queued self.old.state.output) (queued self.new.state.output)
             (end_text self.old.state.options.counters self.old.state.link) }
-        ensures binary { form_of self.old.state.messages ≢ MessageForm.Digits
+        ensures binary { is_in_lines (form_of self.old.state.messages) ≡ false
             → self.new.state ≡ self.old.state }
-        ensures digits { form_of self.old.state.messages ≡ MessageForm.Digits
+        ensures digits { is_in_lines (form_of self.old.state.messages) ≡ true
             → self.new.log ≡ self.old.log }
-        ensures errors { form_of self.old.state.messages ≢ MessageForm.Digits
+        ensures errors { is_in_lines (form_of self.old.state.messages) ≡ false
             → HasEnd self.old.state.options.counters self.old.state.link
             self.old.log.errors self.new.log.errors }
         ensures log { self.new.log ≡ record self.old.log { errors = self.new.log.errors } }
     {
         let counters = self.options.counters;
         match self.options.form {
-            MessageForm::Digits => text::write_end(&mut self.output, &self.link, counters),
+            MessageForm::Digits | MessageForm::EventLines => {
+                text::write_end(&mut self.output, &self.link, counters)
+            }
             MessageForm::Binary | MessageForm::Events => self.report_end(counters),
         }
     }

@@ -5,7 +5,7 @@ ghost use Rattle.ddcmp_session.specs.Reported.{reason_text};
 use crate::session::Session;
 use ddcmp_input::Entry;
 use ddcmp_station::State;
-use ddcmp_streams::{Command, MessageForm};
+use ddcmp_streams::Command;
 
 /// Returns what is wrong with a part of the input that is no message.
 fn reason_of(entry: Entry) -> &'static [u8]
@@ -63,7 +63,7 @@ impl Session {
     fn has_commands(&self) -> bool
         ensures { result ≡ has_commands self.now.state.messages }
     {
-        self.options.form == MessageForm::Events
+        self.options.form.has_events()
     }
 
     /// Returns whether no messages can be sent, since the station doesn't run.

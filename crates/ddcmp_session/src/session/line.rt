@@ -256,7 +256,9 @@ impl Session {
     {
         self.course.note_incarnation(notice);
         match self.options.form {
-            MessageForm::Digits => text::write_notice_line(&mut self.output, notice),
+            MessageForm::Digits | MessageForm::EventLines => {
+                text::write_notice_line(&mut self.output, notice)
+            }
             MessageForm::Binary => put_notice(&mut self.errors, notice),
             MessageForm::Events => text::write_notice_event(&mut self.output, notice),
         }

@@ -22,6 +22,7 @@ impl Session {
     ghost use Rattle.ddcmp_session.specs.Session.{room_for_mail, with_taken};
     ghost use Rattle.ddcmp_streams.specs.declared.errors.TheConstants.{SHORT_LINE};
     ghost use Rattle.ddcmp_session.specs.Text.{Wrote, mail_text, reported_lost};
+    ghost use Rattle.ddcmp_streams.specs.Messages.{is_in_lines};
 
     /// Queues the text of the next received message, if there is one and the output has room for
     /// it; returns whether it did. If messages are acknowledged early, or in maintenance mode, that
@@ -227,7 +228,7 @@ impl Session {
               (reported_lost result (form_of self.old.state.messages) lost) self.old.state.output;
         } }
         ensures when { result ≡ reports_loss self.old.state }
-        ensures digits { form_of self.old.state.messages ≡ MessageForm.Digits
+        ensures digits { is_in_lines (form_of self.old.state.messages) ≡ true
             → self.new.log ≡ self.old.log }
         ensures errors { HasLost (form_of self.old.state.messages) lost
             self.old.log.errors self.new.log.errors }
@@ -239,9 +240,11 @@ impl Session {
             return has_room;
         }
         match self.options.form {
-            MessageForm::Digits if has_room => text::write_lost(&mut self.output, lost),
+            MessageForm::Digits | MessageForm::EventLines if has_room => {
+                text::write_lost(&mut self.output, lost)
+            }
             MessageForm::Events if has_room => text::write_lost_event(&mut self.output, lost),
-            MessageForm::Digits | MessageForm::Events => {}
+            MessageForm::Digits | MessageForm::Events | MessageForm::EventLines => {}
             MessageForm::Binary => {
                 let mut digits = Buffer::new();
                 let text = digits.format(lost).as_bytes();

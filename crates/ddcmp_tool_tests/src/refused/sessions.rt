@@ -73,7 +73,7 @@ fn settles(a: &mut Session, b: &mut Session) {
 /// Returns the text of the longest message in this form.
 fn longest(rt: &(impl Abort + AllocGlobal), form: MessageForm) -> Option<Vec<u8>> {
     let (front, byte, count, back): (&[u8], &[u8], u32, &[u8]) = match form {
-        MessageForm::Digits => (b"", b"61", 16_383, b"\n"),
+        MessageForm::Digits | MessageForm::EventLines => (b"", b"61", 16_383, b"\n"),
         MessageForm::Binary | MessageForm::Events => (b"\x3f\xff", b"a", 16_383, b""),
     };
     let mut text = Vec::with_capacity(rt.alloc(), 40_000).ok()?;

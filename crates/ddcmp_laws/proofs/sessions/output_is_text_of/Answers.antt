@@ -1,5 +1,5 @@
 use Rattle.ddcmp_laws.proofs.Writing.{is_text}
-use Rattle.ddcmp_laws.proofs.Texts.{only_mail}
+use Rattle.ddcmp_laws.proofs.Texts.{only_mail, same_lines}
 use Rattle.ddcmp_laws.proofs.Records.{only-mail-read}
 use Rattle.ddcmp_laws.proofs.sessions.output_is_text_of.Goals as goal
 
@@ -11,3 +11,6 @@ returns-clause-binary c = only_mail
 
 pub returns-clause-events : goal.returns-clause-events
 returns-clause-events c = only-mail-read
+
+pub returns-clause-lines : goal.returns-clause-lines
+returns-clause-lines c = same_lines

@@ -2,6 +2,7 @@ use Rattle.std.proofs.Common.{refl}
 use Rattle.ddcmp_session.proofs.GoingLaws.{stays, goes-then}
 use Rattle.ddcmp_session.proofs.InputGoes.{ends}
 use Rattle.ddcmp_session.proofs.LinesGo.{same-err}
+use Rattle.ddcmp_session.proofs.ReadyLaws.{ended-ready}
 use Rattle.ddcmp_session.proofs.buffers.Buffers.look_at_input.Goals as goal
 
 pub returns-then-not-awaits_end-clause-on : goal.returns-then-not-awaits_end-clause-on
@@ -22,3 +23,7 @@ returns-then-has_ended-clause-on g c =
 
 pub returns-else-has_ended-clause-on : goal.returns-else-has_ended-clause-on
 returns-else-has_ended-clause-on g c = c.in-Ok.ensures.on _
+
+pub returns-then-has_ended-clause-ready : goal.returns-then-has_ended-clause-ready
+returns-then-has_ended-clause-ready g c =
+    ended-ready c.args.session.now.state c.input_ended.new.self.state c.input_ended.ensures.state

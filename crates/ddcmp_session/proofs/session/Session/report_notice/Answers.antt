@@ -5,7 +5,7 @@ use Rattle.ddcmp_streams.specs.Errors.{ErrorsView}
 use Rattle.ddcmp_session.specs.Session.{form_of}
 use Rattle.ddcmp_session.specs.Text.{dropped_by}
 use Rattle.ddcmp_session.proofs.LineLogLaws.{HasNoticeLine, drops-none, line-in-binary}
-use Rattle.ddcmp_session.proofs.LineLogLaws.{line-in-digits, line-in-events, noticed-alone, noticed-loss}
+use Rattle.ddcmp_session.proofs.LineLogLaws.{line-in-events, line-in-lines, noticed-alone, noticed-loss}
 use Rattle.ddcmp_session.proofs.session.Session.report_notice.Goals.{in-Digits, in-Binary, in-Events}
 use Rattle.ddcmp_session.proofs.session.Session.report_notice.Goals as goal
 
@@ -17,7 +17,7 @@ returns-in-Restarted-clause-errors c =
     let line : HasNoticeLine by c.args.notice old mid =
     elim c.match-self.branch [
       | in-Digits w ↦
-          line-in-digits by c.args.notice old mid (sym c.self.invariant.0 ∙ w.in-Digits.is)
+          line-in-lines by _ c.args.notice old mid (sym c.self.invariant.0) w.in-Digits.is
           (ap (λ (i : Inside). i.errors) w.self-inside-is)
       | in-Binary w ↦
           line-in-binary by c.args.notice old w.put_notice.new.errors mid
@@ -45,7 +45,7 @@ returns-in-PeerRestarted-clause-errors c =
     let line : HasNoticeLine by c.args.notice old mid =
     elim c.match-self.branch [
       | in-Digits w ↦
-          line-in-digits by c.args.notice old mid (sym c.self.invariant.0 ∙ w.in-Digits.is)
+          line-in-lines by _ c.args.notice old mid (sym c.self.invariant.0) w.in-Digits.is
           (ap (λ (i : Inside). i.errors) w.self-inside-is)
       | in-Binary w ↦
           line-in-binary by c.args.notice old w.put_notice.new.errors mid
@@ -66,7 +66,7 @@ returns-in_default-clause-errors c =
     let line : HasNoticeLine by c.args.notice old mid =
     elim c.match-self.branch [
       | in-Digits w ↦
-          line-in-digits by c.args.notice old mid (sym c.self.invariant.0 ∙ w.in-Digits.is)
+          line-in-lines by _ c.args.notice old mid (sym c.self.invariant.0) w.in-Digits.is
           (ap (λ (i : Inside). i.errors) w.self-inside-is)
       | in-Binary w ↦
           line-in-binary by c.args.notice old w.put_notice.new.errors mid
