@@ -1,6 +1,6 @@
 //! Parses the input of a program, in chunks of any size, without I/O. `HexLines` and `Lengths` read
-//! messages: one a line in hexadecimal digits, or each after its length as two bytes. `CommandLines`
-//! and `Records` read the same with commands among them. `Dump` reads dumps of bytes, as
+//! messages: one a line in hexadecimal digits, or each after its length as two bytes.
+//! `CommandLines` and `Records` read the same with commands among them. `Dump` reads dumps, as
 //! `hexdump -C`, `xxd` and `od -A x -t x1` write them: it replaces everything but the digits of the
 //! data by blanks, chunk by chunk, and reports a line that isn't one of a dump by its number.
 //!

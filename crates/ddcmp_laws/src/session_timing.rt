@@ -26,7 +26,8 @@ pub fn done_once_all_is_read()
 {}
 
 /// With `--again` a line that has ended, or couldn't be opened, is opened again, 30 seconds later
-/// at most, or at once if the station ran on it; and the session wakes for that.
+/// at most, or at once if the station ran on it, unless a command has halted the link; and the
+/// session wakes for that.
 pub fn opens_again()
     ensures reopens { (s : SessionView) → s.options.again ≡ true → reopens s ≡ true }
     // With `--restart` a link whose peer has restarted doesn't end by that.

@@ -20,8 +20,8 @@ pub enum MessageForm {
     /// The same, with events among them in the output and commands among them in the input, whose
     /// lengths have the top bit set.
     Events,
-    /// Each as a line of hexadecimal digits, with commands among them in the input: lines that begin
-    /// with `?`.
+    /// Each as a line of hexadecimal digits, with commands among them in the input: lines that
+    /// begin with `?`.
     EventLines,
 }
 
