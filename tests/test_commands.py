@@ -8,7 +8,7 @@ import pytest
 
 from .peers import Peer, called, dials, good, no_ack
 from .process import Link, listening, must_end, port_of, server, tcp_pair, unacknowledged
-from .wire import STRT, ack, binary, command_lines, commands, digits, drawn, in_lines
+from .wire import STRT, ack, binary, command_lines, commands, data, digits, drawn, in_lines
 
 
 class InBinary:
@@ -218,6 +218,11 @@ def test_quit_before_the_line_is_up(form):
     assert link.ended() == 0, link
 
 
+def ends(form, link):
+    """How lines ended, as the output tells."""
+    return [it[11:] for it in form.shown(link) if it.startswith("line down: ")]
+
+
 def left_alone(form):
     """A link whose peer has left after one message, and to which nothing listens any more."""
     link, it = dials(*form.options, "--again")
@@ -227,7 +232,8 @@ def left_alone(form):
     link.give(form.of("ready", b"one"), close=False)
     assert link.waits(lambda it: b"Acknowledged" in it.out, 10)
     peer.close()
-    assert link.waits(lambda it: any("line down" in one for one in it.errors()), 10)
+    assert link.waits(lambda it: ends(form, it), 10)
+    assert ends(form, link) == ["closed by the other end"]
     return link
 
 
@@ -274,6 +280,7 @@ def test_halt_and_start(form, again):
         assert link.waits(lambda it: b"Acknowledged" in it.out, 10)
         link.give(form.of("halt", b"two", "report"), close=False)
         assert first.waits(lambda it: it.has_ended, 10)
+        assert link.waits(lambda it: ends(form, it), 10)
         it.settimeout(1.5)
         with pytest.raises(TimeoutError):
             it.accept()
@@ -284,6 +291,49 @@ def test_halt_and_start(form, again):
         link.give(form.of(b"three", "ready", b"four", "quit"), close=False)
         must_end("halt", link, 3, unacknowledged(2), 20)
     assert (first.mail, second.mail) == ([b"one"], [b"four"])
+    assert ends(form, link) == ["halted"]
+
+
+def test_events_of_a_restart(form):
+    """What a line brought comes before its end, what is lost with it after that, and each line that
+    is opened again has one end."""
+    with server() as it:
+        link = Link(f"connect:127.0.0.1:{port_of(it)}", *form.options, "--again")
+        peer = Peer(it.accept()[0], answer=no_ack)
+        assert is_up(link)
+        link.give(form.of("ready", b"one", b"two"), close=False)
+        assert peer.waits(lambda it: len(it.named("DATA")) == 2, 10)
+        peer.send(data(b"three", 1))
+        assert peer.waits(lambda it: it.named("ACK"), 10)
+        link.give(form.of("restart"), close=False)
+        second = Peer(it.accept()[0])
+        assert is_up(link, 2)
+        link.give(form.of("quit"), close=False)
+        must_end("restart", link, 3, unacknowledged(2), 20)
+    assert second.mail == []
+    assert form.shown(link) == ["notice Running", "notice HandedUp", f"mail {b'three'.hex()}",
+                                "line down: restarted", "lost 2", "notice Running"]
+
+
+def test_event_of_a_silent_peer(form):
+    """A line whose peer doesn't reply is left after the tries that are asked for."""
+    with server() as it:
+        link = Link(f"connect:127.0.0.1:{port_of(it)}", *form.options, "--again", "--attempts", "2",
+                    "--timer-ms", "200")
+        lines = [it.accept()[0] for _ in range(3)]
+        assert link.waits(lambda it: len(ends(form, it)) >= 2, 10)
+        for one in lines:
+            one.close()
+    assert ends(form, link)[:2] == ["given up"] * 2
+
+
+def test_no_event_of_a_line_without_events():
+    link, it = dials("--again")
+    with it:
+        Peer(it.accept()[0]).close()
+    assert link.waits(lambda it: any("line down" in one for one in it.errors()), 10)
+    assert not link.waits(lambda it: "line down" in "".join(it.lines()), 0.5)
+
 
 
 def test_quit_while_halted(form):

@@ -17,7 +17,7 @@ LONG = pytest.param(60, marks=[pytest.mark.long, pytest.mark.limit(180)])
 MORE = pytest.param(10, marks=[pytest.mark.long, pytest.mark.limit(300)])
 
 
-@pytest.fixture(params=["station", "link"])
+@pytest.fixture(params=["station", "link", "lines"])
 def nodes(library, request):
     """Begins a node over a station, or over a link, in binary or in lines, which is killed with
     it."""

@@ -271,7 +271,11 @@ class LinkCircuit(Circuit):
             self.unacknowledged += 1
 
     def noticed(self, text: str) -> None:
-        """Handles an event: `notice NAME`, `notice NAME COUNT` or `lost COUNT`."""
+        """Handles an event: `notice NAME`, also with a count, `lost COUNT` or `line down: REASON`."""
+        if text.startswith("line down: "):
+            self.is_running = False
+            self.down(text)
+            return
         name, count = (text.split() + ["0"])[1:3]
         if name in ("Running", "RunningAndHandedUp"):
             self.command("ready")
@@ -321,7 +325,7 @@ class LineCircuit(LinkCircuit):
         line = (await output.readuntil()).decode("ascii").rstrip()
         if line.startswith("mail "):
             self.received(bytes.fromhex(line[5:]))
-        elif line.startswith(("notice ", "lost ")):
+        elif line.startswith(("notice ", "lost ", "line down: ")):
             self.noticed(line)
 
 

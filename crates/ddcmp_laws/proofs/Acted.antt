@@ -50,7 +50,7 @@ pub one-act : (call : SessionCall) (s : SessionView)
 one-act Connected s = inl refl
 one-act (InputRead used) s = inl refl
 one-act InputEnded s = inl refl
-one-act (LineEnded r) s = inl refl
+one-act (LineEnded how r) s = inl refl
 one-act (Received used) s = inr (Receives used, refl)
 one-act (Filled n) s = inl refl
 one-act (LineTook n) s = inr (Writes (take n s.link.outbox.waiting), refl)
@@ -65,7 +65,7 @@ unfolding received
 act-used Connected s = refl
 act-used (InputRead used) s = refl
 act-used InputEnded s = refl
-act-used (LineEnded r) s = refl
+act-used (LineEnded how r) s = refl
 act-used (Received used) s = append-nil used
 act-used (Filled n) s = refl
 act-used (LineTook n) s = refl
@@ -80,7 +80,7 @@ unfolding sent
 act-gone Connected s = refl
 act-gone (InputRead used) s = refl
 act-gone InputEnded s = refl
-act-gone (LineEnded r) s = refl
+act-gone (LineEnded how r) s = refl
 act-gone (Received used) s = refl
 act-gone (Filled n) s = refl
 act-gone (LineTook n) s = append-nil (take n s.link.outbox.waiting)
@@ -96,7 +96,7 @@ pub used-anew : (call : SessionCall) (new : SessionView) (c : Connection)
 used-anew Connected new c is = refl
 used-anew (InputRead used) new c is = absurd (is refl)
 used-anew InputEnded new c is = absurd (is refl)
-used-anew (LineEnded r) new c is = absurd (is refl)
+used-anew (LineEnded how r) new c is = absurd (is refl)
 used-anew (Received used) new c is = absurd (is refl)
 used-anew (Filled n) new c is = absurd (is refl)
 used-anew (LineTook n) new c is = absurd (is refl)
@@ -111,7 +111,7 @@ pub log-anew : (call : SessionCall) (s : SessionView) (log : LineLog)
 log-anew Connected s log is = refl
 log-anew (InputRead used) s log is = absurd (is refl)
 log-anew InputEnded s log is = absurd (is refl)
-log-anew (LineEnded r) s log is = absurd (is refl)
+log-anew (LineEnded how r) s log is = absurd (is refl)
 log-anew (Received used) s log is = absurd (is refl)
 log-anew (Filled n) s log is = absurd (is refl)
 log-anew (LineTook n) s log is = absurd (is refl)
@@ -126,7 +126,7 @@ pub connects-once : (call : SessionCall) → (connects_in_call call ≡ 0 → �
 connects-once Connected is = refl
 connects-once (InputRead used) is = absurd (is refl)
 connects-once InputEnded is = absurd (is refl)
-connects-once (LineEnded r) is = absurd (is refl)
+connects-once (LineEnded how r) is = absurd (is refl)
 connects-once (Received used) is = absurd (is refl)
 connects-once (Filled n) is = absurd (is refl)
 connects-once (LineTook n) is = absurd (is refl)
@@ -149,7 +149,7 @@ log-adds Connected s log e = no e
     no e = cc
 log-adds (InputRead used) s log e = (sym (append-nil log.acts), refl)
 log-adds InputEnded s log e = (sym (append-nil log.acts), refl)
-log-adds (LineEnded r) s log e = (sym (append-nil log.acts), refl)
+log-adds (LineEnded how r) s log e = (sym (append-nil log.acts), refl)
 log-adds (Received used) s log e = (refl, refl)
 log-adds (Filled n) s log e = (sym (append-nil log.acts), refl)
 log-adds (LineTook n) s log e = (refl, refl)

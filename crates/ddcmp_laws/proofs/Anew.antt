@@ -360,7 +360,7 @@ calm_of InputEnded i s new = by (takes_end s)
         offers_calm (option_to_list (entry_of_last s.messages))
         (message_in (after_last s.messages)) new
     by false = tt
-calm_of (LineEnded r) i s new = (tt, tt)
+calm_of (LineEnded how r) i s new = (tt, tt)
 calm_of (Received used) i s new = (tt, tt)
 calm_of (Filled n) i s new = frames_calm n s.link
 calm_of (LineTook n) i s new = (tt, tt)
@@ -391,10 +391,10 @@ follows made one c k does stays = by one.call one.session does
         as_follows
         (goes_on made (record { call = InputEnded; session = new }) c k d stays
         (calm_of InputEnded tt c.history.session new.link))
-    by (LineEnded r) new d =
+    by (LineEnded how r) new d =
         as_follows
-        (goes_on made (record { call = LineEnded r; session = new }) c k d stays
-        (calm_of (LineEnded r) tt c.history.session new.link))
+        (goes_on made (record { call = LineEnded how r; session = new }) c k d stays
+        (calm_of (LineEnded how r) tt c.history.session new.link))
     by (Received used) new d =
         as_follows
         (goes_on made (record { call = Received used; session = new }) c k d stays

@@ -266,11 +266,11 @@ tidied e made one c k p does stays same t = by one.call one.session does
         (goes_on made (record { call = InputEnded; session = new }) c k d stays
         (calm_of InputEnded tt c.history.session new.link))
         (calm_of InputEnded tt c.history.session new.link) t
-    by (LineEnded r) new d =
-        calmly e made (record { call = LineEnded r; session = new }) c k p
-        (goes_on made (record { call = LineEnded r; session = new }) c k d stays
-        (calm_of (LineEnded r) tt c.history.session new.link))
-        (calm_of (LineEnded r) tt c.history.session new.link) t
+    by (LineEnded how r) new d =
+        calmly e made (record { call = LineEnded how r; session = new }) c k p
+        (goes_on made (record { call = LineEnded how r; session = new }) c k d stays
+        (calm_of (LineEnded how r) tt c.history.session new.link))
+        (calm_of (LineEnded how r) tt c.history.session new.link) t
     by (Received used) new d =
         calmly e made (record { call = Received used; session = new }) c k p
         (goes_on made (record { call = Received used; session = new }) c k d stays

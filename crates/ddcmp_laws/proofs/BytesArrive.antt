@@ -1,6 +1,5 @@
 -- Two links that ended well: what the one read is what the other wrote.
 use Rattle.ddcmp_laws.specs.Sessions.{IsPlain}
-use Rattle.ddcmp_streams.specs.declared.messages.MessageForm.TheVariants as form
 use Rattle.std.proofs.Common.{◌≡◌, ◌∙◌, ap, sym, subst, refl, ℕ, Bool, true, false, List, []}
 use Rattle.std.proofs.Common.{Option, Some, None, arith, Result, Ok, Err}
 use Rattle.std.specs.Prelude.{◌≤◌}

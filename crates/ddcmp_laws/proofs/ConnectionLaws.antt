@@ -32,7 +32,7 @@ pub does-so : (call : SessionCall) (text : List ℕ) (old new : SessionView)
 does-so Connected text old new d = d.0
 does-so (InputRead used) text old new d = d
 does-so InputEnded text old new d = d
-does-so (LineEnded r) text old new d = d
+does-so (LineEnded how r) text old new d = d
 does-so (Received used) text old new d = d
 does-so (Filled n) text old new d = d
 does-so (LineTook n) text old new d = d
@@ -102,7 +102,7 @@ starts-if Connected s (inl never) = no never
 starts-if Connected s (inr empty) = starts-new s empty
 starts-if (InputRead used) s is = tt
 starts-if InputEnded s is = tt
-starts-if (LineEnded r) s is = tt
+starts-if (LineEnded how r) s is = tt
 starts-if (Received used) s is = tt
 starts-if (Filled n) s is = tt
 starts-if (LineTook n) s is = tt

@@ -60,8 +60,8 @@ Then s = (s.course.lost ≡ 0) × NoneHalted s
 leaves-none : (call : SessionCall) (text : List ℕ) (old new : SessionView) → EndsALine call
     → Does call text old new → Counted old → Then new → (station_of old).out ≡ []
 leaves-none Connected text old new of d was then = connected-none old new d was then.0 then.1
-leaves-none (LineEnded r) text old new of d was then =
-    left-none old ((line-ended r old new d).lost then.0) was
+leaves-none (LineEnded how r) text old new of d was then =
+    left-none old ((line-ended how r old new d).lost then.0) was
 leaves-none (InputRead used) text old new of d was then = absurd of
 leaves-none InputEnded text old new of d was then = absurd of
 leaves-none (Received used) text old new of d was then = absurd of
@@ -123,7 +123,7 @@ read-before Connected new made c stays =
     ∙ ap (messages_of made.options.form made.options.config.max) (sym (append-nil c.history.input))
 read-before (InputRead used) new made c stays = append-nil _
 read-before InputEnded new made c stays = append-nil _
-read-before (LineEnded r) new made c stays = append-nil _
+read-before (LineEnded how r) new made c stays = append-nil _
 read-before (Received used) new made c stays = append-nil _
 read-before (Filled n) new made c stays = append-nil _
 read-before (LineTook n) new made c stays = append-nil _

@@ -215,9 +215,9 @@ frames-a first second (InputRead used) new c p j k inv f over in_range ready =
 frames-a first second InputEnded new c p j k inv f over in_range ready =
     calm-frames-a first second InputEnded new c p j k inv f
     (calm-steps InputEnded tt c.a.history.session new.link)
-frames-a first second (LineEnded r) new c p j k inv f over in_range ready =
-    calm-frames-a first second (LineEnded r) new c p j k inv f
-    (calm-steps (LineEnded r) tt c.a.history.session new.link)
+frames-a first second (LineEnded how r) new c p j k inv f over in_range ready =
+    calm-frames-a first second (LineEnded how r) new c p j k inv f
+    (calm-steps (LineEnded how r) tt c.a.history.session new.link)
 frames-a first second (Filled n) new c p j k inv f over in_range ready =
     calm-frames-a first second (Filled n) new c p j k inv f
     (calm-steps (Filled n) tt c.a.history.session new.link)

@@ -215,9 +215,9 @@ frames-b first second (InputRead used) new c p j k inv f over in_range ready =
 frames-b first second InputEnded new c p j k inv f over in_range ready =
     calm-frames-b first second InputEnded new c p j k inv f
     (calm-steps InputEnded tt c.b.history.session new.link)
-frames-b first second (LineEnded r) new c p j k inv f over in_range ready =
-    calm-frames-b first second (LineEnded r) new c p j k inv f
-    (calm-steps (LineEnded r) tt c.b.history.session new.link)
+frames-b first second (LineEnded how r) new c p j k inv f over in_range ready =
+    calm-frames-b first second (LineEnded how r) new c p j k inv f
+    (calm-steps (LineEnded how r) tt c.b.history.session new.link)
 frames-b first second (Filled n) new c p j k inv f over in_range ready =
     calm-frames-b first second (Filled n) new c p j k inv f
     (calm-steps (Filled n) tt c.b.history.session new.link)

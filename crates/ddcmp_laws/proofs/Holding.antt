@@ -11,7 +11,6 @@ use Rattle.ddcmp_station.specs.Linking.{after_frame, after_frames, after_taking}
 use Rattle.ddcmp_station.specs.Linking.{totals_after_take, with_state}
 use Rattle.ddcmp_window.specs.Store.{first_message}
 use Rattle.ddcmp_streams.specs.declared.messages.MessageForm.{MessageForm}
-use Rattle.ddcmp_streams.specs.declared.messages.MessageForm.TheVariants as form
 use Rattle.ddcmp_streams.specs.Messages.{has_events, messages_begun, after_input}
 use Rattle.ddcmp_session.specs.Session.{SessionView, after_takes, form_of}
 use Rattle.ddcmp_laws.specs.Links.{LinkCall, FillsOne, Takes}

@@ -263,9 +263,9 @@ step-a first second (InputRead used) new rest c p j k inv f over in_range ready 
 step-a first second InputEnded new rest c p j k inv f over in_range ready =
     calm-next-a first second InputEnded new rest c p j k inv f refl
     (calm-steps InputEnded tt c.a.history.session new.link)
-step-a first second (LineEnded r) new rest c p j k inv f over in_range ready =
-    calm-next-a first second (LineEnded r) new rest c p j k inv f refl
-    (calm-steps (LineEnded r) tt c.a.history.session new.link)
+step-a first second (LineEnded how r) new rest c p j k inv f over in_range ready =
+    calm-next-a first second (LineEnded how r) new rest c p j k inv f refl
+    (calm-steps (LineEnded how r) tt c.a.history.session new.link)
 step-a first second (Filled n) new rest c p j k inv f over in_range ready =
     calm-next-a first second (Filled n) new rest c p j k inv f refl
     (calm-steps (Filled n) tt c.a.history.session new.link)

@@ -263,9 +263,9 @@ step-b first second (InputRead used) new rest c p j k inv f over in_range ready 
 step-b first second InputEnded new rest c p j k inv f over in_range ready =
     calm-next-b first second InputEnded new rest c p j k inv f refl
     (calm-steps InputEnded tt c.b.history.session new.link)
-step-b first second (LineEnded r) new rest c p j k inv f over in_range ready =
-    calm-next-b first second (LineEnded r) new rest c p j k inv f refl
-    (calm-steps (LineEnded r) tt c.b.history.session new.link)
+step-b first second (LineEnded how r) new rest c p j k inv f over in_range ready =
+    calm-next-b first second (LineEnded how r) new rest c p j k inv f refl
+    (calm-steps (LineEnded how r) tt c.b.history.session new.link)
 step-b first second (Filled n) new rest c p j k inv f over in_range ready =
     calm-next-b first second (Filled n) new rest c p j k inv f refl
     (calm-steps (Filled n) tt c.b.history.session new.link)

@@ -74,7 +74,7 @@ after-same Connected new c e = no e
     no e = cc
 after-same (InputRead used) new c e = refl
 after-same InputEnded new c e = refl
-after-same (LineEnded r) new c e = refl
+after-same (LineEnded how r) new c e = refl
 after-same (Received used) new c e = refl
 after-same (Filled n) new c e = refl
 after-same (LineTook n) new c e = refl
@@ -90,7 +90,7 @@ pub gone-anew : (call : SessionCall) (new : SessionView) (c : Connection)
 gone-anew Connected new c is = refl
 gone-anew (InputRead used) new c is = absurd (is refl)
 gone-anew InputEnded new c is = absurd (is refl)
-gone-anew (LineEnded r) new c is = absurd (is refl)
+gone-anew (LineEnded how r) new c is = absurd (is refl)
 gone-anew (Received used) new c is = absurd (is refl)
 gone-anew (Filled n) new c is = absurd (is refl)
 gone-anew (LineTook n) new c is = absurd (is refl)
@@ -213,7 +213,7 @@ calm-steps InputEnded i s new = by (takes_end s)
         offers-calm (option_to_list (entry_of_last s.messages))
         (message_in (after_last s.messages)) new
     by false = tt
-calm-steps (LineEnded r) i s new = (tt, tt)
+calm-steps (LineEnded how r) i s new = (tt, tt)
 calm-steps (Filled n) i s new = frames-calm n s.link
 calm-steps (LineTook n) i s new = (tt, tt)
 calm-steps (TimedOut now) i s new = (tt, tt)

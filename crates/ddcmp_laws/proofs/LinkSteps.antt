@@ -30,7 +30,7 @@ use Rattle.ddcmp_streams.specs.declared.options.Options.{Options}
 use Rattle.ddcmp_session.specs.Course.{after_connecting, lost_more}
 use Rattle.ddcmp_session.specs.Session.{lost_by_end, after_timeout, after_connected, anew_in}
 use Rattle.ddcmp_session.specs.Session.{after_connecting_in, lost_by_start, starts}
-use Rattle.ddcmp_session.specs.Text.{reported_lost, mail_text, notices_text}
+use Rattle.ddcmp_session.specs.Text.{reported_end, reported_lost, mail_text, notices_text}
 use Rattle.ddcmp_laws.specs.Links.{LinkCall, BeginsAnew, Halts, Wakes, IsSent, Feeds}
 use Rattle.ddcmp_laws.specs.Links.{HasDone, HasFed, new_history}
 use Rattle.ddcmp_laws.specs.Links.{after_step, after_history}
@@ -40,12 +40,13 @@ use Rattle.ddcmp_session.specs.Calls.{Received, Filled, LineTook, TimedOut, Time
 use Rattle.ddcmp_session.specs.Calls.{OutputTook}
 use Rattle.ddcmp_session.specs.Calls.{Closed, HasReceived, HasDelivered, HasLeft, HasClosed}
 use Rattle.ddcmp_session.specs.Calls.{SessionDoes, Shown, Mail, Reports, SessionHistory}
-use Rattle.ddcmp_session.specs.Calls.{new_session, SessionStep, end_in, losses}
+use Rattle.ddcmp_session.specs.Calls.{new_session, SessionStep, end_in, ends, losses}
+use Rattle.ddcmp_session.specs.declared.line_end.LineEnd.{LineEnd}
 use Rattle.ddcmp_laws.specs.Sessions.{IsPlain, messages_of, got_in, mail_in, texts_of, link_step}
 use Rattle.ddcmp_laws.specs.Sessions.{offers_of, frames_put, takes_put}
 use Rattle.ddcmp_laws.proofs.Texts.{mail_more, no_mail, mail_is, nothing_lost, notices_are}
-use Rattle.ddcmp_laws.proofs.Texts.{mail_text_is, lost_text_is, no_text, IsText, writes}
-use Rattle.ddcmp_laws.proofs.Texts.{took}
+use Rattle.ddcmp_laws.proofs.Texts.{end_text_is, mail_text_is, lost_text_is, no_mail_ends, no_text}
+use Rattle.ddcmp_laws.proofs.Texts.{IsText, took, writes}
 use Rattle.ddcmp_laws.proofs.Limits.{fed_longest, frames_longest, longest_of, wake_longest}
 use Rattle.ddcmp_laws.proofs.Holding.{Holds, Leads, StepLeads, frames_done, frames_offer_none}
 use Rattle.ddcmp_laws.proofs.Holding.{holds_on, link_history, no_call, no_input, no_offer, one_call}
@@ -350,17 +351,16 @@ output_step {told} f max h new k written shown holds is mail text =
       no_offer f max h.input [] refl,
     )
 
-pub left_step : (f : MessageForm) (max : ℕ) (h : SessionHistory) (r : Bool) (new : SessionView)
-    (k : ℕ)
-    → Holds f max h → HasLeft r h.session new
-    → StepLeads f max (record { call = LineEnded r; session = new }) h k
+pub left_step : (f : MessageForm) (max : ℕ) (h : SessionHistory) (how : LineEnd) (r : Bool)
+    (new : SessionView) (k : ℕ) → Holds f max h → HasLeft how r h.session new
+    → StepLeads f max (record { call = LineEnded how r; session = new }) h k
 unfolding after_history offered_in
-left_step f max h r new k holds d =
+left_step f max h how r new k holds d =
     let count = lost_by_end h.session in
-    let lost = losses r h.session in
+    let lost = ends how r h.session in
     let shown = h.shown ++ lost in
     let mail : mail_in shown ≡ mail_in h.shown =
-    mail_more h.shown lost ∙ ap (λ ms. mail_in h.shown ++ ms) (nothing_lost r h.session)
+    mail_more h.shown lost ∙ ap (λ ms. mail_in h.shown ++ ms) (no_mail_ends how r h.session)
     ∙ append-nil (mail_in h.shown) in
     let kept =
     kept_by h.session new h.shown shown (ap (λ (x : SessionView). x.unwritten) d.stays)
@@ -372,8 +372,8 @@ left_step f max h r new k holds d =
           d.stays)
           (ap longest_of d.link)
           (writes f h.written h.shown lost h.session.output new.output
-          (reported_lost r (form_of h.session.messages) count) holds.text d.wrote
-          (ap (λ g. reported_lost r g count) holds.kind ∙ lost_text_is r f h.session))
+          (reported_end r (form_of h.session.messages) how count) holds.text d.wrote
+          (ap (λ g. reported_end r g how count) holds.kind ∙ end_text_is how r f h.session))
           (ap (λ (x : SessionView). x.options.maintenance) d.stays)
           (queued_kept h.session new h.shown shown kept holds.queued),
       no_offer f max h.input (link_step Halts new.link ∷ []) refl,
@@ -473,7 +473,7 @@ step_leads f max step h k does holds = by step.call step.session does
         (ap (λ (x : SessionView). x.link) is, d.1, d.2) refl
         (same_inbox h.session.link (anew new.link.station.line h.session.link)
         (anew-inbox new.link.station.line h.session.link)) refl refl
-    by (LineEnded r) new d = left_step f max h r new k holds d
+    by (LineEnded how r) new d = left_step f max h how r new k holds d
     by (Received used) new d = received_step f max h new k used holds d
     by (Filled frames) new d = filled_step f max h new k frames holds d.0
     by (LineTook n) new d =

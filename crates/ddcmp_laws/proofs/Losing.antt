@@ -40,6 +40,7 @@ use Rattle.ddcmp_station.specs.Linking.{LinkView, after_frame, after_frames, aft
 use Rattle.ddcmp_station.specs.Linking.{after_sent, delivered, is_needed}
 use Rattle.ddcmp_station.specs.Linking.{after_polled, after_wake, polls, state_of, total_plus}
 use Rattle.ddcmp_station.specs.Linking.{with_state, after_offered_maintenance}
+use Rattle.ddcmp_session.specs.declared.line_end.LineEnd.{LineEnd}
 use Rattle.ddcmp_session.specs.Calls.{SessionCall, InputRead, InputEnded, Connected, LineEnded}
 use Rattle.ddcmp_session.specs.Calls.{Received as Heard, Filled, LineTook, TimedOut, TimePassed}
 use Rattle.ddcmp_session.specs.Calls.{Delivered, OutputTook, Closed, SessionDoes, HasClosed}
@@ -524,8 +525,9 @@ input-ended old new does =
     (λ halted. same-stays (station_of old) (station_of new) halted
     (ap station_of does ∙ ended-station old halted))
 
-pub line-ended : (r : Bool) (old new : SessionView) → HasLeft r old new → LosesLine old new
-line-ended r old new does = record {
+pub line-ended : (how : LineEnd) (r : Bool) (old new : SessionView) → HasLeft how r old new
+    → LosesLine old new
+line-ended how r old new does = record {
   state = ap (λ (d : LinkView). d.station.core.station.state) does.link;
   out = ap (λ (d : LinkView). d.station.core.station.out) does.link;
   lost = λ e.
@@ -553,7 +555,7 @@ pub outcome : (call : SessionCall) (text : List ℕ) (old new : SessionView)
 outcome (InputRead used) text old new d = input_read used old new d.state
 outcome InputEnded text old new d = input-ended old new d
 outcome Connected text old new d = inr (inr d.0)
-outcome (LineEnded r) text old new d = inr (inl (line-ended r old new d))
+outcome (LineEnded how r) text old new d = inr (inl (line-ended how r old new d))
 outcome (Heard used) text old new d =
     let to = record old { link = new.link; course = new.course; output = new.output } in
     inl (record {

@@ -15,7 +15,7 @@ does-so : (call : SessionCall) (text : List ℕ) (old new : SessionView)
 does-so Connected text old new d = inr (inr d)
 does-so (InputRead used) text old new d = outcome (InputRead used) text old new d
 does-so InputEnded text old new d = outcome InputEnded text old new d
-does-so (LineEnded r) text old new d = outcome (LineEnded r) text old new d
+does-so (LineEnded how r) text old new d = outcome (LineEnded how r) text old new d
 does-so (Received used) text old new d = outcome (Received used) text old new d
 does-so (Filled n) text old new d = outcome (Filled n) text old new d
 does-so (LineTook n) text old new d = outcome (LineTook n) text old new d
@@ -31,7 +31,7 @@ pub session-after : (call : SessionCall) (new : SessionView) (c : Connection)
 session-after Connected new c = refl
 session-after (InputRead used) new c = refl
 session-after InputEnded new c = refl
-session-after (LineEnded r) new c = refl
+session-after (LineEnded how r) new c = refl
 session-after (Received used) new c = refl
 session-after (Filled n) new c = refl
 session-after (LineTook n) new c = refl

@@ -105,8 +105,8 @@ step-once (InputRead used) new rest c d once bare =
     goes-on (InputRead used) new rest c refl d refl once bare
 step-once InputEnded new rest c d once bare =
     goes-on InputEnded new rest c refl d refl once bare
-step-once (LineEnded r) new rest c d once bare =
-    goes-on (LineEnded r) new rest c refl d refl once bare
+step-once (LineEnded how r) new rest c d once bare =
+    goes-on (LineEnded how r) new rest c refl d refl once bare
 step-once (Received used) new rest c d once bare =
     goes-on (Received used) new rest c refl d refl once bare
 step-once (Filled n) new rest c d once bare =

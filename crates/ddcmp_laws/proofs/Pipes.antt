@@ -175,7 +175,7 @@ call_starts InputEnded s new = by (takes_end s)
         (message_in (after_last s.messages)) new
     by false = refl
 call_starts Connected s new = refl
-call_starts (LineEnded r) s new = refl
+call_starts (LineEnded how r) s new = refl
 call_starts (Received used) s new = refl
 call_starts (Filled frames) s new = frames_start_none frames s.link
 call_starts (LineTook n) s new = refl

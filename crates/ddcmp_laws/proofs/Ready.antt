@@ -27,7 +27,7 @@ starts-ready Connected s room ready =
     starts-new s (none_first s.link.station.core.station.inbox (ready room))
 starts-ready (InputRead used) s room ready = tt
 starts-ready InputEnded s room ready = tt
-starts-ready (LineEnded r) s room ready = tt
+starts-ready (LineEnded how r) s room ready = tt
 starts-ready (Received used) s room ready = tt
 starts-ready (Filled n) s room ready = tt
 starts-ready (LineTook n) s room ready = tt

@@ -6,8 +6,9 @@ use Rattle.std.proofs.lemmas.Bool.Decides.{nat_tests}
 use Rattle.std.proofs.Math.Seq.{take-append_seam, drop-append_seam}
 use Rattle.ddcmp_input.specs.InBinary.{behind_length}
 use Rattle.ddcmp_streams.specs.declared.messages.MessageForm.TheVariants as form
-use Rattle.ddcmp_session.specs.Calls.{Shown, Mail, Reports, Loses}
-use Rattle.ddcmp_session.specs.Text.{dropped_by, event_text, lost_text, lost_words, notice_words}
+use Rattle.ddcmp_session.specs.Calls.{Shown, Mail, Reports, Leaves, Loses}
+use Rattle.ddcmp_session.specs.Text.{dropped_by, event_text, line_down_words, lost_text}
+use Rattle.ddcmp_session.specs.Text.{lost_words, notice_words}
 use Rattle.ddcmp_laws.specs.Sessions.{AreShort, mail_among, mail_in, texts_of}
 
 -- a text of which these are the messages
@@ -81,5 +82,8 @@ only-mail-read (Reports notice ∷ rest) short =
     short.0.0
     (of-loss (dropped_by notice) (texts_of form.Events rest) (mail_in rest) short.0.1
     (only-mail-read rest short.1)))
+only-mail-read (Leaves how ∷ rest) short =
+    of-event (line_down_words how) (texts_of form.Events rest) (mail_in rest) short.0
+    (only-mail-read rest short.1)
 only-mail-read (Loses count ∷ rest) short =
     of-loss count (texts_of form.Events rest) (mail_in rest) short.0 (only-mail-read rest short.1)

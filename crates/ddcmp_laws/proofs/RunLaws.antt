@@ -103,7 +103,7 @@ read-step InputEnded h new plain of d =
     (after_unfinished (after_last_line h.session)) new d
 read-step Connected h new plain of d =
     same-read h.is_told h.session new (same-at (λ s. s.is_read) new _ d)
-read-step (LineEnded r) h new plain of d =
+read-step (LineEnded how r) h new plain of d =
     same-read h.is_told h.session new (same-at (λ s. s.is_read) new _ d.stays)
 read-step (Received used) h new plain of d =
     same-read h.is_told h.session new (same-at (λ s. s.is_read) new _ d.stays)
@@ -129,7 +129,7 @@ told-after : (call : SessionCall) (new : SessionView) (c : Connection)
 told-after Connected new c = refl
 told-after (InputRead used) new c = refl
 told-after InputEnded new c = refl
-told-after (LineEnded r) new c = refl
+told-after (LineEnded how r) new c = refl
 told-after (Received used) new c = refl
 told-after (Filled n) new c = refl
 told-after (LineTook n) new c = refl

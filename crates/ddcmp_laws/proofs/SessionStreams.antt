@@ -132,7 +132,7 @@ shape InputEnded s new = by (takes_end s)
         (message_in (after_last s.messages)) new)
     by false = inl tt
 shape Connected s new = inl (tt, tt)
-shape (LineEnded r) s new = inl (tt, tt)
+shape (LineEnded how r) s new = inl (tt, tt)
 shape (Received used) s new = inr (link_step (Feeds used) new, refl)
 shape (Filled frames) s new = inl (frames_still frames s.link)
 shape (LineTook n) s new = inr (link_step (IsSent n) new, refl)

@@ -3,6 +3,8 @@ use Rattle.std.proofs.Common.{◌≡◌, ◌∙◌, ap, sym, subst, refl, ℕ, B
 use Rattle.std.proofs.Common.{◌∷◌, ◌++◌, append-nil, map, Option, Some}
 use Rattle.std.proofs.Common.{None}
 use Rattle.std.specs.Prelude.{◌==◌, ◌&&◌, codes, decimal}
+use Rattle.std.specs.declared.io.ErrorKind.{ErrorKind}
+use Rattle.std.specs.declared.io.ErrorKind.TheVariants as kind
 use Rattle.hex.specs.Hex.{encode_lower}
 use Rattle.ddcmp_core.specs.declared.counters.Counters.{Counters}
 use Rattle.ddcmp_core.specs.declared.counters.NakCounts.{NakCounts}
@@ -11,6 +13,8 @@ use Rattle.ddcmp_core.specs.declared.notice.Notice.TheVariants as notice
 use Rattle.ddcmp_core.specs.declared.state.State.{State}
 use Rattle.ddcmp_core.specs.declared.state.State.TheVariants.{Halted, IStart, AStart, Running}
 use Rattle.ddcmp_core.specs.declared.state.State.TheVariants.{Maintenance}
+use Rattle.ddcmp_io.specs.Causes.{failure_words}
+use Rattle.ddcmp_io.specs.declared.transfer.Down.TheVariants.{Closed, Failed}
 use Rattle.ddcmp_pair.specs.Prefix.{IsPrefixOf}
 use Rattle.ddcmp_station.specs.declared.counts.Layout.TheVariants.{Text}
 use Rattle.ddcmp_station.specs.CountersText.{counter_text, counters_line, counts_text}
@@ -18,10 +22,14 @@ use Rattle.ddcmp_station.specs.CountersText.{fault_counts_text, nak_counts_text,
 use Rattle.ddcmp_station.specs.Linking.{LinkView}
 use Rattle.ddcmp_station.specs.StationText.{notice_line, notice_number, notice_word, number_text}
 use Rattle.ddcmp_station.specs.StationText.{state_text}
-use Rattle.ddcmp_streams.specs.declared.messages.MessageForm.TheVariants.{Digits}
-use Rattle.ddcmp_session.specs.Calls.{Shown, Mail, Reports, Loses}
+use Rattle.ddcmp_streams.specs.declared.messages.MessageForm.{MessageForm}
+use Rattle.ddcmp_streams.specs.declared.messages.MessageForm.TheVariants.{Digits, EventLines}
+use Rattle.ddcmp_session.specs.Calls.{Shown, Mail, Reports, Leaves, Loses}
+use Rattle.ddcmp_session.specs.declared.line_end.LineEnd.{LineEnd}
+use Rattle.ddcmp_session.specs.declared.line_end.LineEnd.TheVariants.{Down, GivenUp, Halted}
+use Rattle.ddcmp_session.specs.declared.line_end.LineEnd.TheVariants.{Restarted}
 use Rattle.ddcmp_session.specs.EndText.{end_line, end_text, totals_text}
-use Rattle.ddcmp_session.specs.Text.{dropped_by, lost_text}
+use Rattle.ddcmp_session.specs.Text.{dropped_by, line_end_words, lost_text}
 use Rattle.ddcmp_laws.specs.MailLines.{mails_in}
 use Rattle.ddcmp_laws.specs.Prefix.{Begins}
 use Rattle.ddcmp_laws.specs.Sessions.{mail_in, text_of, texts_of}
@@ -66,30 +74,113 @@ lost_tells count = by (count == 0)
     by true = λ rest. refl
     by false = tells_line (codes "lost " ++ decimal count) (decimal_plain count)
 
-shown_tells : (one : Shown) → Tells (text_of Digits one) (map encode_lower (mail_in (one ∷ [])))
-unfolding mail_in
-shown_tells (Mail message) = mail_tells message
-shown_tells (Reports n) =
+notices_tell : (n : Notice) → Tells (text_of Digits (Reports n)) []
+notices_tell n =
     tells_more (notice_line [] n) (lost_text Digits (dropped_by n)) [] [] (notice_tells n)
     (lost_tells (dropped_by n))
-shown_tells (Loses count) = lost_tells count
+
+failure_plain : (kind : ErrorKind) → is_plain (failure_words kind) ≡ true
+failure_plain kind.NotFound = refl
+failure_plain kind.PermissionDenied = refl
+failure_plain kind.ConnectionRefused = refl
+failure_plain kind.ConnectionReset = refl
+failure_plain kind.HostUnreachable = refl
+failure_plain kind.NetworkUnreachable = refl
+failure_plain kind.ConnectionAborted = refl
+failure_plain kind.NotConnected = refl
+failure_plain kind.AddrInUse = refl
+failure_plain kind.AddrNotAvailable = refl
+failure_plain kind.NetworkDown = refl
+failure_plain kind.BrokenPipe = refl
+failure_plain kind.AlreadyExists = refl
+failure_plain kind.WouldBlock = refl
+failure_plain kind.NotADirectory = refl
+failure_plain kind.IsADirectory = refl
+failure_plain kind.DirectoryNotEmpty = refl
+failure_plain kind.ReadOnlyFilesystem = refl
+failure_plain kind.FilesystemLoop = refl
+failure_plain kind.StaleNetworkFileHandle = refl
+failure_plain kind.InvalidInput = refl
+failure_plain kind.InvalidData = refl
+failure_plain kind.TimedOut = refl
+failure_plain kind.WriteZero = refl
+failure_plain kind.StorageFull = refl
+failure_plain kind.NotSeekable = refl
+failure_plain kind.QuotaExceeded = refl
+failure_plain kind.FileTooLarge = refl
+failure_plain kind.ResourceBusy = refl
+failure_plain kind.ExecutableFileBusy = refl
+failure_plain kind.Deadlock = refl
+failure_plain kind.CrossesDevices = refl
+failure_plain kind.TooManyLinks = refl
+failure_plain kind.InvalidFilename = refl
+failure_plain kind.ArgumentListTooLong = refl
+failure_plain kind.Interrupted = refl
+failure_plain kind.Unsupported = refl
+failure_plain kind.UnexpectedEof = refl
+failure_plain kind.OutOfMemory = refl
+failure_plain kind.InProgress = refl
+failure_plain kind.Other = refl
+failure_plain kind.Uncategorized = refl
+
+end_plain : (how : LineEnd) → is_plain (line_end_words how) ≡ true
+end_plain (Down Closed) = refl
+end_plain (Down (Failed kind)) = failure_plain kind
+end_plain Halted = refl
+end_plain Restarted = refl
+end_plain GivenUp = refl
+
+-- ---- the text of all
+
+TellsEach : MessageForm → Type 0
+TellsEach f = (one : Shown) → Tells (text_of f one) (map encode_lower (mail_in (one ∷ [])))
+
+in_digits : TellsEach Digits
+unfolding TellsEach mail_in
+in_digits (Mail message) = mail_tells message
+in_digits (Reports n) = notices_tell n
+in_digits (Leaves how) = λ rest. refl
+in_digits (Loses count) = lost_tells count
+
+in_event_lines : TellsEach EventLines
+unfolding TellsEach mail_in
+in_event_lines (Mail message) = mail_tells message
+in_event_lines (Reports n) = notices_tell n
+in_event_lines (Leaves how) =
+    tells_line (codes "line down: " ++ line_end_words how) (end_plain how)
+in_event_lines (Loses count) = lost_tells count
 
 map_more : (xs ys : List (List ℕ))
     → map encode_lower (xs ++ ys) ≡ map encode_lower xs ++ map encode_lower ys
 map_more [] ys = refl
 map_more (x ∷ xs) ys = ap (λ zs. encode_lower x ∷ zs) (map_more xs ys)
 
-pub all_tell : (shown : List Shown)
-    → Tells (texts_of Digits shown) (map encode_lower (mail_in shown))
-unfolding texts_of mail_in
-all_tell [] = λ rest. refl
-all_tell (one ∷ shown) =
-    subst (λ ms. Tells (text_of Digits one ++ texts_of Digits shown) ms)
+each_tells : (f : MessageForm) → TellsEach f → (shown : List Shown)
+    → Tells (texts_of f shown) (map encode_lower (mail_in shown))
+unfolding TellsEach texts_of mail_in
+each_tells f tells [] = λ rest. refl
+each_tells f tells (one ∷ shown) =
+    subst (λ ms. Tells (text_of f one ++ texts_of f shown) ms)
     (sym (map_more (mail_in (one ∷ [])) (mail_in shown))
     ∙ ap (map encode_lower) (sym (mail_more (one ∷ []) shown)))
-    (tells_more (text_of Digits one) (texts_of Digits shown)
+    (tells_more (text_of f one) (texts_of f shown)
     (map encode_lower (mail_in (one ∷ []))) (map encode_lower (mail_in shown))
-    (shown_tells one) (all_tell shown))
+    (tells one) (each_tells f tells shown))
+
+pub all_tell : (shown : List Shown)
+    → Tells (texts_of Digits shown) (map encode_lower (mail_in shown))
+all_tell shown = each_tells Digits in_digits shown
+
+pub digits_tell : (shown : List Shown)
+    → mails_in (texts_of Digits shown) ≡ map encode_lower (mail_in shown)
+digits_tell shown =
+    tells_all (texts_of Digits shown) (map encode_lower (mail_in shown)) (all_tell shown)
+
+pub events_tell : (shown : List Shown)
+    → mails_in (texts_of EventLines shown) ≡ map encode_lower (mail_in shown)
+events_tell shown =
+    tells_all (texts_of EventLines shown) (map encode_lower (mail_in shown))
+    (each_tells EventLines in_event_lines shown)
 
 -- ---- the last lines
 

@@ -19,7 +19,7 @@ use Rattle.ddcmp_core.specs.Table.{after_start, is_on}
 use Rattle.ddcmp_core.specs.Table.{after_startup, next_maintenance, next_running, reply_to_offer}
 use Rattle.ddcmp_laws.specs.StateTable.{Acknowledge, Action, Comes, Deliver, HandOver}
 use Rattle.ddcmp_laws.specs.StateTable.{HaltRequested}
-use Rattle.ddcmp_laws.specs.StateTable.{Input, OweAck, OweNak, OweRep, StartRequested, StopTimer}
+use Rattle.ddcmp_laws.specs.StateTable.{Input, OweNak, OweRep, StartRequested, StopTimer}
 use Rattle.ddcmp_laws.specs.StateTable.{OweForMessage}
 use Rattle.ddcmp_laws.specs.StateTable.{TimerExpires, act_all}
 use Rattle.ddcmp_laws.specs.StateTable.{by_table, effects_in, next_by_table, run, state_table}

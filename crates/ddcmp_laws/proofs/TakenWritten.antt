@@ -92,7 +92,7 @@ options_stay step h does = by step.call step.session does
         ap options_of d.state ∙ entries_same (entries_of_input used h.session.messages) s
     by InputEnded new d = ap options_of d ∙ ended_same h.session
     by Connected new d = ap options_of d.0
-    by (LineEnded r) new d = ap options_of d.stays
+    by (LineEnded how r) new d = ap options_of d.stays
     by (Received used) new d = ap options_of d.stays
     by (Filled frames) new d = ap options_of d.0
     by (LineTook n) new d = ap options_of d
@@ -208,8 +208,8 @@ module _ (f : MessageForm) (max : ℕ) (h : SessionHistory) (holds : Holds f max
       ended false = refl
   by_call Connected new d =
       quiet f max (to Connected new) h d holds late p (append-nil (taken_of h.session h.shown))
-  by_call (LineEnded r) new d =
-      quiet f max (to (LineEnded r) new) h d holds late p
+  by_call (LineEnded how r) new d =
+      quiet f max (to (LineEnded how r) new) h d holds late p
       (append-nil (taken_of h.session h.shown))
   by_call (Received used) new d =
       quiet f max (to (Received used) new) h d holds late p

@@ -11,8 +11,9 @@ use Rattle.ddcmp_streams.specs.declared.messages.MessageForm.TheVariants as form
 use Rattle.ddcmp_io.specs.Queue.{QueueView}
 use Rattle.ddcmp_session.specs.Session.{SessionView, lost_by_end}
 use Rattle.ddcmp_session.specs.Text.{Wrote, notice_text, notices_text, mail_text, lost_text}
-use Rattle.ddcmp_session.specs.Text.{reported_lost}
-use Rattle.ddcmp_session.specs.Calls.{Shown, Mail, Reports, Loses, losses}
+use Rattle.ddcmp_session.specs.Text.{line_end_text, reported_end, reported_lost}
+use Rattle.ddcmp_session.specs.Calls.{Shown, Mail, Reports, Leaves, Loses, ends, losses}
+use Rattle.ddcmp_session.specs.declared.line_end.LineEnd.{LineEnd}
 use Rattle.ddcmp_laws.specs.Sessions.{mail_of, mail_in, text_of, texts_of}
 
 pub mail_more : (xs ys : List Shown) → mail_in (xs ++ ys) ≡ mail_in xs ++ mail_in ys
@@ -31,6 +32,11 @@ pub mail_is : (messages : List (List ℕ)) → mail_in (map Mail messages) ≡ m
 unfolding mail_in
 mail_is [] = refl
 mail_is (m ∷ rest) = ap (λ ms. m ∷ ms) (mail_is rest)
+
+pub no_mail_ends : (how : LineEnd) (r : Bool) (s : SessionView) → mail_in (ends how r s) ≡ []
+unfolding mail_in
+no_mail_ends how true s = refl
+no_mail_ends how false s = refl
 
 pub nothing_lost : (r : Bool) (s : SessionView) → mail_in (losses r s) ≡ []
 unfolding mail_in
@@ -64,6 +70,13 @@ pub lost_text_is : (r : Bool) (f : MessageForm) (s : SessionView)
 unfolding texts_of
 lost_text_is true f s = sym (append-nil (lost_text f (lost_by_end s)))
 lost_text_is false f s = refl
+
+pub end_text_is : (how : LineEnd) (r : Bool) (f : MessageForm) (s : SessionView)
+    → reported_end r f how (lost_by_end s) ≡ texts_of f (ends how r s)
+unfolding texts_of
+end_text_is how true f s =
+    ap (λ t. line_end_text f how ++ t) (sym (append-nil (lost_text f (lost_by_end s))))
+end_text_is how false f s = refl
 
 pub no_text : (f : MessageForm) → [] ≡ texts_of f []
 unfolding texts_of
@@ -108,6 +121,7 @@ unfolding texts_of in_binary mail_in
 only_mail [] = refl
 only_mail (Mail message ∷ rest) = ap (λ t. mail_text form.Binary message ++ t) (only_mail rest)
 only_mail (Reports notice ∷ rest) = only_mail rest
+only_mail (Leaves how ∷ rest) = only_mail rest
 only_mail (Loses count ∷ rest) = only_mail rest
 
 pub binary_more : (xs ys : List (List ℕ)) → in_binary (xs ++ ys) ≡ in_binary xs ++ in_binary ys
@@ -116,11 +130,3 @@ binary_more [] ys = refl
 binary_more (x ∷ xs) ys =
     ap (λ t. behind_length x ++ t) (binary_more xs ys)
     ∙ sym (append_assoc (behind_length x) (in_binary xs) (in_binary ys))
-
--- in lines a text is the same with events
-pub same_lines : (shown : List Shown) → texts_of form.EventLines shown ≡ texts_of form.Digits shown
-unfolding texts_of
-same_lines [] = refl
-same_lines (Mail message ∷ rest) = ap (λ t. mail_text form.Digits message ++ t) (same_lines rest)
-same_lines (Reports n ∷ rest) = ap (λ t. notice_text form.Digits n ++ t) (same_lines rest)
-same_lines (Loses count ∷ rest) = ap (λ t. lost_text form.Digits count ++ t) (same_lines rest)

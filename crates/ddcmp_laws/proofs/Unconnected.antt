@@ -44,7 +44,7 @@ use Rattle.ddcmp_laws.specs.Sessions.{mail_in}
 use Rattle.ddcmp_laws.proofs.Losing.{end-halted, entries-halted, entries-keep, frames-halted}
 use Rattle.ddcmp_laws.proofs.Losing.{input-halted}
 use Rattle.ddcmp_laws.proofs.Losing.{items-halted, station_of, wake-halted}
-use Rattle.ddcmp_laws.proofs.Texts.{no_mail, nothing_lost}
+use Rattle.ddcmp_laws.proofs.Texts.{no_mail, no_mail_ends, nothing_lost}
 
 -- ---- a session without a line holds nothing
 
@@ -311,14 +311,14 @@ unfolding mail_in
 call-none Connected none text old new d was = cc
 call-none (InputRead used) none text old new d was = input_read-none used text old new d was
 call-none InputEnded none text old new d was = ended-none text old new d was
-call-none (LineEnded r) none text old new d was = record {
+call-none (LineEnded how r) none text old new d was = record {
   idle =
       halted-idle old new (ap (λ (x : SessionView). x.has_line) d.stays) d.link
       (ap (λ (x : SessionView). x.course.has_run) d.stays) was;
   used = refl;
   gone = refl;
   input = refl;
-  mail = nothing_lost r old;
+  mail = no_mail_ends how r old;
 }
 call-none (Received used) none text old new d was = received-none used text old new d was
 call-none (Filled n) none text old new d was = record {

@@ -23,15 +23,15 @@ use Rattle.ddcmp_streams.specs.Messages.{entry_of_last, is_message_unfinished}
 use Rattle.ddcmp_session.specs.Session.{SessionView, form_of, takes_end, after_entries}
 use Rattle.ddcmp_session.specs.Session.{after_last_line, after_unfinished, after_input_end}
 use Rattle.ddcmp_session.specs.Session.{lost_by_end, next_mail}
-use Rattle.ddcmp_session.specs.Text.{reported_lost, mail_text, notices_text}
+use Rattle.ddcmp_session.specs.Text.{reported_end, reported_lost, mail_text, notices_text}
 use Rattle.ddcmp_session.specs.Calls.{SessionCall, InputRead, InputEnded, Connected, LineEnded}
 use Rattle.ddcmp_session.specs.Calls.{Received, Filled, LineTook, TimedOut, TimePassed, Delivered}
-use Rattle.ddcmp_session.specs.Calls.{OutputTook, Closed, SessionDoes, Mail, Reports, losses}
+use Rattle.ddcmp_session.specs.Calls.{OutputTook, Closed, SessionDoes, Mail, Reports, ends, losses}
 use Rattle.ddcmp_session.specs.Calls.{SessionHistory, SessionStep, new_session, IsSessionHistory}
 use Rattle.ddcmp_session.specs.Calls.{after_session_step, after_session_steps}
 use Rattle.ddcmp_session.proofs.InputLaws.{form-stays}
 use Rattle.ddcmp_laws.proofs.Texts.{IsText, writes, keeps, took, no_text, notices_are}
-use Rattle.ddcmp_laws.proofs.Texts.{mail_text_is, lost_text_is}
+use Rattle.ddcmp_laws.proofs.Texts.{end_text_is, mail_text_is, lost_text_is}
 
 pub record Writes (f : MessageForm) (h : SessionHistory) : Type 0 where
   pub kind : form_of h.session.messages ≡ f
@@ -134,11 +134,12 @@ writes_step f step h does w = by step.call step.session does
       kind = ap (λ (x : SessionView). form_of x.messages) d.0 ∙ w.kind;
       text = text_stays f h new w (ap (λ (x : SessionView). x.output) d.0);
     }
-    by (LineEnded r) new d = record {
+    by (LineEnded how r) new d = record {
       kind = ap (λ (x : SessionView). form_of x.messages) d.stays ∙ w.kind;
-      text = writes f h.written h.shown (losses r h.session) h.session.output new.output
-          (reported_lost r (form_of h.session.messages) (lost_by_end h.session)) w.text d.wrote
-          (lost r ∙ lost_text_is r f h.session);
+      text = writes f h.written h.shown (ends how r h.session) h.session.output new.output
+          (reported_end r (form_of h.session.messages) how (lost_by_end h.session)) w.text d.wrote
+          (ap (λ g. reported_end r g how (lost_by_end h.session)) w.kind
+          ∙ end_text_is how r f h.session);
     }
     by (Received used) new d =
         let notices = notices_of_piece h.used used h.session.link.station.core in

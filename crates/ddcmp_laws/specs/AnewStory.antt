@@ -4,7 +4,9 @@ use Rattle.std.specs.Prelude.{◌≡◌, true, List, [], ◌∷◌, ◌++◌}
 use Rattle.ddcmp_frame.specs.Reader.{ReaderView}
 use Rattle.ddcmp_io.specs.declared.carrier.End.{End}
 use Rattle.ddcmp_io.specs.declared.carrier.End.TheVariants.{A, B}
+use Rattle.ddcmp_io.specs.declared.transfer.Down.TheVariants.{Closed}
 use Rattle.ddcmp_session.specs.Session.{is_delivered}
+use Rattle.ddcmp_session.specs.declared.line_end.LineEnd.TheVariants.{Down}
 use Rattle.ddcmp_laws.specs.Vectors.{abc}
 use Rattle.ddcmp_session.specs.Calls.{SessionCall, Connected, LineEnded, Filled, LineTook}
 use Rattle.ddcmp_session.specs.Calls.{SessionStep}
@@ -22,7 +24,7 @@ steps_anew_by (one ∷ rest) p =
 abbrev pub calls_anew : List (End × SessionCall)
 calls_anew =
     (A, Connected) ∷ (B, Connected) ∷ (A, Filled 1) ∷ (A, LineTook 8)
-    ∷ (A, LineEnded true) ∷ (B, LineEnded true) ∷ [] ++ pipe_calls
+    ∷ (A, LineEnded (Down Closed) true) ∷ (B, LineEnded (Down Closed) true) ∷ [] ++ pipe_calls
 
 abbrev pub small_connections : ReaderView → ReaderView → Connections
 small_connections line other_line = first_connections (small_made line) (small_made other_line)

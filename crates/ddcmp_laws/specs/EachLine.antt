@@ -13,7 +13,7 @@ use Rattle.ddcmp_laws.specs.Sessions.{IsTakenAsWritten, mail_in}
 
 abbrev pub EndsALine : SessionCall → Type 0
 EndsALine Connected = ⊤
-EndsALine (LineEnded is_reported) = ⊤
+EndsALine (LineEnded how is_reported) = ⊤
 EndsALine _ = ⊥
 
 -- The line of a run is over if these steps follow: it ends now, or the session is connected again,

@@ -46,7 +46,7 @@ abbrev pub session_after : SessionCall → SessionHistory → SessionView
 session_after (InputRead used) h = after_input_read used h.session
 session_after InputEnded h = after_input_end h.session
 session_after Connected h = after_connected h.session.link.station.line h.session
-session_after (LineEnded r) h = after_shown (LineEnded r) h
+session_after (LineEnded how r) h = after_shown (LineEnded how r) h
     (record h.session {
       link = with_state (after_halt h.session.link.station.core.station) h.session.link;
       has_line = false;

@@ -15,13 +15,14 @@ use Rattle.ddcmp_streams.specs.Messages.{entry_of_last, has_events}
 use Rattle.ddcmp_session.specs.Session.{SessionView, link_begun, taken_at_once, taken_when_written}
 use Rattle.ddcmp_session.specs.Session.{takes_end}
 use Rattle.ddcmp_session.specs.Text.{mail_text, notice_text, lost_text, dropped_by, lost_words, notice_words}
+use Rattle.ddcmp_session.specs.Text.{line_down_words, line_end_text}
 use Rattle.ddcmp_laws.specs.Links.{LinkCall, BeginsAnew, Halts, Wakes, Offers, FillsOne}
 use Rattle.ddcmp_laws.specs.Links.{IsSent, Feeds, Takes, LinkStep, LinkHistory, new_history}
 use Rattle.ddcmp_laws.specs.Prefix.{Begins}
 use Rattle.ddcmp_session.specs.Calls.{SessionCall, InputRead, InputEnded, Connected, LineEnded}
 use Rattle.ddcmp_session.specs.Calls.{Received, Filled, LineTook, TimedOut, TimePassed, Delivered}
 use Rattle.ddcmp_session.specs.Calls.{OutputTook}
-use Rattle.ddcmp_session.specs.Calls.{Closed, Shown, Mail, Reports, Loses, SessionHistory}
+use Rattle.ddcmp_session.specs.Calls.{Closed, Shown, Mail, Reports, Leaves, Loses, SessionHistory}
 use Rattle.ddcmp_session.specs.Calls.{SessionStep, after_session_step}
 use Rattle.ddcmp_input.specs.HexLines as hex
 use Rattle.ddcmp_input.specs.InBinary as binary
@@ -64,6 +65,7 @@ mail_in (one ∷ rest) = mail_of one ++ mail_in rest
 abbrev pub text_of : MessageForm → Shown → List ℕ
 text_of form (Mail message) = mail_text form message
 text_of form (Reports notice) = notice_text form notice
+text_of form (Leaves how) = line_end_text form how
 text_of form (Loses count) = lost_text form count
 
 unfoldable pub texts_of : MessageForm → List Shown → List ℕ
@@ -86,6 +88,7 @@ abbrev pub IsShort : Shown → Type 0
 IsShort (Mail message) = length message < 32768
 IsShort (Reports notice) =
     (length (notice_words notice) < 32768) × (length (lost_words (dropped_by notice)) < 32768)
+IsShort (Leaves how) = length (line_down_words how) < 32768
 IsShort (Loses count) = length (lost_words count) < 32768
 
 unfoldable pub AreShort : List Shown → Type 0
@@ -126,7 +129,7 @@ link_steps_of InputEnded s new =
     new
     else []
 link_steps_of Connected s new = link_step BeginsAnew new ∷ []
-link_steps_of (LineEnded is_reported) s new = link_step Halts new ∷ []
+link_steps_of (LineEnded how is_reported) s new = link_step Halts new ∷ []
 link_steps_of (Received used) s new = link_step (Feeds used) new ∷ []
 link_steps_of (Filled frames) s new = frames_put frames s.link
 link_steps_of (LineTook n) s new = link_step (IsSent n) new ∷ []

@@ -8,14 +8,14 @@ ghost use Rattle.ddcmp_proto.specs.Config.{first_refusal};
 ghost use Rattle.ddcmp_station.specs.Linking.{countable};
 ghost use Rattle.ddcmp_streams.specs.Messages.{entries_of_input};
 ghost use Rattle.ddcmp_session.specs.Session.{wants_input, wants_line, room_for_mail};
-ghost use Rattle.ddcmp_session.specs.Session.{next_mail, reports_loss};
+ghost use Rattle.ddcmp_session.specs.Session.{next_mail, reports_end, reports_loss};
 ghost use Rattle.ddcmp_session.specs.Calls.{SessionDoes, InputRead, InputEnded};
 ghost use Rattle.ddcmp_session.specs.Calls.{Connected, LineEnded};
 ghost use Rattle.ddcmp_session.specs.Calls.{Received, Filled, LineTook, TimedOut, Delivered};
 ghost use Rattle.ddcmp_session.specs.Calls.{OutputTook, Closed, new_session};
 ghost use Rattle.ddcmp_session.specs.Connections.{Does};
 
-use ddcmp_session::{LineKind, Options, Session};
+use ddcmp_session::{LineEnd, LineKind, Options, Session};
 use ddcmp_station::ConfigRefusal;
 use std::alloc::Global;
 
@@ -62,14 +62,14 @@ pub fn connects(session: &mut Session) -> bool
     session.connected()
 }
 
-/// Handles the end of the line; returns whether there was room to report what is lost.
-pub fn ends_line(session: &mut Session) -> bool
+/// Handles this end of the line; returns whether there was room to report it and what is lost.
+pub fn ends_line(session: &mut Session, how: LineEnd) -> bool
     ensures done { (text : List ℕ)
-        → SessionDoes (LineEnded result) text session.old.state session.new.state }
-    ensures when { result ≡ reports_loss session.old.state }
+        → SessionDoes (LineEnded how result) text session.old.state session.new.state }
+    ensures when { result ≡ reports_end session.old.state }
     ensures line { session.new.state.link.station.line ≡ session.old.state.link.station.line }
 {
-    session.line_ended()
+    session.line_ended(how)
 }
 
 /// Handles bytes of the line and returns how many were used.

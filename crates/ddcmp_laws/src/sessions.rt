@@ -1,11 +1,13 @@
 //! A session does what its link does, and writes the text of that.
-ghost use Rattle.std.specs.Prelude.{◌≡◌, ◌≤◌, ◌++◌, ℕ, false, List, length};
+ghost use Rattle.std.specs.Prelude.{◌≡◌, ◌≤◌, ◌++◌, ℕ, false, List, length, map};
+ghost use Rattle.hex.specs.Hex.{encode_lower};
 ghost use Rattle.ddcmp_frame.specs.Reader.{ReaderView};
 ghost use Rattle.ddcmp_input.specs.InBinary.{in_binary};
 ghost use Rattle.ddcmp_io.specs.declared.line_kind.LineKind.{LineKind as LineKindValue};
 ghost use Rattle.ddcmp_streams.specs.declared.options.Options.{Options as OptionsValue};
 ghost use Rattle.ddcmp_streams.specs.declared.messages.MessageForm.TheVariants.{Binary, Digits};
 ghost use Rattle.ddcmp_streams.specs.declared.messages.MessageForm.TheVariants.{EventLines, Events};
+ghost use Rattle.ddcmp_laws.specs.MailLines.{mails_in};
 ghost use Rattle.ddcmp_laws.specs.Links.{IsHistory, after_history, offered_in};
 ghost use Rattle.ddcmp_session.specs.Calls.{SessionStep, new_session, IsSessionHistory};
 ghost use Rattle.ddcmp_session.specs.Calls.{after_session_steps, Shown};
@@ -54,8 +56,8 @@ pub fn takes_what_is_written()
 /// The bytes that a new session wrote to standard output, and then those queued for it, are the
 /// text of the messages that were delivered and of what was reported, in their order. In binary
 /// they are the messages alone, each after its length; with events, a reader that skips each record
-/// whose length has the top bit set gets exactly the messages. In lines they are the same with
-/// events and without.
+/// whose length has the top bit set gets exactly the messages. In lines, with events or without,
+/// they are what follows `mail ` in each line that begins with it.
 pub fn output_is_text_of()
     ensures text { (options : OptionsValue) (kind : LineKindValue) (line : ReaderView)
         (steps : List SessionStep)
@@ -69,5 +71,8 @@ pub fn output_is_text_of()
     ensures events { (shown : List Shown) → AreShort shown → (n : ℕ)
         → length (texts_of Events shown) ≤ n
         → mail_among n (texts_of Events shown) ≡ mail_in shown }
-    ensures lines { (shown : List Shown) → texts_of EventLines shown ≡ texts_of Digits shown }
+    ensures lines { (shown : List Shown) → mails_in (texts_of Digits shown)
+        ≡ map encode_lower (mail_in shown) }
+    ensures event_lines { (shown : List Shown) → mails_in (texts_of EventLines shown)
+        ≡ map encode_lower (mail_in shown) }
 {}

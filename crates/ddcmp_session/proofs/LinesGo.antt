@@ -21,6 +21,7 @@ use Rattle.ddcmp_session.specs.Lines.{none_received}
 use Rattle.ddcmp_session.specs.Timing.{PassesTime, after_failure, after_line}
 use Rattle.ddcmp_session.specs.declared.buffers.lines.Stop.TheVariants.{the_data, Device}
 use Rattle.ddcmp_session.specs.declared.devices.DeviceFault.{DeviceFault}
+use Rattle.ddcmp_session.specs.declared.line_end.LineEnd.{LineEnd}
 use Rattle.ddcmp_session.specs.Traffic.{LineLog, received, sent}
 use Rattle.ddcmp_session.specs.Orders.{Follows, log_after, log_over}
 use Rattle.ddcmp_session.proofs.GoingLaws.{end-is, quiet-agrees, stays}
@@ -44,7 +45,7 @@ one-over (Delivered has) new c of does = (does, refl)
 one-over (OutputTook n) new c of does = (does, refl)
 one-over TimePassed new c of does = absurd of
 one-over Connected new c of does = absurd of
-one-over (LineEnded reported) new c of does = absurd of
+one-over (LineEnded how reported) new c of does = absurd of
 one-over (Closed left over reported) new c of does = absurd of
 
 one-open : (call : SessionCall) → IsOfRun call → KeepsOpen call
@@ -58,7 +59,7 @@ one-open (Delivered has) of = tt
 one-open (OutputTook n) of = tt
 one-open TimePassed of = tt
 one-open Connected of = tt
-one-open (LineEnded reported) of = tt
+one-open (LineEnded how reported) of = tt
 one-open (Closed left over reported) of = absurd of
 
 all-open : (steps : List SessionStep) → AreOfRun steps → AllKeepOpen steps
@@ -93,7 +94,7 @@ one-ready (Delivered has) s of = tt
 one-ready (OutputTook n) s of = tt
 one-ready TimePassed s of = tt
 one-ready Connected s of = absurd of
-one-ready (LineEnded reported) s of = tt
+one-ready (LineEnded how reported) s of = tt
 one-ready (Closed left over reported) s of = tt
 
 all-ready : (steps : List SessionStep) (c : Connection) → AreOfRun steps → AllReady steps c
@@ -148,7 +149,7 @@ session-is : (call : SessionCall) (new : SessionView) (c : Connection)
 session-is (InputRead used) new c = refl
 session-is InputEnded new c = refl
 session-is Connected new c = refl
-session-is (LineEnded reported) new c = refl
+session-is (LineEnded how reported) new c = refl
 session-is (Received used) new c = refl
 session-is (Filled n) new c = refl
 session-is (LineTook n) new c = refl
@@ -214,21 +215,21 @@ module _ {held : BuffersView} {known : Option Traffic} (old new : SessionView)
     (form : form_of new.messages ≡ form_of old.messages)
     (reads : old.is_read ≡ true → new.is_read ≡ true)
     (line : new.link.station.line ≡ old.link.station.line) where
-  pub left-over : {R : Type 0} (reported : Bool) → HasLeft reported old new
+  pub left-over : {R : Type 0} (how : LineEnd) (reported : Bool) → HasLeft how reported old new
       → GoesIf R held old known held new known
   unfolding after_all log_over
-  left-over {R} reported does = λ c t is was a.
+  left-over {R} how reported does = λ c t is was a.
       let h = c.history in (
         t,
         was,
         record {
-          steps = record { call = LineEnded reported; session = new } ∷ [];
-          calls = (subst (λ (x : SessionView). HasLeft reported x new) (sym is) does, tt);
+          steps = record { call = LineEnded how reported; session = new } ∷ [];
+          calls = (subst (λ (x : SessionView). HasLeft how reported x new) (sym is) does, tt);
           only = (tt, tt);
           ready = λ begins. (tt, tt);
           session = refl;
           agrees =
-              quiet-agrees (LineEnded reported) held known h new t refl refl refl refl refl
+              quiet-agrees (LineEnded how reported) held known h new t refl refl refl refl refl
               (form ∙ sym (same-view (λ x. form_of x.messages) h.session old is))
               (λ e. reads (sym (same-view (λ x. x.is_read) h.session old is) ∙ e))
               (line ∙ sym (same-view (λ x. x.link.station.line) h.session old is)) a;
@@ -258,14 +259,15 @@ module _ {held : BuffersView} {known : Option Traffic} (old new : SessionView)
       )
 
 -- the station was halted, since its line ended
-pub line-left : {R : Type 0} {held : BuffersView} {known : Option Traffic} (reported : Bool)
-    (old new : SessionView) → HasLeft reported old new → GoesIf R held old known held new known
-line-left reported old new does =
+pub line-left : {R : Type 0} {held : BuffersView} {known : Option Traffic} (how : LineEnd)
+    (reported : Bool) (old new : SessionView) → HasLeft how reported old new
+    → GoesIf R held old known held new known
+line-left how reported old new does =
     left-over old new
     (same-view (λ x. form_of x.messages) new _ does.stays)
     (λ e. same-view (λ x. x.is_read) new _ does.stays ∙ e)
     (ap (λ (d : LinkView). d.station.line) does.link)
-    reported does
+    how reported does
 
 -- a moment passed without a line
 pub time-passed : {R : Type 0} {held : BuffersView} {known : Option Traffic}

@@ -206,7 +206,8 @@ nak-goes Connected text old new d =
     (ap (λ (x : SessionView). x.course.nak_pause) d.0
     ∙ connected-pause old.options.maintenance (starts old)
     (lost_more (lost_by_start old) old.course)))
-nak-goes (LineEnded r) text old new d = inl (ap (λ (x : SessionView). x.course.nak_pause) d.stays)
+nak-goes (LineEnded how r) text old new d =
+    inl (ap (λ (x : SessionView). x.course.nak_pause) d.stays)
 nak-goes (Received used) text old new d =
     received old new.link (notices_of_piece text used old.link.station.core) new.course d.course
 nak-goes (Filled frames) text old new d = inl (ap (λ (x : SessionView). x.course.nak_pause) d.0)

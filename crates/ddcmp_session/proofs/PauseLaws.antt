@@ -385,7 +385,7 @@ pause-goes Connected text old new d =
     (ap (λ (x : SessionView). x.course.pause) d.0
     ∙ connected-pause old.options.maintenance (starts old)
     (lost_more (lost_by_start old) old.course)))
-pause-goes (LineEnded r) text old new d = inl (ap (λ (x : SessionView). x.course.pause) d.stays)
+pause-goes (LineEnded how r) text old new d = inl (ap (λ (x : SessionView). x.course.pause) d.stays)
 pause-goes (Received used) text old new d =
     received old new.link (notices_of_piece text used old.link.station.core) new.course d.course
 pause-goes (Filled frames) text old new d = inl (ap (λ (x : SessionView). x.course.pause) d.0)

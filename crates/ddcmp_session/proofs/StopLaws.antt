@@ -12,6 +12,9 @@ use Rattle.ddcmp_session.specs.declared.buffers.lines.Stop.TheVariants.{NotOpene
 use Rattle.ddcmp_session.specs.declared.devices.DeviceFault.{DeviceFault}
 use Rattle.ddcmp_session.specs.declared.devices.DeviceFault.TheVariants.{Input}
 use Rattle.ddcmp_session.specs.declared.devices.DeviceFault.TheVariants as fault
+use Rattle.ddcmp_session.specs.declared.line_end.LineEnd.{LineEnd}
+use Rattle.ddcmp_session.specs.declared.line_end.LineEnd.TheVariants.{Down, GivenUp, Halted}
+use Rattle.ddcmp_session.specs.declared.line_end.LineEnd.TheVariants.{Restarted}
 use Rattle.ddcmp_session.specs.declared.session.EndReason.TheVariants as end_of
 use Rattle.ddcmp_session.specs.Devices.{BuffersView, HasReported, KeepsFaults}
 use Rattle.ddcmp_session.specs.Traffic.{Becomes, Traffic, after_fault, after_read, after_wait}
@@ -133,21 +136,32 @@ reports-kept {h0} {h1} {s0} {s1} {k0} {k1} {k2} {f} over keeps reports = λ c t 
     let b = keeps a.0 a.1 in
     subst (HasReported f) (some-is (sym b.1 ∙ at)) (b.2 f (reports c t a.0 is was agrees a.1))
 
-pub line-later : {h0 h1 : BuffersView} {s0 s1 : SessionView} {k0 k1 k2 : Option Traffic}
-    (s : SessionView) → GoesOver h0 s0 k0 h1 s1 k1 → LeavesLine h1 s1 k1 s k2
-    → LeavesLine h0 s0 k0 s k2
-line-later s over (inl restarted) = inl restarted
-line-later s over (inr (inl given_up)) = inr (inl given_up)
-line-later s over (inr (inr down)) = inr (inr (down.0, reports-later over down.1))
+-- how a line was left, if what devices reported by then they have reported by now
+left-so : (how : LineEnd) (s : SessionView) (h0 h1 : BuffersView) (s0 s1 : SessionView)
+    (k0 k1 k2 k3 : Option Traffic)
+    → ((f : DeviceFault) → ReportsOver h1 s1 k1 k2 f → ReportsOver h0 s0 k0 k3 f)
+    → LeavesLine how h1 s1 k1 s k2 → LeavesLine how h0 s0 k0 s k3
+left-so (Down why) s h0 h1 s0 s1 k0 k1 k2 k3 then down = then (fault.Line why) down
+left-so Halted s h0 h1 s0 s1 k0 k1 k2 k3 then halted = halted
+left-so Restarted s h0 h1 s0 s1 k0 k1 k2 k3 then restarted = restarted
+left-so GivenUp s h0 h1 s0 s1 k0 k1 k2 k3 then given_up = given_up
+
+pub line-later : (h0 h1 : BuffersView) (s0 s1 : SessionView) (k0 k1 k2 : Option Traffic)
+    (how : LineEnd) (s : SessionView) → GoesOver h0 s0 k0 h1 s1 k1 → LeavesLine how h1 s1 k1 s k2
+    → LeavesLine how h0 s0 k0 s k2
+line-later h0 h1 s0 s1 k0 k1 k2 how s over left =
+    left-so how s h0 h1 s0 s1 k0 k1 k2 k2 (λ f reports. reports-later over reports) left
 
 pub left-kept : {h0 h1 : BuffersView} {s0 s1 : SessionView} {k0 k1 k2 : Option Traffic}
     (s : SessionView) → GoesOver h0 s0 k0 h1 s1 k1 → KeepsFaults k1 k2 → IsLeft h0 s0 k0 s k1
     → IsLeft h0 s0 k0 s k2
 left-kept s over keeps (inl unstarted) = inl unstarted
-left-kept s over keeps (inr (shut, inl restarted)) = inr (shut, inl restarted)
-left-kept s over keeps (inr (shut, inr (inl given_up))) = inr (shut, inr (inl given_up))
-left-kept s over keeps (inr (shut, inr (inr down))) =
-    inr (shut, inr (inr (down.0, reports-kept over keeps down.1)))
+left-kept {h0} {h1} {s0} {s1} {k0} {k1} {k2} s over keeps (inr (how, shut, left)) =
+    inr (
+      how,
+      shut,
+      left-so how s h0 h0 s0 s0 k0 k0 k1 k2 (λ f reports. reports-kept over keeps reports) left,
+    )
 
 -- ---- the run as a whole
 

@@ -16,11 +16,12 @@ use Rattle.ddcmp_session.specs.Session.{SessionView, session_made, form_of, take
 use Rattle.ddcmp_session.specs.Session.{after_output, after_queued, next_mail, wants_line}
 use Rattle.ddcmp_session.specs.Session.{after_input_read, after_input_end, lost_by_end, IsFilled}
 use Rattle.ddcmp_session.specs.Course.{lost_more}
+use Rattle.ddcmp_session.specs.declared.line_end.LineEnd.{LineEnd}
 use Rattle.ddcmp_session.specs.Session.{after_connected, after_timeout, course_received}
 use Rattle.ddcmp_session.specs.Session.{lost_among, lost_at_end}
 use Rattle.ddcmp_io.specs.declared.line_kind.LineKind.{LineKind}
 use Rattle.ddcmp_streams.specs.declared.options.Options.{Options}
-use Rattle.ddcmp_session.specs.Text.{Wrote, mail_text, notices_text, reported_lost}
+use Rattle.ddcmp_session.specs.Text.{Wrote, mail_text, notices_text, reported_end, reported_lost}
 use Rattle.ddcmp_session.specs.Timing.{PassesTime}
 
 -- A call of a session, by its name. Its fields are the bytes of the input or of the line that it
@@ -32,7 +33,7 @@ pub data SessionCall : Type 0 where
   InputRead : (used : List ℕ) → SessionCall
   InputEnded : SessionCall
   Connected : SessionCall
-  LineEnded : (is_reported : Bool) → SessionCall
+  LineEnded : (how : LineEnd) (is_reported : Bool) → SessionCall
   Received : (used : List ℕ) → SessionCall
   Filled : (frames : ℕ) → SessionCall
   LineTook : (n : ℕ) → SessionCall
@@ -80,11 +81,12 @@ pub record HasDelivered (old new : SessionView) : Type 0 where
       × Wrote (mail_text (form_of old.messages) message) old.output new.output
   pub stays : new ≡ record (after_queued old) { output = new.output }
 
--- The station was halted, and the number of messages lost by that was reported if there was room.
-pub record HasLeft (is_reported : Bool) (old new : SessionView) : Type 0 where
+-- The line ended so and the station was halted. That, if events are among the messages, and the
+-- number of messages lost by it were reported if there was room.
+pub record HasLeft (how : LineEnd) (is_reported : Bool) (old new : SessionView) : Type 0 where
   pub link : new.link ≡ with_state (after_halt old.link.station.core.station) old.link
-  pub wrote : Wrote (reported_lost is_reported (form_of old.messages) (lost_by_end old)) old.output
-      new.output
+  pub wrote : Wrote (reported_end is_reported (form_of old.messages) how (lost_by_end old))
+      old.output new.output
   pub stays : new ≡ record old {
     link = new.link;
     has_line = false;
@@ -92,7 +94,8 @@ pub record HasLeft (is_reported : Bool) (old new : SessionView) : Type 0 where
     output = new.output;
   }
 
--- The same, and the rest of the input was dropped: its messages are lost.
+-- The station was halted, and the number of messages lost by that was reported if there was room.
+-- The rest of the input was dropped: its messages are lost.
 pub record HasClosed (left : List ℕ) (is_at_end is_reported : Bool) (old new : SessionView)
     : Type 0 where
   pub link : new.link ≡ with_state (after_halt old.link.station.core.station) old.link
@@ -119,7 +122,7 @@ SessionDoes Connected text old new =
     (new ≡ after_connected new.link.station.line old)
     × (text ≡ [])
     × (old.link.outbox.waiting ≡ [])
-SessionDoes (LineEnded is_reported) text old new = HasLeft is_reported old new
+SessionDoes (LineEnded how is_reported) text old new = HasLeft how is_reported old new
 SessionDoes (Received used) text old new = HasReceived text used old new
 SessionDoes (Filled frames) text old new =
     (new ≡ record old { link = after_frames frames old.link }) × IsFilled new
@@ -134,11 +137,12 @@ SessionDoes (Closed left is_at_end is_reported) text old new =
 
 -- ---- the history of a session
 
--- what a session writes to standard output: a received message, a notice, or how many accepted
--- messages were left unacknowledged when a line or the run ended
+-- what a session writes to standard output: a received message, a notice, how a line ended, or how
+-- many accepted messages were left unacknowledged when a line or the run ended
 pub data Shown : Type 0 where
   Mail : (message : List ℕ) → Shown
   Reports : (notice : Notice) → Shown
+  Leaves : (how : LineEnd) → Shown
   Loses : (count : ℕ) → Shown
 
 -- A session, and what happened since it was made: the bytes that it used from its line, the bytes
@@ -203,8 +207,13 @@ abbrev pub losses : Bool → SessionView → List Shown
 losses is_reported s =
     if is_reported then Loses (lost_by_end s) ∷ [] else []
 
+-- how the line ended before that
+abbrev pub ends : LineEnd → Bool → SessionView → List Shown
+ends how is_reported s =
+    if is_reported then Leaves how ∷ Loses (lost_by_end s) ∷ [] else []
+
 abbrev pub shown_in : SessionCall → List ℕ → SessionView → List Shown
-shown_in (LineEnded is_reported) text s = losses is_reported s
+shown_in (LineEnded how is_reported) text s = ends how is_reported s
 shown_in (Closed left is_at_end is_reported) text s = losses is_reported s
 shown_in (Received used) text s =
     map Reports (notices_of_piece text used s.link.station.core)

@@ -61,7 +61,7 @@ pub record Agrees (held : BuffersView) (h : SessionHistory) (t : Traffic) : Type
 abbrev pub IsOfRun : SessionCall → Type 0
 IsOfRun Connected = ⊥
 IsOfRun TimePassed = ⊥
-IsOfRun (LineEnded is_reported) = ⊥
+IsOfRun (LineEnded how is_reported) = ⊥
 IsOfRun (Closed left is_at_end is_reported) = ⊥
 IsOfRun _ = ⊤
 

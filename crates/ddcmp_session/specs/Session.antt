@@ -238,6 +238,11 @@ lost_by_end s = if s.has_line then lost_in s.options.maintenance s.link else 0
 abbrev pub reports_loss : SessionView → Bool
 reports_loss s = nat_le LOST_ROOM s.output.room
 
+-- and how the line ended, if events are among the messages
+abbrev pub reports_end : SessionView → Bool
+reports_end s =
+    nat_le (if has_events (form_of s.messages) then LINE_ROOM else LOST_ROOM) s.output.room
+
 -- A telnet line begins with IAC WILL or IAC DO.
 abbrev pub begins_telnet : List ℕ → Bool
 begins_telnet (first ∷ second ∷ rest) = first == 255 && (second == 251 || second == 253)

@@ -1,8 +1,10 @@
 -- Why a run over lines stops; the session is that after its lines ended and before it is closed.
-use Rattle.std.specs.Prelude.{◌≡◌, ◌≢◌, ◌⊎◌, ℕ, false, [], Option, Some, Result, Ok, Err}
+use Rattle.std.specs.Prelude.{◌≡◌, ◌≢◌, ◌⊎◌, ℕ, true, false, [], Option, Some, Result, Ok, Err}
 use Rattle.ddcmp_session.specs.declared.buffers.lines.Stop.TheVariants.{the_data, Device, Left}
 use Rattle.ddcmp_session.specs.declared.buffers.lines.Stop.TheVariants.{Lost, NotOpened, Unread}
-use Rattle.ddcmp_io.specs.declared.transfer.Down.{Down}
+use Rattle.ddcmp_session.specs.declared.line_end.LineEnd.{LineEnd}
+use Rattle.ddcmp_session.specs.declared.line_end.LineEnd.TheVariants.{Down, GivenUp, Halted}
+use Rattle.ddcmp_session.specs.declared.line_end.LineEnd.TheVariants.{Restarted}
 use Rattle.ddcmp_session.specs.declared.devices.DeviceFault.TheVariants as fault
 use Rattle.ddcmp_session.specs.declared.session.EndReason.TheVariants as end_of
 use Rattle.ddcmp_session.specs.Devices.{BuffersView}
@@ -17,19 +19,23 @@ pub record HasNotStarted (s : SessionView) : Type 0 where
   pub refused : starts before ≡ false
   pub connected : s ≡ after_connected s.link.station.line before
 
--- The peer has restarted, or there were too many tries, or the line is reported as down.
-abbrev pub LeavesLine : BuffersView → SessionView → Option Traffic → SessionView → Option Traffic
-    → Type 0
-LeavesLine held old before s after =
-    (end s ≡ Some end_of.Restarted)
-    ⊎ ((end s ≡ Some end_of.GivenUp)
-    ⊎ ((why : Down) × ReportsOver held old before after (fault.Line why)))
+-- The line is reported as down, or a command halts the link, or the link restarts, or there were
+-- too many tries.
+abbrev pub LeavesLine : LineEnd → BuffersView → SessionView → Option Traffic → SessionView
+    → Option Traffic → Type 0
+LeavesLine (Down why) held old before s after = ReportsOver held old before after (fault.Line why)
+LeavesLine Halted held old before s after =
+    (end s ≡ Some end_of.Restarted) × (s.course.halted ≡ true)
+LeavesLine Restarted held old before s after =
+    (end s ≡ Some end_of.Restarted) × (s.course.halted ≡ false)
+LeavesLine GivenUp held old before s after = end s ≡ Some end_of.GivenUp
 
 -- the line was left for such a reason and isn't opened again, or the session didn't start
 abbrev pub IsLeft : BuffersView → SessionView → Option Traffic → SessionView → Option Traffic
     → Type 0
 IsLeft held old before s after =
-    HasNotStarted s ⊎ ((reopens s ≡ false) × LeavesLine held old before s after)
+    HasNotStarted s
+    ⊎ ((how : LineEnd) × (reopens s ≡ false) × LeavesLine how held old before s after)
 
 -- The time of the run is over, or an output with queued bytes timed out.
 abbrev pub IsTimeOver : SessionView → Type 0

@@ -6,11 +6,15 @@ use Rattle.hex.specs.Hex.{encode_lower}
 use Rattle.ddcmp_core.specs.declared.notice.Notice.{Notice}
 use Rattle.ddcmp_core.specs.declared.notice.Notice.TheVariants as notice
 use Rattle.ddcmp_input.specs.InBinary.{behind_length}
+use Rattle.ddcmp_io.specs.Causes.{down_text}
 use Rattle.ddcmp_station.specs.StationText.{notice_line, notice_number, notice_word, number_text}
 use Rattle.ddcmp_streams.specs.declared.messages.MessageForm.{MessageForm}
 use Rattle.ddcmp_streams.specs.declared.messages.MessageForm.TheVariants.{Digits, Binary, Events}
 use Rattle.ddcmp_streams.specs.declared.messages.MessageForm.TheVariants.{EventLines}
 use Rattle.ddcmp_io.specs.Queue.{QueueView, after_pushed}
+use Rattle.ddcmp_session.specs.declared.line_end.LineEnd.{LineEnd}
+use Rattle.ddcmp_session.specs.declared.line_end.LineEnd.TheVariants.{Down, GivenUp, Halted}
+use Rattle.ddcmp_session.specs.declared.line_end.LineEnd.TheVariants.{Restarted}
 
 -- a received message
 abbrev pub mail_text : MessageForm → List ℕ → List ℕ
@@ -59,6 +63,28 @@ notices_text form (n ∷ rest) = notice_text form n ++ notices_text form rest
 -- the report of a loss, if there was room
 abbrev pub reported_lost : Bool → MessageForm → ℕ → List ℕ
 reported_lost has_room form count = if has_room then lost_text form count else []
+
+-- how a line ended
+abbrev pub line_end_words : LineEnd → List ℕ
+line_end_words (Down why) = down_text why
+line_end_words Halted = codes "halted"
+line_end_words Restarted = codes "restarted"
+line_end_words GivenUp = codes "given up"
+
+abbrev pub line_down_words : LineEnd → List ℕ
+line_down_words how = codes "line down: " ++ line_end_words how
+
+-- the same, only among messages with events
+abbrev pub line_end_text : MessageForm → LineEnd → List ℕ
+line_end_text Digits how = []
+line_end_text Binary how = []
+line_end_text Events how = event_text (line_down_words how)
+line_end_text EventLines how = line_down_words how ++ codes "\n"
+
+-- that, and the report of a loss, if there was room for both
+abbrev pub reported_end : Bool → MessageForm → LineEnd → ℕ → List ℕ
+reported_end has_room form how count =
+    if has_room then line_end_text form how ++ lost_text form count else []
 
 -- A text is appended if there is room for it.
 abbrev pub Puts : List ℕ → QueueView → QueueView → Type 0

@@ -6,11 +6,12 @@ ghost use Rattle.ddcmp_session.specs.EndText.{totals_text, end_line, end_text};
 ghost use Rattle.ddcmp_streams.specs.Queued.{queued, paged};
 ghost use Rattle.ddcmp_session.specs.Reports.{bytes_words, report_members, report_text};
 ghost use Rattle.ddcmp_session.specs.Reports.{silence_at_start};
-ghost use Rattle.ddcmp_session.specs.Text.{Puts, event_text, mail_text, lost_line, lost_words};
-ghost use Rattle.ddcmp_session.specs.Text.{notice_words};
+ghost use Rattle.ddcmp_session.specs.Text.{Puts, event_text, mail_text, line_end_text};
+ghost use Rattle.ddcmp_session.specs.Text.{line_end_words, lost_line, lost_words, notice_words};
 ghost use Rattle.ddcmp_station.specs.CountersText.{counters_line};
 ghost use Rattle.ddcmp_station.specs.StationText.{notice_line, number_text};
 
+use crate::line_end::LineEnd;
 use ddcmp_io::text::{put_digits, write_number};
 use ddcmp_io::{ByteQueue, Page};
 use ddcmp_station::{
@@ -181,6 +182,26 @@ pub(crate) fn write_lost_event(out: &mut ByteQueue, lost: u8)
     ensures short { length (event_text (lost_words lost)) ≤ LOST_ROOM }
 {
     write_event(out, b"lost ", b"", Some(lost));
+}
+
+/// What the words of how a line ended begin with.
+const LINE_DOWN: &[u8] = b"line down: ";
+
+/// Writes how a line ended, if events are among the messages.
+pub(crate) fn write_line_end(out: &mut ByteQueue, form: MessageForm, how: LineEnd)
+    ensures puts { Puts (line_end_text form how) out.old out.new }
+    ensures short { length (line_end_text form how) + LOST_ROOM ≤ LINE_ROOM }
+{
+    let words = how.words().as_bytes();
+    match form {
+        MessageForm::Digits | MessageForm::Binary => {}
+        MessageForm::Events => write_event(out, LINE_DOWN, words, None),
+        MessageForm::EventLines => {
+            put(out, LINE_DOWN);
+            put(out, words);
+            put(out, b"\n");
+        }
+    }
 }
 
 /// Writes the line of a notice to standard error.

@@ -1,13 +1,13 @@
 //! Calls of a session whose contracts state more than tests need: each has a function of its own
 //! here that promises nothing.
-use ddcmp_session::{EndReason, Session};
+use ddcmp_session::{Down, EndReason, LineEnd, Session};
 
 pub fn connects(session: &mut Session) -> bool {
     session.connected()
 }
 
 pub fn ends_line(session: &mut Session) {
-    let _has_room = session.line_ended();
+    let _has_room = session.line_ended(LineEnd::Down(Down::Closed));
 }
 
 pub fn wake(session: &mut Session, now: u64) {

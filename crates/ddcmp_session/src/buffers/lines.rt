@@ -11,6 +11,7 @@ use crate::buffers::Buffers;
 use crate::buffers::flow::write_errors;
 use crate::buffers::runner::{leave_line, read_clocks};
 use crate::devices::{DeviceFault, Devices, Wanted};
+use crate::line_end::LineEnd;
 use crate::session::{EndReason, Session};
 
 /// The reason why a run ended before all was delivered.
@@ -30,7 +31,7 @@ pub enum Stop<R> {
 
 impl Buffers {
     ghost use Rattle.std.specs.Prelude.{◌≡◌, ◌≢◌, ◌⊎◌, ◌<◌, Err, Ok, Some, ℕ, false, is_ok, true};
-    ghost use Rattle.std.specs.Prelude.{◌&&◌, [], not};
+    ghost use Rattle.std.specs.Prelude.{◌&&◌, [], None, not};
     ghost use Rattle.ddcmp_session.specs.Devices.{GoesOn, KeepsFaults, Reports};
     ghost use Rattle.ddcmp_session.specs.Traffic.{Becomes, after_wait};
     ghost use Rattle.ddcmp_session.specs.Session.{SessionView, takes_end};
@@ -40,6 +41,7 @@ impl Buffers {
     ghost use Rattle.ddcmp_session.specs.Stopping.{IsTimeOver, Judges, LeavesLine, Stops};
     ghost use Rattle.ddcmp_session.specs.Timing.{end};
     ghost use Rattle.ddcmp_session.specs.declared.devices.DeviceFault.{DeviceFault as FaultValue};
+    ghost use Rattle.ddcmp_session.specs.declared.line_end.LineEnd.{LineEnd as LineEndValue};
 
     /// Runs a new session over one line after the other, until nothing of the input is left or a
     /// line ends for good, and closes it: messages that were read and aren't acknowledged are lost
@@ -93,14 +95,14 @@ impl Buffers {
         ensures read { result ≢ Err Stop.Unread }
     {
         for _line in 0..u64::MAX {
-            match self.run_one(session, devices) {
-                Ok(true) => return Ok(()),
-                Ok(false) if session.reopens() => {}
-                Ok(false) => return Err(Stop::Left),
+            let how = match self.run_one(session, devices) {
+                Ok(None) => return Ok(()),
+                Ok(Some(how)) if session.reopens() => how,
+                Ok(Some(_)) => return Err(Stop::Left),
                 Err(stop) => return Err(stop),
-            }
+            };
             self.close_left(session, devices);
-            match leave(session, devices) {
+            match leave(session, devices, how) {
                 Ok(()) => {}
                 Err(fault) => return Err(Stop::Device(fault)),
             }
@@ -118,21 +120,22 @@ impl Buffers {
         }
     }
 
-    /// Runs a session over a line; returns whether all is done, or the line was left.
+    /// Runs a session over a line, until all is done, or it ends; returns how it did.
     fn run_one<D: Devices>(
         &mut self,
         session: &mut Session,
         devices: &mut D,
-    ) -> Result<bool, Stop<D::Refusal>>
+    ) -> Result<Option<LineEnd>, Stop<D::Refusal>>
         ensures over { GoesOver self.old session.old.state (D.traffic devices.old)
             self.new session.new.state (D.traffic devices.new) }
         ensures reports { (fault : FaultValue) → fault ≢ DeviceFault.Time
             → result ≡ Err (Stop.Device fault) → ReportsOver self.old session.old.state
             (D.traffic devices.old) (D.traffic devices.new) fault }
-        ensures well { result ≡ Ok true → MayEndWell session.new.state }
-        ensures ended { result ≡ Ok true → end session.new.state ≡ Some EndReason.Done }
-        ensures gone { result ≡ Ok false → LeavesLine self.old session.old.state
-            (D.traffic devices.old) session.new.state (D.traffic devices.new) }
+        ensures well { result ≡ Ok None → MayEndWell session.new.state }
+        ensures ended { result ≡ Ok None → end session.new.state ≡ Some EndReason.Done }
+        ensures gone { (how : LineEndValue) → result ≡ Ok (Some how)
+            → LeavesLine how self.old session.old.state (D.traffic devices.old)
+            session.new.state (D.traffic devices.new) }
         ensures left { result ≡ Err Stop.Left → HasNotStarted session.new.state }
         ensures shut { IfNotOpened result (session.new.state.options.again ≡ false) }
         ensures time { result ≡ Err (Stop.Device DeviceFault.Time) → IsTimeOver session.new.state }
@@ -141,16 +144,18 @@ impl Buffers {
     {
         match self.begin(session, devices) {
             Ok(true) => {}
-            Ok(false) => return Ok(true),
+            Ok(false) => return Ok(None),
             Err(stop) => return Err(stop),
         }
         match self.run(session, devices) {
-            Ok(EndReason::Done) => Ok(true),
-            Ok(EndReason::Restarted | EndReason::GivenUp) => Ok(false),
+            Ok(EndReason::Done) => Ok(None),
+            Ok(EndReason::Restarted) if session.is_halted() => Ok(Some(LineEnd::Halted)),
+            Ok(EndReason::Restarted) => Ok(Some(LineEnd::Restarted)),
+            Ok(EndReason::GivenUp) => Ok(Some(LineEnd::GivenUp)),
             Ok(EndReason::Time) => Err(Stop::Device(DeviceFault::Time)),
             Err(DeviceFault::Line(why)) => {
                 session.report_down(why);
-                Ok(false)
+                Ok(Some(LineEnd::Down(why)))
             }
             Err(fault) => Err(Stop::Device(fault)),
         }
@@ -434,8 +439,13 @@ fn verdict<R: Copy>(
     ran
 }
 
-/// Leaves a line that has ended, and sets the pause before the next one is opened, if there is one.
-fn leave<D: Devices>(session: &mut Session, devices: &mut D) -> Result<(), DeviceFault>
+/// Leaves a line that has ended so, and sets the pause before the next one is opened, if there is
+/// one.
+fn leave<D: Devices>(
+    session: &mut Session,
+    devices: &mut D,
+    how: LineEnd,
+) -> Result<(), DeviceFault>
     ensures over { (held : BuffersView) → StaysOver held session.old.state (D.traffic devices.old)
         held session.new.state (D.traffic devices.new) }
     ensures ready { result ≡ Ok tt → IsReady session.new.state }
@@ -445,7 +455,7 @@ fn leave<D: Devices>(session: &mut Session, devices: &mut D) -> Result<(), Devic
     ensures time { result ≡ Err DeviceFault.Time
         → (end session.new.state ≡ Some EndReason.Time) ⊎ (session.new.state.output.waiting ≢ []) }
 {
-    match leave_line(session, devices) {
+    match leave_line(session, devices, how) {
         Ok(()) => {}
         Err(fault) => {
             note_time(session, fault);

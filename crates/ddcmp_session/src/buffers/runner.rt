@@ -12,6 +12,7 @@ ghost use Rattle.ddcmp_session.specs.declared.devices.DeviceFault.{DeviceFault a
 use crate::buffers::Buffers;
 use crate::buffers::flow::{deliver_all, write_errors, write_output};
 use crate::devices::{DeviceFault, Devices, Wanted};
+use crate::line_end::LineEnd;
 use crate::session::{EndReason, Session};
 
 /// After how many passes the devices are polled although something moved, so that none starves
@@ -104,10 +105,12 @@ pub(super) fn read_clocks<D: Devices>(session: &mut Session, devices: &mut D) ->
 /// How long standard error may be blocked at the end of a line, in milliseconds.
 const LINE_END_MS: u64 = 80;
 
-/// Leaves a line that has ended: writes the messages received over it, and reports what was lost.
+/// Leaves a line that has ended so: writes the messages received over it, and reports what was
+/// lost.
 pub(super) fn leave_line<D: Devices>(
     session: &mut Session,
     devices: &mut D,
+    how: LineEnd,
 ) -> Result<(), DeviceFault>
     ensures over { (held : BuffersView) → StaysOver held session.old.state (D.traffic devices.old)
         held session.new.state (D.traffic devices.new) }
@@ -129,7 +132,7 @@ pub(super) fn leave_line<D: Devices>(
         Ok(()) => {}
         Err(fault) => return Err(fault),
     }
-    let _has_room = session.line_ended();
+    let _has_room = session.line_ended(how);
     match drain_output(session, devices) {
         Ok(()) => {}
         Err(fault) => return Err(fault),

@@ -49,7 +49,8 @@ impl Session {
             ≡ record self.old.log { errors = self.new.log.errors; read = self.new.log.read } }
     {
         self.drop_input(input, input_is_at_end);
-        self.lose_line()
+        let lost = self.lose_line();
+        self.report_lost(lost)
     }
 
     /// Writes the last lines, once all received messages are delivered.

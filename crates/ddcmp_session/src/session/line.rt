@@ -3,6 +3,7 @@ ghost use Rattle.std.specs.Prelude.{[]};
 ghost use Rattle.ddcmp_streams.specs.Errors.{HasLine};
 ghost use Rattle.ddcmp_station.specs.StationText.{notice_line};
 
+use crate::line_end::LineEnd;
 use crate::session::Session;
 use crate::text;
 use ddcmp_station::Notice;
@@ -29,7 +30,7 @@ impl Session {
     ghost use Rattle.ddcmp_io.specs.declared.line_kind.LineKind.TheVariants.{Datagrams};
     ghost use Rattle.ddcmp_session.specs.Filling.{after_filling, most_datagrams};
     ghost use Rattle.ddcmp_session.specs.Session.{form_of, has_gone, lost_by_end};
-    ghost use Rattle.ddcmp_session.specs.Session.{reports_loss, wants_line};
+    ghost use Rattle.ddcmp_session.specs.Session.{reports_end, wants_line};
     ghost use Rattle.ddcmp_streams.specs.Errors.{ErrorsView};
     ghost use Rattle.ddcmp_session.specs.Logged.{HasLost, HasNotice, HasNotices, ReportsTelnet};
     ghost use Rattle.ddcmp_session.specs.Logged.{Traces};
@@ -38,7 +39,7 @@ impl Session {
     ghost use Rattle.ddcmp_session.specs.Course.{after_notice, lost_more};
     ghost use Rattle.ddcmp_session.specs.Session.{IsFilled, after_connected, course_received};
     ghost use Rattle.ddcmp_session.specs.Session.{is_paused, totals_received};
-    ghost use Rattle.ddcmp_session.specs.Text.{Wrote, notice_text, notices_text, reported_lost};
+    ghost use Rattle.ddcmp_session.specs.Text.{Wrote, notice_text, notices_text, reported_end};
     ghost use Rattle.ddcmp_session.specs.declared.text.TheConstants.{LINE_ROOM};
 
     /// Starts the station on a line that was opened, or has it enter maintenance mode. Messages
@@ -66,15 +67,15 @@ impl Session {
         starts
     }
 
-    /// Handles the end of the line and halts the station: messages that were sent and not
+    /// Handles this end of the line and halts the station: messages that were sent and not
     /// acknowledged are lost. Returns whether standard output had room to report that: there is
     /// room once all queued output was taken.
-    pub fn line_ended(&mut self) -> bool
+    pub fn line_ended(&mut self, how: LineEnd) -> bool
         ensures link { self.new.state.link
             ≡ with_state (after_halt self.old.state.link.station.core.station) self.old.state.link }
-        ensures wrote { Wrote (reported_lost result (form_of self.old.state.messages)
+        ensures wrote { Wrote (reported_end result (form_of self.old.state.messages) how
             (lost_by_end self.old.state)) self.old.state.output self.new.state.output }
-        ensures when { result ≡ reports_loss self.old.state }
+        ensures when { result ≡ reports_end self.old.state }
         ensures stays { self.new.state ≡ record self.old.state {
           link = self.new.state.link;
           has_line = false;
@@ -89,36 +90,28 @@ impl Session {
         ensures log { self.new.log
             ≡ record self.old.log { errors = self.new.log.errors; trace = self.new.log.trace } }
     {
-        let has_room = self.lose_line();
+        let lost = self.lose_line();
+        let has_room = self.report_line_end(how, lost);
         if let Some(trace) = &mut self.trace {
             trace.restart(&mut self.errors);
         }
         has_room
     }
 
-    /// Halts the station, reports what is lost with the line, if there is one, and returns whether
-    /// standard output had room for that.
-    pub(super) fn lose_line(&mut self) -> bool
-        ensures link { self.new.state.link
-            ≡ with_state (after_halt self.old.state.link.station.core.station) self.old.state.link }
-        ensures wrote { Wrote (reported_lost result (form_of self.old.state.messages)
-            (lost_by_end self.old.state)) self.old.state.output self.new.state.output }
-        ensures when { result ≡ reports_loss self.old.state }
-        ensures stays { self.new.state ≡ record self.old.state {
-          link = self.new.state.link;
+    /// Halts the station, and returns how many messages are lost with the line, if there is one.
+    pub(super) fn lose_line(&mut self) -> u8
+        ensures lost { result ≡ lost_by_end self.old.state }
+        ensures state { self.new.state ≡ record self.old.state {
+          link = with_state (after_halt self.old.state.link.station.core.station)
+              self.old.state.link;
           has_line = false;
-          course = lost_more (lost_by_end self.old.state) self.old.state.course;
-          output = self.new.state.output;
         } }
-        ensures errors { HasLost (form_of self.old.state.messages) (lost_by_end self.old.state)
-            self.old.log.errors self.new.log.errors }
-        ensures log { self.new.log ≡ record self.old.log { errors = self.new.log.errors } }
+        ensures log { self.new.log ≡ self.old.log }
     {
         let lost = self.lost_by_end();
         self.has_line = false;
-        let has_room = self.report_lost(lost);
         self.link.halt();
-        has_room
+        lost
     }
 
     /// Returns whether all accepted messages were written to the line.

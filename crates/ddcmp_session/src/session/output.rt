@@ -1,5 +1,6 @@
 //! The two outputs of a session.
 use crate::devices::Down;
+use crate::line_end::LineEnd;
 use crate::session::Session;
 use crate::{report, text};
 use ddcmp_streams::{EVENT_ROOM, MessageForm};
@@ -18,10 +19,10 @@ impl Session {
     ghost use Rattle.ddcmp_session.specs.Finishing.{HasRoomIfEmpty};
     ghost use Rattle.ddcmp_session.specs.Logged.{HasLost, HasReport, ReportsDown};
     ghost use Rattle.ddcmp_session.specs.Session.{after_output, after_queued, form_of, is_awaited};
-    ghost use Rattle.ddcmp_session.specs.Session.{is_written, next_mail, one_queued, reports_loss};
-    ghost use Rattle.ddcmp_session.specs.Session.{room_for_mail, with_taken};
+    ghost use Rattle.ddcmp_session.specs.Session.{is_written, next_mail, one_queued, reports_end};
+    ghost use Rattle.ddcmp_session.specs.Session.{reports_loss, room_for_mail, with_taken};
     ghost use Rattle.ddcmp_streams.specs.declared.errors.TheConstants.{SHORT_LINE};
-    ghost use Rattle.ddcmp_session.specs.Text.{Wrote, mail_text, reported_lost};
+    ghost use Rattle.ddcmp_session.specs.Text.{Wrote, mail_text, reported_end, reported_lost};
     ghost use Rattle.ddcmp_streams.specs.Messages.{is_in_lines};
 
     /// Queues the text of the next received message, if there is one and the output has room for
@@ -217,6 +218,31 @@ impl Session {
         } else {
             report::write_line(&mut self.errors, &self.link, self.course.lost);
         }
+    }
+
+    /// Reports how the line ended, if events are among the messages, and how many accepted messages
+    /// were dropped by that, if any; returns whether standard output had room for both.
+    pub(super) fn report_line_end(&mut self, how: LineEnd, lost: u8) -> bool
+        ensures wrote { self.new.state ≡ record self.old.state {
+          course = lost_more lost self.old.state.course;
+          output = after_pushed
+              (reported_end result (form_of self.old.state.messages) how lost)
+              self.old.state.output;
+        } }
+        ensures when { result ≡ reports_end self.old.state }
+        ensures errors { HasLost (form_of self.old.state.messages) lost
+            self.old.log.errors self.new.log.errors }
+        ensures log { self.new.log ≡ record self.old.log { errors = self.new.log.errors } }
+    {
+        if !self.options.form.has_events() {
+            return self.report_lost(lost);
+        }
+        if self.output.room() < text::LINE_ROOM {
+            self.course.lose(u64::from(lost));
+            return false;
+        }
+        text::write_line_end(&mut self.output, self.options.form, how);
+        self.report_lost(lost)
     }
 
     /// Reports how many accepted messages were dropped, if any, and returns whether standard output

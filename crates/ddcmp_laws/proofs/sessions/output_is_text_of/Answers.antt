@@ -1,5 +1,6 @@
 use Rattle.ddcmp_laws.proofs.Writing.{is_text}
-use Rattle.ddcmp_laws.proofs.Texts.{only_mail, same_lines}
+use Rattle.ddcmp_laws.proofs.ShownLines.{digits_tell, events_tell}
+use Rattle.ddcmp_laws.proofs.Texts.{only_mail}
 use Rattle.ddcmp_laws.proofs.Records.{only-mail-read}
 use Rattle.ddcmp_laws.proofs.sessions.output_is_text_of.Goals as goal
 
@@ -13,4 +14,7 @@ pub returns-clause-events : goal.returns-clause-events
 returns-clause-events c = only-mail-read
 
 pub returns-clause-lines : goal.returns-clause-lines
-returns-clause-lines c = same_lines
+returns-clause-lines c = digits_tell
+
+pub returns-clause-event_lines : goal.returns-clause-event_lines
+returns-clause-event_lines c = events_tell

@@ -28,15 +28,15 @@ returns-in-Err-leave-clause-reports g c = λ fault untimed e.
     (reports-later (none-over refl c.close_left.ensures)
     (c.in-Err-leave.ensures.reports _ fault untimed (same-fault e))))
 
-pub returns-in-Ok-true-clause-over : goal.returns-in-Ok-true-clause-over
-returns-in-Ok-true-clause-over g c =
+pub returns-in-Ok-None-clause-over : goal.returns-in-Ok-None-clause-over
+returns-in-Ok-None-clause-over g c =
     over-next c.loop-line.invariant.0 c.loop-line.invariant.1 c.run_one.ensures.over
 
 pub returns-clause-over : goal.returns-clause-over
 returns-clause-over g c = over-then c.loop-line.invariant.0 (c.pass_run.ensures.over _ _)
 
-pub returns-in-Ok-false-2-clause-over : goal.returns-in-Ok-false-2-clause-over
-returns-in-Ok-false-2-clause-over g c =
+pub returns-in-Ok-Some-2-clause-over : goal.returns-in-Ok-Some-2-clause-over
+returns-in-Ok-Some-2-clause-over g c =
     over-next c.loop-line.invariant.0 c.loop-line.invariant.1 c.run_one.ensures.over
 
 pub returns-in-Err-clause-over : goal.returns-in-Err-clause-over
@@ -54,12 +54,14 @@ returns-in-Err-clause-time g c = λ e. c.in-Err.ensures.time (same-err e)
 pub returns-in-Err-leave-clause-time : goal.returns-in-Err-leave-clause-time
 returns-in-Err-leave-clause-time g c = λ e. c.in-Err-leave.ensures.time (same-fault e)
 
-pub returns-in-Ok-false-2-clause-left : goal.returns-in-Ok-false-2-clause-left
-returns-in-Ok-false-2-clause-left g c = λ e.
+pub returns-in-Ok-Some-2-clause-left : goal.returns-in-Ok-Some-2-clause-left
+returns-in-Ok-Some-2-clause-left g c = λ e.
     inr (
+      c.in-Ok-Some.how,
       sym c.reopens.ensures ∙ c.if-reopens.false,
-      line-later c.run_one.new.session.state c.loop-line.invariant.0
-          (c.in-Ok-false.ensures.gone (ap (λ b. Ok b) c.in-Ok-false.field-0-test)),
+      line-later _ _ _ _ _ _ _ c.in-Ok-Some.how c.run_one.new.session.state c.loop-line.invariant.0
+          (c.run_one.ensures.gone c.in-Ok-Some.how
+          (c.in-Ok-Some.is ∙ ap (λ o. Ok o) c.in-Ok-Some.field-0-is)),
     )
 
 pub returns-in-Err-clause-left : goal.returns-in-Err-clause-left

@@ -13,7 +13,7 @@ pub returns-in-Err-drain_output-clause-over : goal.returns-in-Err-drain_output-c
 returns-in-Err-drain_output-clause-over g c = λ held.
     over-then (goes-over (c.drain_output.ensures.on held))
     (over-then
-    (line-left c.line_ended-has_room.result c.drain_output.new.session.state
+    (line-left c.args.how c.line_ended-has_room.result c.drain_output.new.session.state
     c.line_ended-has_room.new.self.state (record {
       link = c.line_ended-has_room.ensures.link;
       wrote = c.line_ended-has_room.ensures.wrote;
@@ -24,7 +24,7 @@ pub returns-clause-over : goal.returns-clause-over
 returns-clause-over g c = λ held.
     over-then (goes-over (c.drain_output.ensures.on held))
     (over-then
-    (line-left c.line_ended-has_room.result c.drain_output.new.session.state
+    (line-left c.args.how c.line_ended-has_room.result c.drain_output.new.session.state
     c.line_ended-has_room.new.self.state (record {
       link = c.line_ended-has_room.ensures.link;
       wrote = c.line_ended-has_room.ensures.wrote;
@@ -42,7 +42,7 @@ pub returns-in-Err-drain_output-clause-reports : goal.returns-in-Err-drain_outpu
 returns-in-Err-drain_output-clause-reports g c = λ held fault untimed e.
     reports-over
     (over-then (goes-over (c.drain_output.ensures.on held))
-    (line-left c.line_ended-has_room.result c.drain_output.new.session.state
+    (line-left c.args.how c.line_ended-has_room.result c.drain_output.new.session.state
     c.line_ended-has_room.new.self.state (record {
       link = c.line_ended-has_room.ensures.link;
       wrote = c.line_ended-has_room.ensures.wrote;

@@ -7,7 +7,6 @@ use Rattle.ddcmp_session.specs.Text.{Puts, mail_text}
 use Rattle.ddcmp_session.proofs.DeliverLaws.{queues}
 use Rattle.ddcmp_session.proofs.TakenLaws.{at-front}
 use Rattle.ddcmp_session.proofs.TextLaws.{mail-short}
-use Rattle.ddcmp_session.specs.contracts.session.Session as session
 use Rattle.ddcmp_session.proofs.session.Session.queue_mail.Goals as goal
 
 pub overflow_add-self : goal.overflow_add-self
