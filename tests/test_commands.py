@@ -406,10 +406,11 @@ def test_restart(form):
         third = peer()
         link.give(form.of("ready", b"six", "quit"), close=False)
         assert third.waits(lambda it: it.mail == [b"six"], 10)
-    third.close()
     assert link.ended(10) == 3 and link.faults()[-1] == unacknowledged(4)
+    third.close()
     lines = [it for it in form.shown(link) if "Acknowledged" not in it]
-    assert lines == ["notice Running", "lost 1", "notice Running", "notice Running"]
+    assert lines == ["notice Running", "line down: restarted", "lost 1", "notice Running",
+                     "line down: restarted", "notice Running"]
 
 
 def test_restart_without_again(form):
