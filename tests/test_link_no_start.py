@@ -72,6 +72,39 @@ def test_noise(count, line):
     link.kill()
 
 
+def misread(text, ratio):
+    """What these bytes are to a serial port whose bits are so many times as long: it waits for a
+    start bit, and takes the eight bits after it."""
+    levels = [1] * 9
+    for byte in text:
+        levels += [0, *(byte >> it & 1 for it in range(8)), 1]
+    levels += [1] * 30
+    read, at = [], 0.0
+    while at < len(levels) - 10 * ratio:
+        if levels[int(at)]:
+            at += 0.1
+            continue
+        bits = [levels[int(at + ratio * (it + 1.5))] for it in range(8)]
+        read.append(sum(bit << it for it, bit in enumerate(bits)))
+        at += 9.5 * ratio
+    return bytes(read)
+
+
+@pytest.mark.parametrize("ratio", [0.5, 2])
+def test_wrong_speed(ratio):
+    """At a terminal of another speed a peer's STRTs are noise."""
+    assert misread(STRT, 1) == STRT and misread(STRT, ratio) != STRT
+    with terminals() as ends, open(ends[1], "r+b", buffering=0) as peer:
+        link = Link(f"device:{ends[0]}", "--timer-ms", "200", "--attempts", "0")
+        for _ in range(10):
+            peer.write(misread(STRT, ratio))
+            time.sleep(0.05)
+        link.waits(told, 5)
+        count = 10 * len(misread(STRT, ratio))
+        assert count >= 16 and told(link) == [f"ddcmp: {count} {NOISE}"], link.errors()
+        link.kill()
+
+
 def test_silence_then_noise():
     """Each of them is reported at once."""
     link, sock = linked("--timer-ms", "100", "--attempts", "0")
