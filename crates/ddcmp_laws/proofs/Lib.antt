@@ -77,6 +77,8 @@ pub mod Anew
 mod AnewPipes
 pub mod ConnectionLaws
 pub mod EachLine
+pub mod AllLines
+pub mod AllLinesWritten
 pub mod EndLaws
 pub mod FrameSteps
 pub mod FramesAtA

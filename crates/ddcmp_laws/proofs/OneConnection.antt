@@ -27,7 +27,7 @@ pub record IsNew (h : SessionHistory) : Type 0 where
   pub input : h.input ≡ []
   pub mail : mail_in h.shown ≡ []
 
-stays-new : (call : SessionCall) (new : SessionView) (h : SessionHistory)
+pub stays-new : (call : SessionCall) (new : SessionView) (h : SessionHistory)
     → connects_in_call call ≡ 0 → SessionDoes call h.used h.session new → IsNew h
     → IsNew (after_session_step (record { call = call; session = new }) h)
 stays-new call new h none d was =
@@ -124,26 +124,25 @@ step-once (OutputTook n) new rest c d once bare =
 step-once (Closed left over r) new rest c d once bare =
     goes-on (Closed left over r) new rest c refl d refl once bare
 
+pub first-new : (made : Made) → IsNew (session_of made)
+unfolding mail_in
+first-new made = record {
+  idle = record {
+    shut = refl;
+    halted = refl;
+    inbox = refl;
+    waiting = refl;
+    never = refl;
+  };
+  used = refl;
+  gone = refl;
+  input = refl;
+  mail = refl;
+}
+
 pub first-once : (made : Made) (steps : List SessionStep) → connections_in steps ≤ 1
     → Once steps (session_of made)
-unfolding mail_in
-first-once made steps once =
-    inr (
-      once,
-      record {
-        idle = record {
-          shut = refl;
-          halted = refl;
-          inbox = refl;
-          waiting = refl;
-          never = refl;
-        };
-        used = refl;
-        gone = refl;
-        input = refl;
-        mail = refl;
-      },
-    )
+first-once made steps once = inr (once, first-new made)
 
 pub first-bare : (made : Made) → IsBareBefore (first_connection made)
 unfolding mail_in

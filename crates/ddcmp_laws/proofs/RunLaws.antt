@@ -178,7 +178,7 @@ delivers_first giver taker pipes stays held t agrees =
     )
 
 -- All that was given was read, if the run was ended and lost nothing.
-given-read : (ran : Ran) → AreDone ran.steps (first_connection ran.made)
+pub given-read : (ran : Ran) → AreDone ran.steps (first_connection ran.made)
     → (held : BuffersView) (t : Traffic) (closed : SessionView) → WasEnded ran held t closed
     → closed.course.lost ≡ 0
     → messages_given ran.made t
@@ -420,19 +420,21 @@ module _ (a b : Ran) (f : first_refusal a.made.options.config ≡ None)
       subst (λ (q : Connections). WritesAnew b.made q.b) both_at
       (writes_anew_b a.made b.made steps f g in_order.0 together.honest together.clean)
 
+  pub pipes-to-b : PipesAnew a.made (got_to a) (got_to b)
+  pipes-to-b =
+      subst (λ (q : Connections). PipesAnew a.made q.a q.b) both_at
+      (pipes_anew_b a.made b.made steps f g in_order.0 together.honest together.clean)
+
+  pub pipes-to-a : PipesAnew b.made (got_to b) (got_to a)
+  pipes-to-a =
+      subst (λ (q : Connections). PipesAnew b.made q.b q.a) both_at
+      (pipes_anew_a a.made b.made steps f g in_order.0 together.honest together.clean)
+
   pub first-to-b : DeliversFirst a b
-  first-to-b =
-      delivers_first a b
-      (subst (λ (q : Connections). PipesAnew a.made q.a q.b) both_at
-      (pipes_anew_b a.made b.made steps f g in_order.0 together.honest together.clean))
-      at_a
+  first-to-b = delivers_first a b pipes-to-b at_a
 
   pub first-to-a : DeliversFirst b a
-  first-to-a =
-      delivers_first b a
-      (subst (λ (q : Connections). PipesAnew b.made q.b q.a) both_at
-      (pipes_anew_a a.made b.made steps f g in_order.0 together.honest together.clean))
-      at_b
+  first-to-a = delivers_first b a pipes-to-a at_b
 
   pub all-to-b : DeliversAll a b
   all-to-b =

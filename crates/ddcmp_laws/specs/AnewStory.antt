@@ -1,6 +1,6 @@
 -- One run of two sessions that are connected twice, written out: a frame is lost with the first
 -- line, and a message is delivered over the second.
-use Rattle.std.specs.Prelude.{◌≡◌, true, List, [], ◌∷◌, ◌++◌}
+use Rattle.std.specs.Prelude.{◌≡◌, true, List, [], ◌∷◌, ◌++◌, drop, take}
 use Rattle.ddcmp_frame.specs.Reader.{ReaderView}
 use Rattle.ddcmp_io.specs.declared.carrier.End.{End}
 use Rattle.ddcmp_io.specs.declared.carrier.End.TheVariants.{A, B}
@@ -13,6 +13,8 @@ use Rattle.ddcmp_session.specs.Calls.{SessionStep}
 use Rattle.ddcmp_laws.specs.PipeStory.{step_by, small_made, pipe_calls}
 use Rattle.ddcmp_laws.specs.Connections.{Connections, first_connections, at, after_step_at}
 use Rattle.ddcmp_laws.specs.Connections.{read_since, delivered_since}
+use Rattle.ddcmp_laws.specs.AllLines.{LineSteps}
+use Rattle.ddcmp_laws.specs.SessionRuns.{Ran, calls_of}
 
 unfoldable pub steps_anew_by : List (End × SessionCall) → Connections → List (End × SessionStep)
 steps_anew_by [] p = []
@@ -38,3 +40,13 @@ pub record HasComeThroughAnew (line : ReaderView) (p : Connections) : Type 0 whe
   pub read : read_since (small_made line) p.a ≡ abc ∷ []
   pub delivered : delivered_since p.b ≡ abc ∷ []
   pub over : is_delivered p.a.history.session ≡ true
+
+-- its two lines, for runs that have made no call yet
+abbrev pub lines_anew : ReaderView → ReaderView → List LineSteps
+lines_anew line other_line =
+    let steps = steps_anew line other_line in
+    record { of_a = calls_of A (take 6 steps); of_b = calls_of B (take 6 steps) }
+    ∷ record { of_a = calls_of A (drop 6 steps); of_b = calls_of B (drop 6 steps) } ∷ []
+
+abbrev pub run_of : ReaderView → Ran
+run_of line = record { made = small_made line; steps = [] }

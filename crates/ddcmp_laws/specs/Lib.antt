@@ -50,3 +50,4 @@ pub mod Connected
 pub mod Endings
 pub mod LastConnection
 pub mod EachLine
+pub mod AllLines

@@ -1,6 +1,7 @@
 //! Two runs over devices, over one line after the other: the input of one is the output of the
 //! other.
 ghost use Rattle.std.specs.Prelude.{◌≡◌, ◌++◌, Bool, List, [], Option, Some};
+ghost use Rattle.ddcmp_frame.specs.Reader.{ReaderView};
 ghost use Rattle.ddcmp_frame.specs.Reader.{StandsFor};
 ghost use Rattle.ddcmp_io.specs.declared.carrier.End.{End};
 ghost use Rattle.ddcmp_io.specs.declared.carrier.End.TheVariants.{A, B};
@@ -10,6 +11,10 @@ ghost use Rattle.ddcmp_session.specs.Connections.{AreDone, Connection, after_all
 ghost use Rattle.ddcmp_session.specs.Devices.{BuffersView, nothing_read};
 ghost use Rattle.ddcmp_session.specs.Traffic.{Traffic, no_traffic};
 ghost use Rattle.ddcmp_session.specs.Lines.{Ends};
+ghost use Rattle.ddcmp_laws.specs.AllLines.{AllInBinary, AllInDigits, BinaryInOrder, BothWays};
+ghost use Rattle.ddcmp_laws.specs.AllLines.{DeliversInOrder, DigitsInOrder, GoOverLines};
+ghost use Rattle.ddcmp_laws.specs.AllLines.{IsKeptOverLines};
+ghost use Rattle.ddcmp_laws.specs.AnewStory.{lines_anew, run_of};
 ghost use Rattle.ddcmp_laws.specs.Connections.{AreCalls, Connections, after_steps};
 ghost use Rattle.ddcmp_laws.specs.Connections.{first_connection};
 ghost use Rattle.ddcmp_laws.specs.EachLine.{DeliversLine, IsReadOverLines, WritesLine};
@@ -18,6 +23,8 @@ ghost use Rattle.ddcmp_laws.specs.LastConnection.{StartsLast};
 ghost use Rattle.ddcmp_laws.specs.Pipe.{Made, session_of};
 ghost use Rattle.ddcmp_laws.specs.SessionRuns.{DeliversAll, DeliversFirst, FilesBegin, FilesPass};
 ghost use Rattle.ddcmp_laws.specs.SessionRuns.{IsKeptByRuns, Ran, WasEnded, calls_of};
+
+use crate::pipe::a_message_comes_through_anew;
 
 /// A new session that `ddcmp_session::Buffers::run_lines` has run and closed was ended in the sense
 /// of the other laws: none of its calls closed it before, and it was closed with the input held.
@@ -93,3 +100,24 @@ pub fn each_line_is_written()
     ensures connected_to_b { IsKeptOverLastConnection (λ a b. WritesLine a b) }
     ensures connected_to_a { IsKeptOverLastConnection (λ a b. WritesLine b a) }
 {}
+
+/// Two runs over one line after the other. Over all of them together, the messages that one session
+/// has delivered are among those read from the other's input, in their order, each at most once and
+/// unchanged, and so are those in its output. If the other run was ended and lost nothing, the one
+/// has written all of them and no others, unless it is to acknowledge early.
+pub fn runs_over_all_lines()
+    ensures order { IsKeptOverLines (BothWays DeliversInOrder) }
+    ensures binary { IsKeptOverLines (BothWays BinaryInOrder) }
+    ensures lines { IsKeptOverLines (BothWays DigitsInOrder) }
+    ensures all_in_binary { IsKeptOverLines (BothWays AllInBinary) }
+    ensures all_in_lines { IsKeptOverLines (BothWays AllInDigits) }
+{}
+
+/// Two runs over two lines, of which the first loses a frame and the second brings a message, so
+/// that `runs_over_all_lines` doesn't hold vacuously.
+pub fn a_message_goes_over_two_lines()
+    ensures { (line other_line : ReaderView)
+        → GoOverLines (run_of line) (run_of other_line) (lines_anew line other_line) }
+{
+    a_message_comes_through_anew();
+}
