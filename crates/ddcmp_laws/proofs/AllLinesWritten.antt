@@ -29,7 +29,7 @@ use Rattle.ddcmp_laws.proofs.LastSteps.{starts-empty}
 use Rattle.ddcmp_laws.proofs.OneConnection.{IsNew}
 use Rattle.ddcmp_laws.proofs.RunLaws.{begins-both, given-read}
 use Rattle.ddcmp_laws.proofs.MailLaws.{mails_first}
-use Rattle.ddcmp_laws.proofs.ShownLines.{all_tell, digits_tell}
+use Rattle.ddcmp_laws.proofs.ShownLines.{all_tell, digits_tell, map_more}
 use Rattle.ddcmp_laws.proofs.Texts.{binary_more, only_mail}
 use Rattle.hex.specs.Hex.{encode_lower}
 use Rattle.ddcmp_laws.specs.MailLines.{mails_in}
@@ -212,11 +212,6 @@ writes-all giver taker done_g done_t whole is early held other_held t other_t cl
     ∙ ap (λ xs. xs ++ in_binary rest) shown
     ∙ sym (binary_more (mail_in h.shown) rest)
     ∙ ap in_binary (w.0.1 ∙ given)))
-
-map_more : (xs ys : List (List ℕ))
-    → map encode_lower (xs ++ ys) ≡ map encode_lower xs ++ map encode_lower ys
-map_more [] ys = refl
-map_more (x ∷ xs) ys = ap (λ zs. encode_lower x ∷ zs) (map_more xs ys)
 
 writes-all-lines : (giver taker : Ran) → AreDone giver.steps (first_connection giver.made)
     → AreDone taker.steps (first_connection taker.made)

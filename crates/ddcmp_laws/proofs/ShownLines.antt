@@ -150,7 +150,7 @@ in_event_lines (Leaves how) =
     tells_line (codes "line down: " ++ line_end_words how) (end_plain how)
 in_event_lines (Loses count) = lost_tells count
 
-map_more : (xs ys : List (List ℕ))
+pub map_more : (xs ys : List (List ℕ))
     → map encode_lower (xs ++ ys) ≡ map encode_lower xs ++ map encode_lower ys
 map_more [] ys = refl
 map_more (x ∷ xs) ys = ap (λ zs. encode_lower x ∷ zs) (map_more xs ys)
