@@ -327,12 +327,13 @@ def test_event_of_a_silent_peer(form):
     assert ends(form, link)[:2] == ["given up"] * 2
 
 
-def test_no_event_of_a_line_without_events():
-    link, it = dials("--again")
+@pytest.mark.parametrize("options", [(), ("--binary",)])
+def test_no_event_of_a_line_without_events(options):
+    link, it = dials(*options, "--again")
     with it:
         Peer(it.accept()[0]).close()
     assert link.waits(lambda it: any("line down" in one for one in it.errors()), 10)
-    assert not link.waits(lambda it: "line down" in "".join(it.lines()), 0.5)
+    assert not link.waits(lambda it: b"line down" in it.out, 0.5)
 
 
 
